@@ -1,0 +1,20 @@
+-- Tests and judgements
+pub mod Tests
+pub mod Words32
+pub mod Judgements
+pub mod CatalogueLaws
+-- Reading and writing undo one another
+pub mod Numbers
+pub mod ReadingLaws
+pub mod WritingLaws
+pub mod RoundTrip
+pub mod Rooms
+-- What the code's loops carry
+pub mod Stores
+pub mod ReadingSteps
+pub mod RelationLaws
+pub mod Answered
+pub mod Carries
+pub mod CarriesTables
+pub mod BundleLaws
+pub mod WritingSteps

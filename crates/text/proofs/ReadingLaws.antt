@@ -1,0 +1,486 @@
+-- From lines to words: what is read without fault is, byte for byte, the text of the words read followed by the bytes still to come,
+-- and it has as many words as its lines ask for. Assumes nothing.
+use Prim.Native.Nat.{ℕ, zero, suc, _+_, _*_, _/_, _≤_}
+use mathlib.Core.Path.{_≡_, refl, sym, ap, _∙_}
+use mathlib.Core.List.{List, [], _∷_, _++_, append-assoc, append-nil}
+use mathlib.Core.Bool.{Bool, true, false, cond, _&&_}
+use native.Mathlib.Omega.{arith}
+use native.Mathlib.Nat.{suc-mul, zero-mul, mul-comm}
+use lib.Dec.{leb, ltb, eqb}
+use lib.ListN.{length, take, drop, length-append, length-drop}
+use lib.Seq.{take-at, drop-at, take-append-le, drop-append-le}
+use borrow.Author.Tests.{ltb-false, leb-true, eqb-true}
+use Rattle.text.specs.Limits.{pairLimit, wordLimit, nodeLimit, nodeSize, byteLimit}
+use Rattle.text.specs.Catalogue.{pairOk, pairsOk, catalogueWords}
+use Rattle.text.specs.Marks.{lineFeed, space, separator, plainLine, shortLine, relationKey, rowKey, nodeKey}
+use Rattle.text.specs.Writing.{decimal, numbersText, lineText, linesText, tablesText, modeText, bundleText}
+use Rattle.text.specs.Reading.{Number, value, noNumber, numberThen, Next, goesOn, wrongAt, Read, nothing, wordsThen, orWrong, numbers, begins, keyedLine, keyedLines, Relation, relation, noRelation, withRows, withColumns, relationOf, Tables, noTables, rowsOf, tableOf, tablesThen, andTables, tablesOf, unlessEnded, nodesOf, noBundle, nodesAfter, withTables, linesOf, reading}
+use Rattle.text.specs.RoundTrip.{Words32, BundleAsText}
+use Rattle.text.proofs.Tests.{clash, both, both-first, both-second}
+use Rattle.text.proofs.Words32.{words32-append}
+use Rattle.text.proofs.Judgements.{tables-good, nodes-good}
+use Rattle.text.proofs.Numbers.{NumberAsText, numberThen-text}
+
+pub no-next {ℓ} : {C : Type ℓ} {line after : ℕ} {rest : List ℕ} → wrongAt line ≡ goesOn after rest → C
+no-next e = let z : _≡_ {A = ℕ} 0 1 = cc in absurd (omega arith)
+
+-- Lines.
+
+-- `found` was read from the front of `bytes`: `count` words on `lines` lines, before the line `after` whose bytes are `rest`
+pub record LinesAsText (textOf : List ℕ → List ℕ) (count lines line : ℕ) (bytes : List ℕ) (found : Read) (after : ℕ) (rest : List ℕ) : Type 0 where
+  pub text : bytes ≡ textOf (found .words) ++ rest
+  pub many : length (found .words) ≡ count
+  pub words32 : Words32 (found .words)
+  pub lines-read : after ≡ line + lines
+
+pub numbers-text : (count line : ℕ) (bytes : List ℕ) (after : ℕ) (rest : List ℕ) → numbers count line bytes .next ≡ goesOn after rest
+    → LinesAsText numbersText count 1 line bytes (numbers count line bytes) after rest
+unfolding numbers numbersText
+numbers-text zero line bytes after rest e = record { text = cc; many = refl; words32 = tt; lines-read = cc }
+numbers-text (suc more) line bytes after rest e =
+    go (numberThen (separator more) bytes) refl e (λ behind e′. numbers-text more line behind after rest e′)
+  where
+    go : (first : Number) → numberThen (separator more) bytes ≡ first
+        → orWrong line first (λ n behind. numbers more line behind) .next ≡ goesOn after rest
+        → ((behind : List ℕ) → numbers more line behind .next ≡ goesOn after rest
+        → LinesAsText numbersText more 1 line behind (numbers more line behind) after rest)
+        → LinesAsText numbersText (suc more) 1 line bytes (orWrong line first (λ n behind. numbers more line behind)) after rest
+    go (value n behind) is e ih =
+        let front : NumberAsText bytes n (separator more ∷ behind) = numberThen-text (separator more) bytes n behind is in
+        let others : LinesAsText numbersText more 1 line behind (numbers more line behind) after rest = ih behind e in
+        let ws : List ℕ = numbers more line behind .words in
+        record {
+          text =
+              front .text
+              ∙ ap (λ (tail : List ℕ). decimal n ++ (separator more ∷ tail)) (others .text)
+              ∙ ap (λ (k : ℕ). decimal n ++ (separator k ∷ (numbersText ws ++ rest))) (sym (others .many))
+              ∙ sym (append-assoc (decimal n) (separator (length ws) ∷ numbersText ws) rest);
+          many = ap suc (others .many);
+          words32 = (front .bound, others .words32);
+          lines-read = others .lines-read;
+        }
+    go noNumber is e ih = no-next e
+
+pub numbers-length : (count line : ℕ) (bytes : List ℕ) (after : ℕ) (rest : List ℕ) → numbers count line bytes .next ≡ goesOn after rest
+    → length (numbers count line bytes .words) ≡ count
+numbers-length count line bytes after rest e = numbers-text count line bytes after rest e .many
+
+pub begins-text : (key bytes : List ℕ) → begins key bytes ≡ true → bytes ≡ key ++ drop (length key) bytes
+unfolding begins
+begins-text [] bytes e = refl
+begins-text (k ∷ key) [] e = clash refl (sym e)
+begins-text (k ∷ key) (byte ∷ bytes) e =
+    let byte-is : byte ≡ k = eqb-true byte k (both-first (eqb byte k) (begins key bytes) e) in
+    let others : bytes ≡ key ++ drop (length key) bytes = begins-text key bytes (both-second (eqb byte k) (begins key bytes) e) in
+    λ i. byte-is i ∷ others i
+
+pub keyedLine-text : (key : List ℕ) (count line : ℕ) (bytes : List ℕ) (after : ℕ) (rest : List ℕ)
+    → keyedLine key count line bytes .next ≡ goesOn after rest
+    → LinesAsText (λ words. lineText key words) count 1 line bytes (keyedLine key count line bytes) after rest
+unfolding keyedLine
+keyedLine-text key count line bytes after rest e = go (begins key bytes) refl e
+  where
+    go : (found : Bool) → begins key bytes ≡ found
+        → cond found (numbers count line (drop (length key) bytes)) (nothing (wrongAt line)) .next ≡ goesOn after rest
+        → LinesAsText (λ words. lineText key words) count 1 line bytes
+        (cond found (numbers count line (drop (length key) bytes)) (nothing (wrongAt line))) after rest
+    go true is e =
+        let behind : List ℕ = drop (length key) bytes in
+        let found : LinesAsText numbersText count 1 line behind (numbers count line behind) after rest = numbers-text count line behind after rest e in
+        record {
+          text =
+              begins-text key bytes is
+              ∙ ap (λ (tail : List ℕ). key ++ tail) (found .text)
+              ∙ sym (append-assoc key (numbersText (numbers count line behind .words)) rest);
+          many = found .many;
+          words32 = found .words32;
+          lines-read = found .lines-read;
+        }
+    go false is e = no-next e
+
+pub keyedLine-length : (key : List ℕ) (count line : ℕ) (bytes : List ℕ) (after : ℕ) (rest : List ℕ)
+    → keyedLine key count line bytes .next ≡ goesOn after rest → length (keyedLine key count line bytes .words) ≡ count
+keyedLine-length key count line bytes after rest e = keyedLine-text key count line bytes after rest e .many
+
+-- one line before others, as text
+pub linesText-cons : (key : List ℕ) (width count : ℕ) (first others : List ℕ) → length first ≡ width
+    → linesText key width (suc count) (first ++ others) ≡ lineText key first ++ linesText key width count others
+unfolding linesText
+linesText-cons key width count first others wide = rw (take-at first others width wide, drop-at first others width wide)
+
+pub keyedLines-text : (key : List ℕ) (width count line : ℕ) (bytes : List ℕ) (after : ℕ) (rest : List ℕ)
+    → keyedLines key width count line bytes .next ≡ goesOn after rest
+    → LinesAsText (λ words. linesText key width count words) (count * width) count line bytes (keyedLines key width count line bytes) after rest
+unfolding keyedLines linesText
+keyedLines-text key width zero line bytes after rest e =
+    let line-is : line ≡ after = cc in
+    record { text = cc; many = sym (zero-mul width); words32 = tt; lines-read = omega arith }
+keyedLines-text key width (suc more) line bytes after rest e =
+    go (keyedLine key width line bytes .next) refl e (λ line′ bytes′ e′. keyedLines-text key width more line′ bytes′ after rest e′)
+  where
+    lines : ℕ → List ℕ → Read
+    lines = λ line′ bytes′. keyedLines key width more line′ bytes′
+
+    ws : List ℕ
+    ws = keyedLine key width line bytes .words
+
+    go : (next : Next) → keyedLine key width line bytes .next ≡ next
+        → wordsThen ws next lines .next ≡ goesOn after rest
+        → ((line′ : ℕ) (bytes′ : List ℕ) → lines line′ bytes′ .next ≡ goesOn after rest
+        → LinesAsText (λ words. linesText key width more words) (more * width) more line′ bytes′ (lines line′ bytes′) after rest)
+        → LinesAsText (λ words. linesText key width (suc more) words) (suc more * width) (suc more) line bytes (wordsThen ws next lines) after rest
+    go (goesOn line′ bytes′) is e ih =
+        let first : LinesAsText (λ words. lineText key words) width 1 line bytes (keyedLine key width line bytes) line′ bytes′ =
+        keyedLine-text key width line bytes line′ bytes′ is
+        in
+        let others : LinesAsText (λ words. linesText key width more words) (more * width) more line′ bytes′ (lines line′ bytes′) after rest =
+        ih line′ bytes′ e
+        in
+        let vs : List ℕ = lines line′ bytes′ .words in
+        record {
+          text =
+              first .text
+              ∙ ap (λ (tail : List ℕ). lineText key ws ++ tail) (others .text)
+              ∙ sym (append-assoc (lineText key ws) (linesText key width more vs) rest)
+              ∙ ap (λ (front : List ℕ). front ++ rest) (sym (linesText-cons key width more ws vs (first .many)));
+          many = omega (arith, length-append ws vs, suc-mul more width, first .many, others .many);
+          words32 = words32-append ws vs (first .words32) (others .words32);
+          lines-read = omega (arith, first .lines-read, others .lines-read);
+        }
+    go (wrongAt line′) is e ih = no-next e
+
+pub keyedLines-length : (key : List ℕ) (width count line : ℕ) (bytes : List ℕ) (after : ℕ) (rest : List ℕ)
+    → keyedLines key width count line bytes .next ≡ goesOn after rest → length (keyedLines key width count line bytes .words) ≡ count * width
+keyedLines-length key width count line bytes after rest e = keyedLines-text key width count line bytes after rest e .many
+
+-- Tables.
+
+-- the words behind those that some lines take make no difference
+pub linesText-front : (key : List ℕ) (width count : ℕ) (first others : List ℕ) → length first ≡ count * width
+    → linesText key width count (first ++ others) ≡ linesText key width count first
+unfolding linesText
+linesText-front key width zero first others many = refl
+linesText-front key width (suc count) first others many =
+    let size : length first ≡ count * width + width = many ∙ suc-mul count width in
+    let wide : width ≤ length first = omega arith in
+    let left : length (drop width first) ≡ count * width = length-drop width first ∙ omega arith in
+    rw (take-append-le width first others wide, drop-append-le width first others wide)
+    (ap (λ (tail : List ℕ). lineText key (take width first) ++ tail) (linesText-front key width count (drop width first) others left))
+
+-- one table before others, as text
+pub tablesText-cons : (columns rows : ℕ) (more first others : List ℕ) → length first ≡ columns * rows
+    → tablesText (columns ∷ rows ∷ more) (first ++ others)
+    ≡ lineText relationKey (columns ∷ rows ∷ []) ++ linesText rowKey columns rows first ++ tablesText more others
+unfolding tablesText
+tablesText-cons columns rows more first others many =
+    rw (linesText-front rowKey columns rows first others (many ∙ mul-comm columns rows), drop-at first others (columns * rows) many)
+
+pub record RelationAsText (total : ℕ) (bytes : List ℕ) (columns rows : ℕ) (rest : List ℕ) : Type 0 where
+  pub text : bytes ≡ numbersText (columns ∷ rows ∷ []) ++ rest
+  pub ok : pairOk columns rows ≡ true
+  pub fits : total + columns * rows ≤ wordLimit
+
+pub two-numbers-text : (bytes : List ℕ) (c : ℕ) (behind : List ℕ) (r : ℕ) (after : List ℕ) → bytes ≡ decimal c ++ (space ∷ behind)
+    → behind ≡ decimal r ++ (lineFeed ∷ after) → bytes ≡ numbersText (c ∷ r ∷ []) ++ after
+unfolding numbersText
+two-numbers-text bytes c behind r after t u =
+    t
+    ∙ ap (λ (tail : List ℕ). decimal c ++ (space ∷ tail)) u
+    ∙ ap (λ (tail : List ℕ). decimal c ++ (space ∷ tail)) (sym (append-assoc (decimal r) (lineFeed ∷ []) after))
+    ∙ sym (append-assoc (decimal c) (space ∷ (decimal r ++ (lineFeed ∷ []))) after)
+
+pub relationOf-text : (total : ℕ) (bytes : List ℕ) (columns rows : ℕ) (rest : List ℕ) → relationOf total bytes ≡ relation columns rows rest
+    → RelationAsText total bytes columns rows rest
+unfolding relationOf
+relationOf-text total bytes columns rows rest e = first (numberThen space bytes) refl e
+  where
+    no-relation : {C : Type 0} → noRelation ≡ relation columns rows rest → C
+    no-relation e = let z : _≡_ {A = ℕ} 0 1 = cc in absurd (omega arith)
+
+    judged : (c r : ℕ) (behind after : List ℕ) → NumberAsText bytes c (space ∷ behind) → NumberAsText behind r (lineFeed ∷ after)
+        → (good : Bool) → (pairOk c r && leb (total + c * r) wordLimit) ≡ good
+        → cond good (relation c r after) noRelation ≡ relation columns rows rest → RelationAsText total bytes columns rows rest
+    judged c r behind after t u true g e =
+        let columns-is : c ≡ columns = cc in
+        let rows-is : r ≡ rows = cc in
+        let rest-is : after ≡ rest = cc in
+        let built : RelationAsText total bytes c r after =
+        record {
+          text = two-numbers-text bytes c behind r after (t .text) (u .text);
+          ok = both-first (pairOk c r) (leb (total + c * r) wordLimit) g;
+          fits = leb-true (total + c * r) wordLimit (both-second (pairOk c r) (leb (total + c * r) wordLimit) g);
+        }
+        in
+        rw (columns-is, rows-is, rest-is) at built
+    judged c r behind after t u false g e = no-relation e
+
+    second : (c : ℕ) (behind : List ℕ) → NumberAsText bytes c (space ∷ behind) → (found : Number) → numberThen lineFeed behind ≡ found
+        → withRows total c found ≡ relation columns rows rest → RelationAsText total bytes columns rows rest
+    second c behind t (value r after) is e =
+        judged c r behind after t (numberThen-text lineFeed behind r after is) (pairOk c r && leb (total + c * r) wordLimit) refl e
+    second c behind t noNumber is e = no-relation e
+
+    first : (found : Number) → numberThen space bytes ≡ found → withColumns total found ≡ relation columns rows rest
+        → RelationAsText total bytes columns rows rest
+    first (value c behind) is e = second c behind (numberThen-text space bytes c behind is) (numberThen lineFeed behind) refl e
+    first noNumber is e = no-relation e
+
+pub record TableAsText (total : ℕ) (bytes : List ℕ) (found : Tables) (rest : List ℕ) : Type 0 where
+  pub columns : ℕ
+  pub rows : ℕ
+  pub pair : found .catalogue ≡ columns ∷ rows ∷ []
+  pub text : bytes ≡ lineText relationKey (columns ∷ rows ∷ []) ++ linesText rowKey columns rows (found .tables) ++ rest
+  pub ok : pairOk columns rows ≡ true
+  pub fits : total + columns * rows ≤ wordLimit
+  pub many : length (found .tables) ≡ columns * rows
+  pub words32 : Words32 (found .tables)
+
+pub tableOf-text : (total line : ℕ) (bytes : List ℕ) (after : ℕ) (rest : List ℕ) → begins relationKey bytes ≡ true
+    → tableOf total line bytes .next ≡ goesOn after rest → TableAsText total bytes (tableOf total line bytes) rest
+unfolding tableOf
+tableOf-text total line bytes after rest key e = go (relationOf total (drop (length relationKey) bytes)) refl e
+  where
+    behind : List ℕ
+    behind = drop (length relationKey) bytes
+
+    go : (found : Relation) → relationOf total behind ≡ found → rowsOf line found .next ≡ goesOn after rest
+        → TableAsText total bytes (rowsOf line found) rest
+    go (relation columns rows rowBytes) is e =
+        let head : RelationAsText total behind columns rows rowBytes = relationOf-text total behind columns rows rowBytes is in
+        let found : Read = keyedLines rowKey columns rows (line + 1) rowBytes in
+        let body : LinesAsText (λ words. linesText rowKey columns rows words) (rows * columns) rows (line + 1) rowBytes found after rest =
+        keyedLines-text rowKey columns rows (line + 1) rowBytes after rest e
+        in
+        let names : List ℕ = numbersText (columns ∷ rows ∷ []) in
+        let lines : List ℕ = linesText rowKey columns rows (found .words) in
+        record {
+          columns = columns;
+          rows = rows;
+          pair = refl;
+          text =
+              begins-text relationKey bytes key
+              ∙ ap (λ (tail : List ℕ). relationKey ++ tail) (head .text ∙ ap (λ (tail : List ℕ). names ++ tail) (body .text))
+              ∙ sym (append-assoc relationKey names (lines ++ rest))
+              ∙ sym (append-assoc (relationKey ++ names) lines rest);
+          ok = head .ok;
+          fits = head .fits;
+          many = body .many ∙ mul-comm rows columns;
+          words32 = body .words32;
+        }
+    go noRelation is e = no-next e
+
+-- `found` was read from the front of `bytes`: at most `count` tables, behind others of `total` words
+pub record TablesAsText (count total : ℕ) (bytes : List ℕ) (found : Tables) (rest : List ℕ) : Type 0 where
+  pub text : bytes ≡ tablesText (found .catalogue) (found .tables) ++ rest
+  pub ok : pairsOk (found .catalogue) ≡ true
+  pub few : length (found .catalogue) ≤ 2 * count
+  pub many : length (found .tables) ≡ catalogueWords (found .catalogue)
+  pub fits : total ≤ wordLimit → total + catalogueWords (found .catalogue) ≤ wordLimit
+  pub words32 : Words32 (found .tables)
+
+no-tables-read : (count total line : ℕ) (bytes : List ℕ) (after : ℕ) (rest : List ℕ) → goesOn line bytes ≡ goesOn after rest
+    → TablesAsText count total bytes (noTables (goesOn line bytes)) rest
+unfolding tablesText pairsOk catalogueWords
+no-tables-read count total line bytes after rest e =
+    record { text = cc; ok = refl; few = omega arith; many = refl; fits = λ h. omega arith; words32 = tt }
+
+one-more-read : (count total : ℕ) (bytes : List ℕ) (first : Tables) (behind : List ℕ) (others : Tables) (rest : List ℕ) (next : Next)
+    → TableAsText total bytes first behind
+    → TablesAsText count (total + catalogueWords (first .catalogue)) behind others rest
+    → TablesAsText (suc count) total bytes
+    (record { catalogue = first .catalogue ++ others .catalogue; tables = first .tables ++ others .tables; next = next }) rest
+unfolding pairsOk catalogueWords
+one-more-read count total bytes first behind others rest next t ts =
+    let columns : ℕ = t .columns in
+    let rows : ℕ = t .rows in
+    let more : List ℕ = others .catalogue in
+    let words : ℕ = columns * rows in
+    let pair-words : catalogueWords (first .catalogue) ≡ words + 0 = ap catalogueWords (t .pair) in
+    let pair-length : length (first .catalogue) ≡ 2 = ap length (t .pair) in
+    let all-words : catalogueWords (first .catalogue ++ more) ≡ words + catalogueWords more =
+    ap (λ (front : List ℕ). catalogueWords (front ++ more)) (t .pair)
+    in
+    let head : List ℕ = lineText relationKey (columns ∷ rows ∷ []) ++ linesText rowKey columns rows (first .tables) in
+    record {
+      text =
+          t .text
+          ∙ ap (λ (tail : List ℕ). head ++ tail) (ts .text)
+          ∙ sym (append-assoc head (tablesText more (others .tables)) rest)
+          ∙ ap (λ (front : List ℕ). front ++ rest) (sym (tablesText-cons columns rows more (first .tables) (others .tables) (t .many)))
+          ∙ ap (λ (front : List ℕ). tablesText (front ++ more) (first .tables ++ others .tables) ++ rest) (sym (t .pair));
+      ok = rw (t .pair) (both (pairOk columns rows) (pairsOk more) (t .ok) (ts .ok));
+      few = omega (arith, length-append (first .catalogue) more, ts .few);
+      many = length-append (first .tables) (others .tables) ∙ omega (arith, t .many, ts .many);
+      fits = λ h. omega (arith, ts .fits (omega (arith, t .fits)));
+      words32 = words32-append (first .tables) (others .tables) (t .words32) (ts .words32);
+    }
+
+pub tablesOf-text : (count total line : ℕ) (bytes : List ℕ) (after : ℕ) (rest : List ℕ) → tablesOf count total line bytes .next ≡ goesOn after rest
+    → TablesAsText count total bytes (tablesOf count total line bytes) rest
+unfolding tablesOf
+tablesOf-text zero total line bytes after rest e = no-tables-read zero total line bytes after rest e
+tablesOf-text (suc more) total line bytes after rest e =
+    keyed (begins relationKey bytes) refl e
+    (λ line′ bytes′ e′. tablesOf-text more (total + catalogueWords (tableOf total line bytes .catalogue)) line′ bytes′ after rest e′)
+  where
+    first : Tables
+    first = tableOf total line bytes
+
+    then : ℕ → List ℕ → Tables
+    then = λ line′ bytes′. tablesOf more (total + catalogueWords (first .catalogue)) line′ bytes′
+
+    Others : Type 0
+    Others = (line′ : ℕ) (bytes′ : List ℕ) → then line′ bytes′ .next ≡ goesOn after rest
+        → TablesAsText more (total + catalogueWords (first .catalogue)) bytes′ (then line′ bytes′) rest
+
+    go : begins relationKey bytes ≡ true → (next : Next) → first .next ≡ next
+        → tablesThen (first .catalogue) (first .tables) next then .next ≡ goesOn after rest → Others
+        → TablesAsText (suc more) total bytes (tablesThen (first .catalogue) (first .tables) next then) rest
+    go key (goesOn line′ bytes′) is e ih =
+        one-more-read more total bytes first bytes′ (then line′ bytes′) rest (then line′ bytes′ .next)
+        (tableOf-text total line bytes line′ bytes′ key is) (ih line′ bytes′ e)
+    go key (wrongAt line′) is e ih = no-next e
+
+    keyed : (key : Bool) → begins relationKey bytes ≡ key
+        → cond key (andTables first then) (noTables (goesOn line bytes)) .next ≡ goesOn after rest → Others
+        → TablesAsText (suc more) total bytes (cond key (andTables first then) (noTables (goesOn line bytes))) rest
+    keyed true is e ih = go is (first .next) refl e ih
+    keyed false is e ih = no-tables-read (suc more) total line bytes after rest e
+
+-- the words of the tables read are as many as their catalogue says
+pub length-tables : (count total line : ℕ) (bytes : List ℕ) (after : ℕ) (rest : List ℕ) → tablesOf count total line bytes .next ≡ goesOn after rest
+    → length (tablesOf count total line bytes .tables) ≡ catalogueWords (tablesOf count total line bytes .catalogue)
+length-tables count total line bytes after rest e = tablesOf-text count total line bytes after rest e .many
+
+-- Nodes.
+
+-- `found` was read from all of `bytes`: 1 to `count` node lines, before the line `after` whose bytes are `rest`
+pub record NodesAsText (count line : ℕ) (bytes : List ℕ) (found : Read) (after : ℕ) (rest : List ℕ) : Type 0 where
+  pub nodes : ℕ
+  pub ended : rest ≡ []
+  pub some : 1 ≤ nodes
+  pub few : nodes ≤ count
+  pub many : length (found .words) ≡ nodes * nodeSize
+  pub text : bytes ≡ linesText nodeKey nodeSize nodes (found .words)
+  pub words32 : Words32 (found .words)
+  pub lines-read : after ≡ line + nodes
+
+pub nodesOf-text : (count line : ℕ) (bytes : List ℕ) (after : ℕ) (rest : List ℕ) → nodesOf count line bytes .next ≡ goesOn after rest
+    → NodesAsText count line bytes (nodesOf count line bytes) after rest
+unfolding nodesOf linesText
+nodesOf-text zero line bytes after rest e = no-next e
+nodesOf-text (suc more) line bytes after rest e =
+    go (keyedLine nodeKey nodeSize line bytes .next) refl e (λ line′ bytes′ e′. nodesOf-text more line′ bytes′ after rest e′)
+  where
+    ws : List ℕ
+    ws = keyedLine nodeKey nodeSize line bytes .words
+
+    then : ℕ → List ℕ → Read
+    then = λ line′ bytes′. unlessEnded line′ bytes′ (nodesOf more line′ bytes′)
+
+    go : (next : Next) → keyedLine nodeKey nodeSize line bytes .next ≡ next
+        → wordsThen ws next then .next ≡ goesOn after rest
+        → ((line′ : ℕ) (bytes′ : List ℕ) → nodesOf more line′ bytes′ .next ≡ goesOn after rest
+        → NodesAsText more line′ bytes′ (nodesOf more line′ bytes′) after rest)
+        → NodesAsText (suc more) line bytes (wordsThen ws next then) after rest
+    go (goesOn line′ []) is e ih =
+        let first : LinesAsText (λ words. lineText nodeKey words) nodeSize 1 line bytes (keyedLine nodeKey nodeSize line bytes) line′ [] =
+        keyedLine-text nodeKey nodeSize line bytes line′ [] is
+        in
+        let line-is : line′ ≡ after = cc in
+        record {
+          nodes = 1;
+          ended = cc;
+          some = omega arith;
+          few = omega arith;
+          many = ap length (append-nil ws) ∙ first .many;
+          text = first .text ∙ sym (linesText-cons nodeKey nodeSize 0 ws [] (first .many));
+          words32 = words32-append ws [] (first .words32) tt;
+          lines-read = omega (arith, first .lines-read);
+        }
+    go (goesOn line′ (byte ∷ behind)) is e ih =
+        let bytes′ : List ℕ = byte ∷ behind in
+        let first : LinesAsText (λ words. lineText nodeKey words) nodeSize 1 line bytes (keyedLine nodeKey nodeSize line bytes) line′ bytes′ =
+        keyedLine-text nodeKey nodeSize line bytes line′ bytes′ is
+        in
+        let others : NodesAsText more line′ bytes′ (nodesOf more line′ bytes′) after rest = ih line′ bytes′ e in
+        let vs : List ℕ = nodesOf more line′ bytes′ .words in
+        record {
+          nodes = suc (others .nodes);
+          ended = others .ended;
+          some = omega arith;
+          few = omega (arith, others .few);
+          many = length-append ws vs ∙ omega (arith, first .many, others .many);
+          text =
+              first .text
+              ∙ ap (λ (tail : List ℕ). lineText nodeKey ws ++ tail) (others .text)
+              ∙ sym (linesText-cons nodeKey nodeSize (others .nodes) ws vs (first .many));
+          words32 = words32-append ws vs (first .words32) (others .words32);
+          lines-read = omega (arith, first .lines-read, others .lines-read);
+        }
+    go (wrongAt line′) is e ih = no-next e
+
+-- The whole.
+
+tables-then-nodes : (mode : ℕ) (text bytes : List ℕ) (line : ℕ) (rest : List ℕ) → mode ≤ 1 → text ≡ modeText mode ++ bytes → length text ≤ byteLimit
+    → withTables mode (tablesOf pairLimit 0 2 bytes) .next ≡ goesOn line rest
+    → BundleAsText text (withTables mode (tablesOf pairLimit 0 2 bytes)) rest
+unfolding bundleText
+tables-then-nodes mode text bytes line rest small is short e = go (found .next) refl e
+  where
+    found : Tables
+    found = tablesOf pairLimit 0 2 bytes
+
+    go : (next : Next) → found .next ≡ next → nodesAfter next .next ≡ goesOn line rest
+        → BundleAsText text (withTables mode found) rest
+    go (goesOn line′ bytes′) stands e =
+        let ts : TablesAsText pairLimit 0 bytes found bytes′ = tablesOf-text pairLimit 0 2 bytes line′ bytes′ stands in
+        let ws : List ℕ = nodesOf nodeLimit line′ bytes′ .words in
+        let ns : NodesAsText nodeLimit line′ bytes′ (nodesOf nodeLimit line′ bytes′) line rest = nodesOf-text nodeLimit line′ bytes′ line rest e in
+        let count : length ws / nodeSize ≡ ns .nodes = omega (arith, ns .many) in
+        let cs : List ℕ = found .catalogue in
+        let tablesAs : List ℕ = tablesText cs (found .tables) in
+        rw stands
+        (record {
+          ended = ns .ended;
+          text-is =
+              append-assoc (modeText mode) tablesAs (linesText nodeKey nodeSize (length ws / nodeSize) ws)
+              ∙ ap (λ (k : ℕ). modeText mode ++ (tablesAs ++ linesText nodeKey nodeSize k ws)) count
+              ∙ ap (λ (tail : List ℕ). modeText mode ++ (tablesAs ++ tail)) (sym (ns .text))
+              ∙ ap (λ (tail : List ℕ). modeText mode ++ tail) (sym (ts .text))
+              ∙ sym is;
+          short-text = short;
+          mode-number = small;
+          tables-ok =
+              tables-good cs (found .tables)
+              (record { few = ts .few; pairs = ts .ok; fits = omega (arith, ts .fits (omega arith)); sum = ts .many });
+          nodes-ok =
+              nodes-good ws
+              (record { whole = omega (arith, ns .many); some = omega (arith, ns .some); few = omega (arith, ns .few) });
+          tables-32 = ts .words32;
+          nodes-32 = ns .words32;
+        })
+    go (wrongAt line′) stands e = no-next e
+
+-- Whatever is read to its end is the text of what was found.
+pub reading-text : (text : List ℕ) (line : ℕ) (rest : List ℕ) → reading text .next ≡ goesOn line rest → BundleAsText text (reading text) rest
+unfolding reading linesOf
+reading-text text line rest e = sized (ltb byteLimit (length text)) refl e
+  where
+    moded : (plain short : Bool) → begins plainLine text ≡ plain → begins shortLine text ≡ short → length text ≤ byteLimit
+        → cond plain (withTables 0 (tablesOf pairLimit 0 2 (drop (length plainLine) text)))
+        (cond short (withTables 1 (tablesOf pairLimit 0 2 (drop (length shortLine) text))) (noBundle 1)) .next ≡ goesOn line rest
+        → BundleAsText text
+        (cond plain (withTables 0 (tablesOf pairLimit 0 2 (drop (length plainLine) text)))
+        (cond short (withTables 1 (tablesOf pairLimit 0 2 (drop (length shortLine) text))) (noBundle 1))) rest
+    moded true short p s fits e =
+        tables-then-nodes 0 text (drop (length plainLine) text) line rest (omega arith) (begins-text plainLine text p) fits e
+    moded false true p s fits e =
+        tables-then-nodes 1 text (drop (length shortLine) text) line rest (omega arith) (begins-text shortLine text s) fits e
+    moded false false p s fits e = no-next e
+
+    sized : (over : Bool) → ltb byteLimit (length text) ≡ over → cond over (noBundle 0) (linesOf text) .next ≡ goesOn line rest
+        → BundleAsText text (cond over (noBundle 0) (linesOf text)) rest
+    sized true is e = no-next e
+    sized false is e =
+        moded (begins plainLine text) (begins shortLine text) refl refl (ltb-false byteLimit (length text) is) e

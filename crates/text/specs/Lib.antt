@@ -1,0 +1,10 @@
+pub mod Limits
+pub mod Catalogue
+pub mod Marks
+pub mod Writing
+pub mod Reading
+pub mod ReadCall
+pub mod WriteCall
+pub mod RoundTrip
+pub mod Answers
+pub mod Put

@@ -1,0 +1,183 @@
+-- Document 01, "Bundle text and the program": what a text reads as, line by line from its front. Assumes nothing.
+-- A reading lists the words that it met, and says where it stands: at a line whose bytes are still to come, or at the first wrong line.
+-- So "something missing at the end" is a line whose bytes are [], and an "unended line" one whose LF is not among them: each is wrong at its own number.
+use Prim.Native.Nat.{ℕ, zero, suc, _+_, _-_, _*_}
+use mathlib.Core.List.{List, [], _∷_, _++_}
+use mathlib.Core.Bool.{Bool, true, false, cond, _&&_}
+use lib.ListN.{length, drop}
+use lib.Dec.{leb, ltb, eqb}
+use Rattle.text.specs.Limits.{pairLimit, wordLimit, nodeLimit, nodeSize, byteLimit, greatestNumber}
+use Rattle.text.specs.Catalogue.{pairOk, catalogueWords}
+use Rattle.text.specs.Marks.{lineFeed, space, zeroDigit, digit, separator, plainLine, shortLine, relationKey, rowKey, nodeKey}
+
+-- Numbers: a number and the bytes behind it.
+pub data Number : Type 0 where
+  value : ℕ → List ℕ → Number
+  noNumber : Number
+
+unfoldable pub moreDigits : ℕ → List ℕ → Number
+moreDigits n [] = value n []
+moreDigits n (byte ∷ bytes) =
+    cond (digit byte)
+    (cond (leb (n * 10 + (byte - zeroDigit)) greatestNumber) (moreDigits (n * 10 + (byte - zeroDigit)) bytes) noNumber)
+    (value n (byte ∷ bytes))
+
+-- "decimal, no leading zeros": behind a 0 no digit is read, and so none may stand there
+unfoldable pub number : List ℕ → Number
+number [] = noNumber
+number (byte ∷ bytes) =
+    cond (eqb byte zeroDigit) (value 0 bytes) (cond (digit byte) (moreDigits (byte - zeroDigit) bytes) noNumber)
+
+-- a number that must have the byte `end` behind it
+abbrev pub endedBy : ℕ → Number → Number
+endedBy end (value n []) = noNumber
+endedBy end (value n (byte ∷ bytes)) = cond (eqb byte end) (value n bytes) noNumber
+endedBy end noNumber = noNumber
+
+abbrev pub numberThen : ℕ → List ℕ → Number
+numberThen end bytes = endedBy end (number bytes)
+
+-- Lines.
+pub data Next : Type 0 where
+  goesOn : (line : ℕ) → List ℕ → Next
+  wrongAt : (line : ℕ) → Next
+
+pub record Read : Type 0 where
+  pub words : List ℕ
+  pub next : Next
+
+abbrev pub nothing : Next → Read
+nothing next = record { words = []; next = next }
+
+abbrev pub wordsThen : List ℕ → Next → (ℕ → List ℕ → Read) → Read
+wordsThen words (goesOn line bytes) more = record { words = words ++ more line bytes .words; next = more line bytes .next }
+wordsThen words (wrongAt line) more = record { words = words; next = wrongAt line }
+
+abbrev pub andThen : Read → (ℕ → List ℕ → Read) → Read
+andThen first more = wordsThen (first .words) (first .next) more
+
+abbrev pub orWrong : ℕ → Number → (ℕ → List ℕ → Read) → Read
+orWrong line (value n bytes) more = record { words = n ∷ more n bytes .words; next = more n bytes .next }
+orWrong line noNumber more = nothing (wrongAt line)
+
+-- the rest of a line: `count` numbers, "one space between", and LF
+unfoldable pub numbers : (count line : ℕ) → List ℕ → Read
+numbers zero line bytes = nothing (goesOn (line + 1) bytes)
+numbers (suc more) line bytes = orWrong line (numberThen (separator more) bytes) (λ n rest. numbers more line rest)
+
+unfoldable pub begins : (key bytes : List ℕ) → Bool
+begins [] bytes = true
+begins (k ∷ key) [] = false
+begins (k ∷ key) (byte ∷ bytes) = eqb byte k && begins key bytes
+
+-- "key=value lines": one line, and `count` lines of `width` numbers each
+unfoldable pub keyedLine : (key : List ℕ) (count line : ℕ) → List ℕ → Read
+keyedLine key count line bytes = cond (begins key bytes) (numbers count line (drop (length key) bytes)) (nothing (wrongAt line))
+
+unfoldable pub keyedLines : (key : List ℕ) (width count line : ℕ) → List ℕ → Read
+keyedLines key width zero line bytes = nothing (goesOn line bytes)
+keyedLines key width (suc more) line bytes = andThen (keyedLine key width line bytes) (λ after rest. keyedLines key width more after rest)
+
+-- Tables: "for each table relation=COLUMNS ROWS and its row= lines".
+pub data Relation : Type 0 where
+  relation : (columns rows : ℕ) → List ℕ → Relation
+  noRelation : Relation
+
+-- "A line that passes a limit is the wrong one (a table's words count at its relation line)"
+abbrev pub withRows : (total columns : ℕ) → Number → Relation
+withRows total columns (value rows bytes) =
+    cond (pairOk columns rows && leb (total + columns * rows) wordLimit) (relation columns rows bytes) noRelation
+withRows total columns noNumber = noRelation
+
+abbrev pub withColumns : (total : ℕ) → Number → Relation
+withColumns total (value columns bytes) = withRows total columns (numberThen lineFeed bytes)
+withColumns total noNumber = noRelation
+
+-- what follows `relation=`, where the tables before it have `total` words
+unfoldable pub relationOf : (total : ℕ) → List ℕ → Relation
+relationOf total bytes = withColumns total (numberThen space bytes)
+
+pub record Tables : Type 0 where
+  pub catalogue : List ℕ
+  pub tables : List ℕ
+  pub next : Next
+
+abbrev pub noTables : Next → Tables
+noTables next = record { catalogue = []; tables = []; next = next }
+
+abbrev pub rowsOf : (line : ℕ) → Relation → Tables
+rowsOf line (relation columns rows bytes) =
+    record {
+      catalogue = columns ∷ rows ∷ [];
+      tables = keyedLines rowKey columns rows (line + 1) bytes .words;
+      next = keyedLines rowKey columns rows (line + 1) bytes .next;
+    }
+rowsOf line noRelation = noTables (wrongAt line)
+
+unfoldable pub tableOf : (total line : ℕ) → List ℕ → Tables
+tableOf total line bytes = rowsOf line (relationOf total (drop (length relationKey) bytes))
+
+abbrev pub tablesThen : (catalogue tables : List ℕ) → Next → (ℕ → List ℕ → Tables) → Tables
+tablesThen catalogue tables (goesOn line bytes) more =
+    record {
+      catalogue = catalogue ++ more line bytes .catalogue;
+      tables = tables ++ more line bytes .tables;
+      next = more line bytes .next;
+    }
+tablesThen catalogue tables (wrongAt line) more = record { catalogue = catalogue; tables = tables; next = wrongAt line }
+
+abbrev pub andTables : Tables → (ℕ → List ℕ → Tables) → Tables
+andTables first more = tablesThen (first .catalogue) (first .tables) (first .next) more
+
+-- at most `count` tables, as many as there are relation= lines
+unfoldable pub tablesOf : (count total line : ℕ) → List ℕ → Tables
+tablesOf zero total line bytes = noTables (goesOn line bytes)
+tablesOf (suc more) total line bytes =
+    cond (begins relationKey bytes)
+    (andTables (tableOf total line bytes) (λ after rest. tablesOf more (total + catalogueWords (tableOf total line bytes .catalogue)) after rest))
+    (noTables (goesOn line bytes))
+
+-- Nodes: "1 to 64 node= lines of six numbers", to the text's end.
+abbrev pub unlessEnded : (line : ℕ) → List ℕ → Read → Read
+unlessEnded line [] more = nothing (goesOn line [])
+unlessEnded line (byte ∷ bytes) more = more
+
+unfoldable pub nodesOf : (count line : ℕ) → List ℕ → Read
+nodesOf zero line bytes = nothing (wrongAt line)
+nodesOf (suc more) line bytes =
+    andThen (keyedLine nodeKey nodeSize line bytes) (λ after rest. unlessEnded after rest (nodesOf more after rest))
+
+-- The bundle: the lines "in this order".
+pub record Bundle : Type 0 where
+  pub mode : ℕ
+  pub catalogue : List ℕ
+  pub tables : List ℕ
+  pub nodes : List ℕ
+  pub next : Next
+
+abbrev pub noBundle : (line : ℕ) → Bundle
+noBundle line = record { mode = 0; catalogue = []; tables = []; nodes = []; next = wrongAt line }
+
+abbrev pub nodesAfter : Next → Read
+nodesAfter (goesOn line bytes) = nodesOf nodeLimit line bytes
+nodesAfter (wrongAt line) = nothing (wrongAt line)
+
+abbrev pub withTables : (mode : ℕ) → Tables → Bundle
+withTables mode found =
+    record {
+      mode = mode;
+      catalogue = found .catalogue;
+      tables = found .tables;
+      nodes = nodesAfter (found .next) .words;
+      next = nodesAfter (found .next) .next;
+    }
+
+unfoldable pub linesOf : List ℕ → Bundle
+linesOf text =
+    cond (begins plainLine text) (withTables 0 (tablesOf pairLimit 0 2 (drop (length plainLine) text)))
+    (cond (begins shortLine text) (withTables 1 (tablesOf pairLimit 0 2 (drop (length shortLine) text)))
+    (noBundle 1))
+
+-- "At most 65,536 bytes (over: 12, place 0)"
+unfoldable pub reading : List ℕ → Bundle
+reading text = cond (ltb byteLimit (length text)) (noBundle 0) (linesOf text)

@@ -1,0 +1,52 @@
+-- Document 01, "Refusal numbers": what a call of `write` leaves: its numbers, and the text buffer afterwards. Assumes nothing.
+use Prim.Native.Nat.{ℕ, _*_, _/_, _%_}
+use mathlib.Core.List.{List}
+use mathlib.Core.Bool.{Bool, cond, not, _&&_, _||_}
+use lib.ListN.{length}
+use lib.Dec.{leb, ltb, eqb}
+use lib.Seq.{sets}
+use Rattle.text.specs.Limits.{nodeLimit, nodeSize, byteLimit}
+use Rattle.text.specs.Catalogue.{tablesOk}
+use Rattle.text.specs.Writing.{bundleText}
+use Rattle.text.specs.declared.writing.Writing.{Writing}
+use Rattle.text.specs.declared.writing.Writing.the-variants.{Bytes, WrongTables, WrongNodes, SmallBuffer}
+
+-- "Results after status and place: write bytes"
+pub record WriteNumbers : Type 0 where
+  pub status : ℕ
+  pub place : ℕ
+  pub bytes : ℕ
+
+-- "A refusal's other result numbers are 0"; 7, 1 and 13 have place 0
+abbrev pub writeRefusal : (status : ℕ) → WriteNumbers
+writeRefusal status = record { status = status; place = 0; bytes = 0 }
+
+-- the numbers of each case of the answer
+abbrev pub writeNumbers : Writing → WriteNumbers
+writeNumbers (Bytes bytes) = record { status = 0; place = 0; bytes = bytes }
+writeNumbers WrongTables = writeRefusal 7
+writeNumbers WrongNodes = writeRefusal 1
+writeNumbers SmallBuffer = writeRefusal 13
+
+pub record WriteOutcome : Type 0 where
+  pub numbers : WriteNumbers
+  pub text : List ℕ
+
+-- "node words not a multiple of 6, or 0 or over 64 nodes"
+abbrev pub nodesOk : List ℕ → Bool
+nodesOk nodes = eqb (length nodes % nodeSize) 0 && leb 1 (length nodes / nodeSize) && leb (length nodes / nodeSize) nodeLimit
+
+-- "text over its buffer or over 65,536 bytes"
+abbrev pub textFits : (bytes text : List ℕ) → Bool
+textFits bytes text = leb (length bytes) byteLimit && leb (length bytes) (length text)
+
+-- "Write: 7, 1, 13"
+unfoldable pub writeOutcome : (mode : ℕ) (catalogue tables nodes text : List ℕ) → WriteOutcome
+writeOutcome mode catalogue tables nodes text =
+    cond (not (tablesOk catalogue tables)) (record { numbers = writeRefusal 7; text = text })
+    (cond (not (nodesOk nodes)) (record { numbers = writeRefusal 1; text = text })
+    (cond (not (textFits (bundleText mode catalogue tables nodes) text)) (record { numbers = writeRefusal 13; text = text })
+    (record {
+      numbers = record { status = 0; place = 0; bytes = length (bundleText mode catalogue tables nodes) };
+      text = sets text 0 (bundleText mode catalogue tables nodes);
+    })))

@@ -1,0 +1,321 @@
+// A bundle's text, read into a catalogue, tables and a question's nodes.
+ghost use mathlib.Core.Path.{_≡_};
+ghost use mathlib.Core.Bool.{true};
+ghost use Prim.Native.Nat.{_+_, _≤_, _<_};
+ghost use lib.ListN.{length, drop};
+ghost use Rattle.text.specs.Limits.{pairLimit, wordLimit, nodeLimit};
+ghost use Rattle.text.specs.Marks.{relationKey};
+ghost use Rattle.text.specs.Reading.{relationOf, begins, tableOf, tablesOf, nodesOf, withTables, linesOf};
+ghost use Rattle.text.specs.Answers.{Placed, RelationRead, TablesFound, NodesFound, linesAnswer, BundleFound};
+ghost use Rattle.text.specs.ReadCall.{readNumbers, readOutcome};
+use crate::catalogue::pair_ok;
+use crate::catalogue::wide;
+use crate::limits::BYTES;
+use crate::limits::NODE_WORDS;
+use crate::limits::NODES;
+use crate::limits::PAIRS;
+use crate::limits::WORDS;
+use crate::lines::Cursor;
+use crate::lines::Number;
+use crate::lines::Step;
+use crate::lines::begins_with;
+use crate::lines::keep;
+use crate::lines::number_then;
+use crate::lines::read_line;
+use crate::lines::read_lines;
+
+// What a relation line says, and the position behind it.
+pub enum Relation {
+    Of {
+        columns: usize,
+        rows: usize,
+        next: usize,
+    },
+    Wrong,
+}
+
+// How much was read, and where that ends.
+pub struct TablesRead {
+    pub pairs: usize,
+    pub words: usize,
+    pub step: Step,
+}
+
+pub struct NodesRead {
+    pub nodes: usize,
+    pub step: Step,
+}
+
+// A bundle was read, or the line of that number is wrong.
+pub enum Lines {
+    Read {
+        mode: u32,
+        pairs: usize,
+        words: usize,
+        nodes: usize,
+    },
+    Wrong(usize),
+}
+
+// What reading a bundle answers: its numbers; refusal 12 at a line; or refusal 14.
+pub enum Reading {
+    Bundle {
+        mode: u32,
+        pairs: usize,
+        words: usize,
+        nodes: usize,
+    },
+    WrongLine(usize),
+    SmallBuffer,
+}
+
+// The two numbers of a relation line, from `at` on, where the tables before have `total` words.
+fn read_relation(text: &[u8], at: usize, total: usize) -> Relation
+    requires { ⌜ total ≤ wordLimit ⌝ }
+    ensures { λ r. ⌜ RelationRead (now (text .entry)) at total (relationOf total (drop at (now (text .entry)))) r ⌝ }
+{
+    match number_then(text, at, b' ') {
+        Number::Value(first, behind) => match number_then(text, behind, b'\n') {
+            Number::Value(second, next) => {
+                let columns = wide(first);
+                let rows = wide(second);
+                if pair_ok(columns, rows) {
+                    if WORDS < total + columns * rows {
+                        return Relation::Wrong;
+                    }
+                    return Relation::Of {
+                        columns,
+                        rows,
+                        next,
+                    };
+                }
+                Relation::Wrong
+            }
+            Number::Wrong => Relation::Wrong,
+        },
+        Number::Wrong => Relation::Wrong,
+    }
+}
+
+// A table: its relation line, whose key has been seen, and its rows.
+fn read_table(
+    text: &[u8],
+    start: Cursor,
+    pairs: usize,
+    total: usize,
+    catalogue: &mut [u32],
+    tables: &mut [u32],
+) -> TablesRead
+    requires { ⌜ (pairs < pairLimit) × (total ≤ wordLimit) × Placed (now text) start × (begins relationKey (drop (start .at) (now text)) ≡ true) ⌝ }
+    ensures { λ r. ⌜ TablesFound (now (text .entry)) (tableOf total (start .line) (drop (start .at) (now (text .entry)))) pairs total (now (catalogue .entry)) (now (catalogue .exit)) (now (tables .entry)) (now (tables .exit)) r ⌝ }
+{
+    let line = start.line;
+    let at = start.at;
+    match read_relation(text, at + 9, total) {
+        Relation::Of {
+            columns,
+            rows,
+            next,
+        } => {
+            keep(catalogue, 2 * pairs, columns as u32);
+            keep(catalogue, 2 * pairs + 1, rows as u32);
+            let step = read_lines(
+                text,
+                Cursor {
+                    at: next,
+                    line: line + 1,
+                },
+                b"row=",
+                columns,
+                rows,
+                tables,
+                total,
+            );
+            TablesRead {
+                pairs: pairs + 1,
+                words: total + columns * rows,
+                step,
+            }
+        }
+        Relation::Wrong => TablesRead {
+            pairs,
+            words: total,
+            step: Step::Wrong(line),
+        },
+    }
+}
+
+// The tables, as many as there are relation lines, up to the limit.
+fn read_tables(text: &[u8], start: Cursor, catalogue: &mut [u32], tables: &mut [u32]) -> TablesRead
+    requires { ⌜ Placed (now text) start ⌝ }
+    ensures { λ r. ⌜ TablesFound (now (text .entry)) (tablesOf pairLimit 0 (start .line) (drop (start .at) (now (text .entry)))) 0 0 (now (catalogue .entry)) (now (catalogue .exit)) (now (tables .entry)) (now (tables .exit)) r ⌝ }
+{
+    let mut at = start.at;
+    let mut line = start.line;
+    let mut pairs: usize = 0;
+    let mut words: usize = 0;
+    while pairs < PAIRS {
+        if begins_with(text, at, b"relation=") {
+            let read = read_table(text, Cursor { at, line }, pairs, words, catalogue, tables);
+            pairs = read.pairs;
+            words = read.words;
+            let step = read.step;
+            match step {
+                Step::Next(next) => {
+                    at = next.at;
+                    line = next.line;
+                }
+                Step::Wrong(wrong) => {
+                    return TablesRead {
+                        pairs,
+                        words,
+                        step: Step::Wrong(wrong),
+                    };
+                }
+            }
+        } else {
+            return TablesRead {
+                pairs,
+                words,
+                step: Step::Next(Cursor { at, line }),
+            };
+        }
+    }
+    TablesRead {
+        pairs,
+        words,
+        step: Step::Next(Cursor { at, line }),
+    }
+}
+
+// The nodes, to the text's end.
+fn read_nodes(text: &[u8], start: Cursor, question: &mut [u32]) -> NodesRead
+    requires { ⌜ Placed (now text) start ⌝ }
+    ensures { λ r. ⌜ NodesFound (now (text .entry)) (nodesOf nodeLimit (start .line) (drop (start .at) (now (text .entry)))) (now (question .entry)) (now (question .exit)) r ⌝ }
+{
+    let mut at = start.at;
+    let mut line = start.line;
+    let mut nodes: usize = 0;
+    while nodes < NODES {
+        match read_line(
+            text,
+            Cursor { at, line },
+            b"node=",
+            NODE_WORDS,
+            question,
+            NODE_WORDS * nodes,
+        ) {
+            Step::Next(next) => {
+                at = next.at;
+                line = next.line;
+            }
+            Step::Wrong(wrong) => {
+                return NodesRead {
+                    nodes,
+                    step: Step::Wrong(wrong),
+                };
+            }
+        }
+        nodes += 1;
+        if text.len() <= at {
+            return NodesRead {
+                nodes,
+                step: Step::Next(Cursor { at, line }),
+            };
+        }
+    }
+    NodesRead {
+        nodes,
+        step: Step::Wrong(line),
+    }
+}
+
+// The lines behind the mode's.
+fn read_behind_mode(
+    text: &[u8],
+    at: usize,
+    mode: u32,
+    catalogue: &mut [u32],
+    tables: &mut [u32],
+    question: &mut [u32],
+) -> Lines
+    requires { ⌜ (at ≤ length (now text)) × (1 ≤ at) ⌝ }
+    ensures { λ r. ⌜ BundleFound (withTables mode (tablesOf pairLimit 0 2 (drop at (now (text .entry))))) (now (catalogue .entry)) (now (catalogue .exit)) (now (tables .entry)) (now (tables .exit)) (now (question .entry)) (now (question .exit)) r ⌝ }
+{
+    let read = read_tables(text, Cursor { at, line: 2 }, catalogue, tables);
+    let step = read.step;
+    match step {
+        Step::Wrong(wrong) => Lines::Wrong(wrong),
+        Step::Next(next) => {
+            let last = read_nodes(text, next, question);
+            let end = last.step;
+            match end {
+                Step::Wrong(wrong) => Lines::Wrong(wrong),
+                Step::Next(_) => Lines::Read {
+                    mode,
+                    pairs: read.pairs,
+                    words: read.words,
+                    nodes: last.nodes,
+                },
+            }
+        }
+    }
+}
+
+// Every line; each word is kept where there is room.
+fn read_all(text: &[u8], catalogue: &mut [u32], tables: &mut [u32], question: &mut [u32]) -> Lines
+    ensures { λ r. ⌜ BundleFound (linesOf (now (text .entry))) (now (catalogue .entry)) (now (catalogue .exit)) (now (tables .entry)) (now (tables .exit)) (now (question .entry)) (now (question .exit)) r ⌝ }
+{
+    if begins_with(text, 0, b"mode=plain\n") {
+        return read_behind_mode(text, 11, 0, catalogue, tables, question);
+    }
+    if begins_with(text, 0, b"mode=short\n") {
+        return read_behind_mode(text, 11, 1, catalogue, tables, question);
+    }
+    Lines::Wrong(1)
+}
+
+// What `read_all` would answer, with no buffer written.
+fn judge(text: &[u8]) -> Lines
+    ensures { λ r. ⌜ r ≡ linesAnswer (linesOf (now (text .entry))) (linesOf (now (text .entry)) .next) ⌝ }
+{
+    let mut catalogue = [0u32; 1];
+    let mut tables = [0u32; 1];
+    let mut question = [0u32; 1];
+    read_all(text, &mut catalogue, &mut tables, &mut question)
+}
+
+// Reads a bundle to the front of the three buffers. A refusal changes none of them, so the text is judged first.
+pub fn read(text: &[u8], catalogue: &mut [u32], tables: &mut [u32], question: &mut [u32]) -> Reading
+    ensures { λ r. ⌜ record { numbers = readNumbers r; catalogue = now (catalogue .exit); tables = now (tables .exit); question = now (question .exit) } ≡ readOutcome (now (text .entry)) (now (catalogue .entry)) (now (tables .entry)) (now (question .entry)) ⌝ }
+{
+    if catalogue.len() < 2 * PAIRS {
+        return Reading::SmallBuffer;
+    }
+    if tables.len() < WORDS {
+        return Reading::SmallBuffer;
+    }
+    if question.len() < NODE_WORDS * NODES {
+        return Reading::SmallBuffer;
+    }
+    if BYTES < text.len() {
+        return Reading::WrongLine(0);
+    }
+    match judge(text) {
+        Lines::Wrong(line) => Reading::WrongLine(line),
+        Lines::Read {
+            mode,
+            pairs,
+            words,
+            nodes,
+        } => {
+            read_all(text, catalogue, tables, question);
+            Reading::Bundle {
+                mode,
+                pairs,
+                words,
+                nodes,
+            }
+        }
+    }
+}

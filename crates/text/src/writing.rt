@@ -1,0 +1,195 @@
+// A bundle's text, written from mode, catalogue, tables and nodes.
+ghost use mathlib.Core.Path.{_≡_};
+ghost use mathlib.Core.Bool.{true};
+ghost use Prim.Native.Nat.{_+_, _*_, _/_, _≤_};
+ghost use lib.ListN.{length, set, take, drop};
+ghost use Rattle.text.specs.Limits.{nodeSize, nodeLimit};
+ghost use Rattle.text.specs.Catalogue.{pairsOk, catalogueWords, tablesOk};
+ghost use Rattle.text.specs.Writing.{decimal, numbersText, linesText, tablesText, modeText, bundleText};
+ghost use Rattle.text.specs.Put.{Put, furthest};
+ghost use Rattle.text.specs.WriteCall.{writeNumbers, writeOutcome};
+use crate::catalogue::tables_ok;
+use crate::catalogue::wide;
+use crate::limits::BYTES;
+use crate::limits::NODE_WORDS;
+use crate::limits::NODES;
+use crate::lines::separator_behind;
+
+// What writing a bundle answers: its bytes; or refusal 7, 1 or 13.
+pub enum Writing {
+    Bytes(usize),
+    WrongTables,
+    WrongNodes,
+    SmallBuffer,
+}
+
+// A byte is put where there is room for it: a writer that is lent less only counts.
+pub fn put(text: &mut [u8], at: usize, byte: u8)
+    ensures { λ r. ⌜ now (text .exit) ≡ set (now (text .entry)) at byte ⌝ }
+{
+    if at < text.len() {
+        text[at] = byte;
+    }
+}
+
+// All others put the bytes that their contract names from `at` on, and answer the position behind the last.
+pub fn put_bytes(text: &mut [u8], at: usize, bytes: &[u8]) -> usize
+    requires { ⌜ at + length (now bytes) ≤ furthest ⌝ }
+    ensures { λ r. ⌜ Put at (now (bytes .entry)) (now (text .entry)) (now (text .exit)) r ⌝ }
+{
+    let mut end = at;
+    let mut i = 0;
+    while i < bytes.len() {
+        put(text, end, bytes[i]);
+        end += 1;
+        i += 1;
+    }
+    end
+}
+
+// A number in decimal.
+pub fn put_number(text: &mut [u8], at: usize, n: u32) -> usize
+    requires { ⌜ at + length (decimal n) ≤ furthest ⌝ }
+    ensures { λ r. ⌜ Put at (decimal n) (now (text .entry)) (now (text .exit)) r ⌝ }
+{
+    if n < 10 {
+        put(text, at, 48 + n as u8);
+        return at + 1;
+    }
+    let end = put_number(text, at, n / 10);
+    put(text, end, 48 + (n % 10) as u8);
+    end + 1
+}
+
+// Numbers with one space between, and the line's end.
+pub fn put_numbers(text: &mut [u8], at: usize, words: &[u32], from: usize, count: usize) -> usize
+    requires { ⌜ (from + count ≤ length (now words)) × (at + length (numbersText (take count (drop from (now words)))) ≤ furthest) ⌝ }
+    ensures { λ r. ⌜ Put at (numbersText (take count (drop from (now (words .entry))))) (now (text .entry)) (now (text .exit)) r ⌝ }
+{
+    let mut end = at;
+    let mut left = count;
+    let mut place = from;
+    while 0 < left {
+        left -= 1;
+        let behind = put_number(text, end, words[place]);
+        put(text, behind, separator_behind(left));
+        end = behind + 1;
+        place += 1;
+    }
+    end
+}
+
+// Lines of `width` numbers each.
+pub fn put_lines(
+    text: &mut [u8],
+    at: usize,
+    key: &[u8],
+    width: usize,
+    count: usize,
+    words: &[u32],
+    from: usize,
+) -> usize
+    requires { ⌜ (from + width * count ≤ length (now words)) × (at + length (linesText (now key) width count (drop from (now words))) ≤ furthest) ⌝ }
+    ensures { λ r. ⌜ Put at (linesText (now (key .entry)) width count (drop from (now (words .entry)))) (now (text .entry)) (now (text .exit)) r ⌝ }
+{
+    let mut end = at;
+    let mut left = count;
+    let mut place = from;
+    while 0 < left {
+        let behind = put_bytes(text, end, key);
+        end = put_numbers(text, behind, words, place, width);
+        place += width;
+        left -= 1;
+    }
+    end
+}
+
+// For each pair of the catalogue its line and the lines of its table.
+fn put_tables(text: &mut [u8], at: usize, catalogue: &[u32], tables: &[u32]) -> usize
+    requires { ⌜ (pairsOk (now catalogue) ≡ true) × (catalogueWords (now catalogue) ≤ length (now tables)) × (at + length (tablesText (now catalogue) (now tables)) ≤ furthest) ⌝ }
+    ensures { λ r. ⌜ Put at (tablesText (now (catalogue .entry)) (now (tables .entry))) (now (text .entry)) (now (text .exit)) r ⌝ }
+{
+    let mut end = at;
+    let mut pair: usize = 0;
+    let mut place: usize = 0;
+    while pair < catalogue.len() {
+        let columns = wide(catalogue[pair]);
+        let rows = wide(catalogue[pair + 1]);
+        let behind = put_bytes(text, end, b"relation=");
+        let rows_at = put_numbers(text, behind, catalogue, pair, 2);
+        end = put_lines(text, rows_at, b"row=", columns, rows, tables, place);
+        place += columns * rows;
+        pair += 2;
+    }
+    end
+}
+
+// The mode's line, at the front.
+fn put_mode(text: &mut [u8], mode: u32) -> usize
+    ensures { λ r. ⌜ Put 0 (modeText mode) (now (text .entry)) (now (text .exit)) r ⌝ }
+{
+    if mode == 0 {
+        return put_bytes(text, 0, b"mode=plain\n");
+    }
+    put_bytes(text, 0, b"mode=short\n")
+}
+
+fn put_bundle(mode: u32, catalogue: &[u32], tables: &[u32], nodes: &[u32], text: &mut [u8]) -> usize
+    requires { ⌜ (tablesOk (now catalogue) (now tables) ≡ true) × (length (now nodes) / nodeSize ≤ nodeLimit) ⌝ }
+    ensures { λ r. ⌜ Put 0 (bundleText mode (now (catalogue .entry)) (now (tables .entry)) (now (nodes .entry))) (now (text .entry)) (now (text .exit)) r ⌝ }
+{
+    let tables_at = put_mode(text, mode);
+    let nodes_at = put_tables(text, tables_at, catalogue, tables);
+    put_lines(
+        text,
+        nodes_at,
+        b"node=",
+        NODE_WORDS,
+        nodes.len() / NODE_WORDS,
+        nodes,
+        0,
+    )
+}
+
+// The bytes of the bundle's text, with no buffer written.
+fn count_bytes(mode: u32, catalogue: &[u32], tables: &[u32], nodes: &[u32]) -> usize
+    requires { ⌜ (tablesOk (now catalogue) (now tables) ≡ true) × (length (now nodes) / nodeSize ≤ nodeLimit) ⌝ }
+    ensures { λ r. ⌜ r ≡ length (bundleText mode (now (catalogue .entry)) (now (tables .entry)) (now (nodes .entry))) ⌝ }
+{
+    let mut text = [0u8; 1];
+    put_bundle(mode, catalogue, tables, nodes, &mut text)
+}
+
+// Writes a bundle's text to the front of the buffer. A refusal does not change it, so the bytes are counted first.
+pub fn write(
+    mode: u32,
+    catalogue: &[u32],
+    tables: &[u32],
+    nodes: &[u32],
+    text: &mut [u8],
+) -> Writing
+    ensures { λ r. ⌜ record { numbers = writeNumbers r; text = now (text .exit) } ≡ writeOutcome mode (now (catalogue .entry)) (now (tables .entry)) (now (nodes .entry)) (now (text .entry)) ⌝ }
+{
+    if !tables_ok(catalogue, tables) {
+        return Writing::WrongTables;
+    }
+    let count = nodes.len() / NODE_WORDS;
+    if nodes.len() % NODE_WORDS != 0 {
+        return Writing::WrongNodes;
+    }
+    if count == 0 {
+        return Writing::WrongNodes;
+    }
+    if NODES < count {
+        return Writing::WrongNodes;
+    }
+    let bytes = count_bytes(mode, catalogue, tables, nodes);
+    if BYTES < bytes {
+        return Writing::SmallBuffer;
+    }
+    if text.len() < bytes {
+        return Writing::SmallBuffer;
+    }
+    put_bundle(mode, catalogue, tables, nodes, text);
+    Writing::Bytes(bytes)
+}

@@ -1,0 +1,54 @@
+// Reads a bundle from standard input, and writes it back from what it read; or prints status= and place= lines.
+use libc::STDIN_FILENO;
+use libc::STDOUT_FILENO;
+use text::bundle::Reading;
+use text::writing::Writing;
+
+fn line(key: &[u8], number: u64) {
+    io::write_all(STDOUT_FILENO, key);
+    io::print_decimal(STDOUT_FILENO, number);
+    io::write_all(STDOUT_FILENO, b"\n");
+}
+
+fn refuse(status: u64, place: usize) {
+    line(b"status=", status);
+    line(b"place=", place as u64);
+}
+
+// What was read is written back.
+fn write_back(mode: u32, catalogue: &[u32], tables: &[u32], nodes: &[u32]) {
+    let mut text = [0u8; 65536];
+    match text::writing::write(mode, catalogue, tables, nodes, &mut text) {
+        Writing::Bytes(bytes) => {
+            io::write_all(STDOUT_FILENO, &text[..bytes]);
+        }
+        Writing::WrongTables => refuse(7, 0),
+        Writing::WrongNodes => refuse(1, 0),
+        Writing::SmallBuffer => refuse(13, 0),
+    }
+}
+
+fn main() {
+    let mut text = [0u8; 65537];
+    let mut catalogue = [0u32; 32];
+    let mut tables = [0u32; 16384];
+    let mut nodes = [0u32; 384];
+    let bytes = io::read_full(STDIN_FILENO, &mut text);
+    match text::bundle::read(&text[..bytes], &mut catalogue, &mut tables, &mut nodes) {
+        Reading::Bundle {
+            mode,
+            pairs,
+            words,
+            nodes: count,
+        } => {
+            write_back(
+                mode,
+                &catalogue[..2 * pairs],
+                &tables[..words],
+                &nodes[..6 * count],
+            );
+        }
+        Reading::WrongLine(place) => refuse(12, place),
+        Reading::SmallBuffer => refuse(14, 0),
+    }
+}
