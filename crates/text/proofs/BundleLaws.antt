@@ -8,7 +8,8 @@ use lib.Dec.{ltb}
 use lib.ListN.{length, drop}
 use lib.Seq.{sets}
 use borrow.Author.Tests.{lt-ltb, le-ltb}
-use Rattle.text.specs.Limits.{nodeLimit, nodeSize, byteLimit}
+use Rattle.relations.specs.Limits.{questionNodeLimit, questionNodeWords}
+use Rattle.text.specs.Limits.{byteLimit}
 use Rattle.text.specs.Catalogue.{catalogueWords}
 use Rattle.text.specs.Reading as reads
 use Rattle.text.specs.Reading.{Next, goesOn, wrongAt, Read, nothing, Tables, nodesOf, nodesAfter, withTables, linesOf, reading}
@@ -29,22 +30,22 @@ module _ {text : List ℕ} {found : Tables} {catalogue₀ catalogue₁ tables₀
       record { means = rw stands; catalogue = tables .catalogue; tables = tables .tables; question = rw stands }
 
   module _ {question₁ : List ℕ} {cursor : Cursor} {last : NodesRead} (e : answer .step ≡ Onward cursor)
-      (nodes : NodesFound text (nodesOf nodeLimit (cursor .line) (drop (cursor .at) text)) question₀ question₁ last) where
+      (nodes : NodesFound text (nodesOf questionNodeLimit (cursor .line) (drop (cursor .at) text)) question₀ question₁ last) where
     stands : found .next ≡ goesOn (cursor .line) (drop (cursor .at) text)
     stands = tables .means ∙ ap (standing text) e
 
     pub wrong-nodes : {line : ℕ} → last .step ≡ Stop line → BundleFound (withTables mode found) catalogue₀ catalogue₁ tables₀ tables₁ question₀ question₁ (WrongLine line)
     wrong-nodes {line} f =
-        let ends : nodesOf nodeLimit (cursor .line) (drop (cursor .at) text) .next ≡ wrongAt line = nodes .means ∙ ap (standing text) f in
+        let ends : nodesOf questionNodeLimit (cursor .line) (drop (cursor .at) text) .next ≡ wrongAt line = nodes .means ∙ ap (standing text) f in
         record { means = rw (stands, ends); catalogue = tables .catalogue; tables = tables .tables; question = rw stands (nodes .words) }
 
     pub bundle-found : {end : Cursor} → last .step ≡ Onward end → length (found .tables) ≡ catalogueWords (found .catalogue)
         → BundleFound (withTables mode found) catalogue₀ catalogue₁ tables₀ tables₁ question₀ question₁ (AllRead mode (answer .pairs) (answer .words) (last .nodes))
     bundle-found {end} f many =
-        let ends : nodesOf nodeLimit (cursor .line) (drop (cursor .at) text) .next ≡ goesOn (end .line) (drop (end .at) text) = nodes .means ∙ ap (standing text) f in
+        let ends : nodesOf questionNodeLimit (cursor .line) (drop (cursor .at) text) .next ≡ goesOn (end .line) (drop (end .at) text) = nodes .means ∙ ap (standing text) f in
         let pairs : length (found .catalogue) / 2 ≡ answer .pairs = omega (arith, tables .pairs-read) in
         let words : length (found .tables) ≡ answer .words = omega (arith, tables .words-read, many) in
-        let count : length (nodesOf nodeLimit (cursor .line) (drop (cursor .at) text) .words) / nodeSize ≡ last .nodes = omega (arith, nodes .counted ends) in
+        let count : length (nodesOf questionNodeLimit (cursor .line) (drop (cursor .at) text) .words) / questionNodeWords ≡ last .nodes = omega (arith, nodes .counted ends) in
         record { means = rw (stands, ends, pairs, words, count); catalogue = tables .catalogue; tables = tables .tables; question = rw stands (nodes .words) }
 
 module _ (text catalogue tables question : List ℕ) where
@@ -78,6 +79,6 @@ module _ (catalogue tables question : List ℕ) (bundle : reads.Bundle) where
       let m : bundle .mode ≡ mode = cc in
       let p : length (bundle .catalogue) / 2 ≡ pairs = cc in
       let w : length (bundle .tables) ≡ words = cc in
-      let n : length (bundle .nodes) / nodeSize ≡ nodes = cc in
+      let n : length (bundle .nodes) / questionNodeWords ≡ nodes = cc in
       rw (m, p, w, n)
   bundle-outcome (wrongAt after) e = let z : _≡_ {A = ℕ} 0 1 = cc in absurd (omega arith)

@@ -5,7 +5,7 @@ use mathlib.Core.List.{List, [], _∷_, _++_}
 use native.Mathlib.Omega.{arith}
 use lib.ListN.{length, drop, length-append}
 use lib.Seq.{sets}
-use Rattle.text.specs.Limits.{wordLimit}
+use Rattle.relations.specs.Limits.{wordLimit}
 use Rattle.text.specs.Catalogue.{catalogueWords}
 use Rattle.text.specs.Reading.{Next, goesOn, wrongAt, Tables, noTables, tablesThen, andTables}
 use Rattle.text.specs.Answers.{Placed, standing, PlacedStep, TablesFound}

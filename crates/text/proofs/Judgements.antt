@@ -8,7 +8,8 @@ use native.Mathlib.Nat.{mul-le-mul}
 use lib.Dec.{leb, eqb}
 use lib.ListN.{length}
 use borrow.Author.Tests.{leb-true, eqb-true, le-leb, eq-eqb}
-use Rattle.text.specs.Limits.{pairLimit, storedColumnLimit, rowLimit, wordLimit, nodeLimit, nodeSize}
+use Rattle.relations.specs.Limits.{wordLimit, questionNodeLimit, questionNodeWords}
+use Rattle.text.specs.Limits.{cataloguePairLimit, storedColumnLimit, rowLimit}
 use Rattle.text.specs.Catalogue.{pairOk, pairsOk, catalogueWords, catalogueOk, tablesOk}
 use Rattle.text.specs.WriteCall.{nodesOk}
 use Rattle.text.proofs.Tests.{clash, both, both-first, both-second}
@@ -46,20 +47,20 @@ pairs-even (columns ∷ rows ∷ more) ok =
     omega arith
 
 pub record GoodTables (catalogue tables : List ℕ) : Type 0 where
-  pub few : length catalogue ≤ 2 * pairLimit
+  pub few : length catalogue ≤ 2 * cataloguePairLimit
   pub pairs : pairsOk catalogue ≡ true
   pub fits : catalogueWords catalogue ≤ wordLimit
   pub sum : length tables ≡ catalogueWords catalogue
 
 pub good-tables : (catalogue tables : List ℕ) → tablesOk catalogue tables ≡ true → GoodTables catalogue tables
 good-tables catalogue tables ok =
-    let count : Bool = leb (length catalogue) (2 * pairLimit) in
+    let count : Bool = leb (length catalogue) (2 * cataloguePairLimit) in
     let total : Bool = leb (catalogueWords catalogue) wordLimit in
     let same : Bool = eqb (length tables) (catalogueWords catalogue) in
     let good : catalogueOk catalogue ≡ true = both-first (catalogueOk catalogue) same ok in
     let shaped : (count && pairsOk catalogue) ≡ true = both-first (count && pairsOk catalogue) total good in
     record {
-      few = leb-true (length catalogue) (2 * pairLimit) (both-first count (pairsOk catalogue) shaped);
+      few = leb-true (length catalogue) (2 * cataloguePairLimit) (both-first count (pairsOk catalogue) shaped);
       pairs = both-second count (pairsOk catalogue) shaped;
       fits = leb-true (catalogueWords catalogue) wordLimit (both-second (count && pairsOk catalogue) total good);
       sum = eqb-true (length tables) (catalogueWords catalogue) (both-second (catalogueOk catalogue) same ok);
@@ -67,37 +68,37 @@ good-tables catalogue tables ok =
 
 pub tables-good : (catalogue tables : List ℕ) → GoodTables catalogue tables → tablesOk catalogue tables ≡ true
 tables-good catalogue tables good =
-    let count : Bool = leb (length catalogue) (2 * pairLimit) in
+    let count : Bool = leb (length catalogue) (2 * cataloguePairLimit) in
     let total : Bool = leb (catalogueWords catalogue) wordLimit in
     both (catalogueOk catalogue) (eqb (length tables) (catalogueWords catalogue))
     (both (count && pairsOk catalogue) total
-    (both count (pairsOk catalogue) (le-leb (length catalogue) (2 * pairLimit) (good .few)) (good .pairs))
+    (both count (pairsOk catalogue) (le-leb (length catalogue) (2 * cataloguePairLimit) (good .few)) (good .pairs))
     (le-leb (catalogueWords catalogue) wordLimit (good .fits)))
     (eq-eqb (length tables) (catalogueWords catalogue) (good .sum))
 
 -- Refusal 1.
 
 pub record GoodNodes (nodes : List ℕ) : Type 0 where
-  pub whole : length nodes % nodeSize ≡ 0
-  pub some : 1 ≤ length nodes / nodeSize
-  pub few : length nodes / nodeSize ≤ nodeLimit
+  pub whole : length nodes % questionNodeWords ≡ 0
+  pub some : 1 ≤ length nodes / questionNodeWords
+  pub few : length nodes / questionNodeWords ≤ questionNodeLimit
 
 pub good-nodes : (nodes : List ℕ) → nodesOk nodes ≡ true → GoodNodes nodes
 good-nodes nodes ok =
-    let multiple : Bool = eqb (length nodes % nodeSize) 0 in
-    let one : Bool = leb 1 (length nodes / nodeSize) in
-    let most : Bool = leb (length nodes / nodeSize) nodeLimit in
+    let multiple : Bool = eqb (length nodes % questionNodeWords) 0 in
+    let one : Bool = leb 1 (length nodes / questionNodeWords) in
+    let most : Bool = leb (length nodes / questionNodeWords) questionNodeLimit in
     let first : (multiple && one) ≡ true = both-first (multiple && one) most ok in
     record {
-      whole = eqb-true (length nodes % nodeSize) 0 (both-first multiple one first);
-      some = leb-true 1 (length nodes / nodeSize) (both-second multiple one first);
-      few = leb-true (length nodes / nodeSize) nodeLimit (both-second (multiple && one) most ok);
+      whole = eqb-true (length nodes % questionNodeWords) 0 (both-first multiple one first);
+      some = leb-true 1 (length nodes / questionNodeWords) (both-second multiple one first);
+      few = leb-true (length nodes / questionNodeWords) questionNodeLimit (both-second (multiple && one) most ok);
     }
 
 pub nodes-good : (nodes : List ℕ) → GoodNodes nodes → nodesOk nodes ≡ true
 nodes-good nodes good =
-    let multiple : Bool = eqb (length nodes % nodeSize) 0 in
-    let one : Bool = leb 1 (length nodes / nodeSize) in
-    both (multiple && one) (leb (length nodes / nodeSize) nodeLimit)
-    (both multiple one (eq-eqb (length nodes % nodeSize) 0 (good .whole)) (le-leb 1 (length nodes / nodeSize) (good .some)))
-    (le-leb (length nodes / nodeSize) nodeLimit (good .few))
+    let multiple : Bool = eqb (length nodes % questionNodeWords) 0 in
+    let one : Bool = leb 1 (length nodes / questionNodeWords) in
+    both (multiple && one) (leb (length nodes / questionNodeWords) questionNodeLimit)
+    (both multiple one (eq-eqb (length nodes % questionNodeWords) 0 (good .whole)) (le-leb 1 (length nodes / questionNodeWords) (good .some)))
+    (le-leb (length nodes / questionNodeWords) questionNodeLimit (good .few))

@@ -10,7 +10,8 @@ use lib.Dec.{leb, ltb, eqb}
 use lib.ListN.{length, take, drop, length-append, length-drop}
 use lib.Seq.{take-at, drop-at, take-append-le, drop-append-le}
 use borrow.Author.Tests.{ltb-false, leb-true, eqb-true}
-use Rattle.text.specs.Limits.{pairLimit, wordLimit, nodeLimit, nodeSize, byteLimit}
+use Rattle.relations.specs.Limits.{wordLimit, questionNodeLimit, questionNodeWords}
+use Rattle.text.specs.Limits.{cataloguePairLimit, byteLimit}
 use Rattle.text.specs.Catalogue.{pairOk, pairsOk, catalogueWords}
 use Rattle.text.specs.Marks.{lineFeed, space, separator, plainLine, shortLine, relationKey, rowKey, nodeKey}
 use Rattle.text.specs.Writing.{decimal, numbersText, lineText, linesText, tablesText, modeText, bundleText}
@@ -360,8 +361,8 @@ pub record NodesAsText (count line : ℕ) (bytes : List ℕ) (found : Read) (aft
   pub ended : rest ≡ []
   pub some : 1 ≤ nodes
   pub few : nodes ≤ count
-  pub many : length (found .words) ≡ nodes * nodeSize
-  pub text : bytes ≡ linesText nodeKey nodeSize nodes (found .words)
+  pub many : length (found .words) ≡ nodes * questionNodeWords
+  pub text : bytes ≡ linesText nodeKey questionNodeWords nodes (found .words)
   pub words32 : Words32 (found .words)
   pub lines-read : after ≡ line + nodes
 
@@ -370,22 +371,22 @@ pub nodesOf-text : (count line : ℕ) (bytes : List ℕ) (after : ℕ) (rest : L
 unfolding nodesOf linesText
 nodesOf-text zero line bytes after rest e = no-next e
 nodesOf-text (suc more) line bytes after rest e =
-    go (keyedLine nodeKey nodeSize line bytes .next) refl e (λ line′ bytes′ e′. nodesOf-text more line′ bytes′ after rest e′)
+    go (keyedLine nodeKey questionNodeWords line bytes .next) refl e (λ line′ bytes′ e′. nodesOf-text more line′ bytes′ after rest e′)
   where
     ws : List ℕ
-    ws = keyedLine nodeKey nodeSize line bytes .words
+    ws = keyedLine nodeKey questionNodeWords line bytes .words
 
     then : ℕ → List ℕ → Read
     then = λ line′ bytes′. unlessEnded line′ bytes′ (nodesOf more line′ bytes′)
 
-    go : (next : Next) → keyedLine nodeKey nodeSize line bytes .next ≡ next
+    go : (next : Next) → keyedLine nodeKey questionNodeWords line bytes .next ≡ next
         → wordsThen ws next then .next ≡ goesOn after rest
         → ((line′ : ℕ) (bytes′ : List ℕ) → nodesOf more line′ bytes′ .next ≡ goesOn after rest
         → NodesAsText more line′ bytes′ (nodesOf more line′ bytes′) after rest)
         → NodesAsText (suc more) line bytes (wordsThen ws next then) after rest
     go (goesOn line′ []) is e ih =
-        let first : LinesAsText (λ words. lineText nodeKey words) nodeSize 1 line bytes (keyedLine nodeKey nodeSize line bytes) line′ [] =
-        keyedLine-text nodeKey nodeSize line bytes line′ [] is
+        let first : LinesAsText (λ words. lineText nodeKey words) questionNodeWords 1 line bytes (keyedLine nodeKey questionNodeWords line bytes) line′ [] =
+        keyedLine-text nodeKey questionNodeWords line bytes line′ [] is
         in
         let line-is : line′ ≡ after = cc in
         record {
@@ -394,14 +395,14 @@ nodesOf-text (suc more) line bytes after rest e =
           some = omega arith;
           few = omega arith;
           many = ap length (append-nil ws) ∙ first .many;
-          text = first .text ∙ sym (linesText-cons nodeKey nodeSize 0 ws [] (first .many));
+          text = first .text ∙ sym (linesText-cons nodeKey questionNodeWords 0 ws [] (first .many));
           words32 = words32-append ws [] (first .words32) tt;
           lines-read = omega (arith, first .lines-read);
         }
     go (goesOn line′ (byte ∷ behind)) is e ih =
         let bytes′ : List ℕ = byte ∷ behind in
-        let first : LinesAsText (λ words. lineText nodeKey words) nodeSize 1 line bytes (keyedLine nodeKey nodeSize line bytes) line′ bytes′ =
-        keyedLine-text nodeKey nodeSize line bytes line′ bytes′ is
+        let first : LinesAsText (λ words. lineText nodeKey words) questionNodeWords 1 line bytes (keyedLine nodeKey questionNodeWords line bytes) line′ bytes′ =
+        keyedLine-text nodeKey questionNodeWords line bytes line′ bytes′ is
         in
         let others : NodesAsText more line′ bytes′ (nodesOf more line′ bytes′) after rest = ih line′ bytes′ e in
         let vs : List ℕ = nodesOf more line′ bytes′ .words in
@@ -414,7 +415,7 @@ nodesOf-text (suc more) line bytes after rest e =
           text =
               first .text
               ∙ ap (λ (tail : List ℕ). lineText nodeKey ws ++ tail) (others .text)
-              ∙ sym (linesText-cons nodeKey nodeSize (others .nodes) ws vs (first .many));
+              ∙ sym (linesText-cons nodeKey questionNodeWords (others .nodes) ws vs (first .many));
           words32 = words32-append ws vs (first .words32) (others .words32);
           lines-read = omega (arith, first .lines-read, others .lines-read);
         }
@@ -423,29 +424,29 @@ nodesOf-text (suc more) line bytes after rest e =
 -- The whole.
 
 tables-then-nodes : (mode : ℕ) (text bytes : List ℕ) (line : ℕ) (rest : List ℕ) → mode ≤ 1 → text ≡ modeText mode ++ bytes → length text ≤ byteLimit
-    → withTables mode (tablesOf pairLimit 0 2 bytes) .next ≡ goesOn line rest
-    → BundleAsText text (withTables mode (tablesOf pairLimit 0 2 bytes)) rest
+    → withTables mode (tablesOf cataloguePairLimit 0 2 bytes) .next ≡ goesOn line rest
+    → BundleAsText text (withTables mode (tablesOf cataloguePairLimit 0 2 bytes)) rest
 unfolding bundleText
 tables-then-nodes mode text bytes line rest small is short e = go (found .next) refl e
   where
     found : Tables
-    found = tablesOf pairLimit 0 2 bytes
+    found = tablesOf cataloguePairLimit 0 2 bytes
 
     go : (next : Next) → found .next ≡ next → nodesAfter next .next ≡ goesOn line rest
         → BundleAsText text (withTables mode found) rest
     go (goesOn line′ bytes′) stands e =
-        let ts : TablesAsText pairLimit 0 bytes found bytes′ = tablesOf-text pairLimit 0 2 bytes line′ bytes′ stands in
-        let ws : List ℕ = nodesOf nodeLimit line′ bytes′ .words in
-        let ns : NodesAsText nodeLimit line′ bytes′ (nodesOf nodeLimit line′ bytes′) line rest = nodesOf-text nodeLimit line′ bytes′ line rest e in
-        let count : length ws / nodeSize ≡ ns .nodes = omega (arith, ns .many) in
+        let ts : TablesAsText cataloguePairLimit 0 bytes found bytes′ = tablesOf-text cataloguePairLimit 0 2 bytes line′ bytes′ stands in
+        let ws : List ℕ = nodesOf questionNodeLimit line′ bytes′ .words in
+        let ns : NodesAsText questionNodeLimit line′ bytes′ (nodesOf questionNodeLimit line′ bytes′) line rest = nodesOf-text questionNodeLimit line′ bytes′ line rest e in
+        let count : length ws / questionNodeWords ≡ ns .nodes = omega (arith, ns .many) in
         let cs : List ℕ = found .catalogue in
         let tablesAs : List ℕ = tablesText cs (found .tables) in
         rw stands
         (record {
           ended = ns .ended;
           text-is =
-              append-assoc (modeText mode) tablesAs (linesText nodeKey nodeSize (length ws / nodeSize) ws)
-              ∙ ap (λ (k : ℕ). modeText mode ++ (tablesAs ++ linesText nodeKey nodeSize k ws)) count
+              append-assoc (modeText mode) tablesAs (linesText nodeKey questionNodeWords (length ws / questionNodeWords) ws)
+              ∙ ap (λ (k : ℕ). modeText mode ++ (tablesAs ++ linesText nodeKey questionNodeWords k ws)) count
               ∙ ap (λ (tail : List ℕ). modeText mode ++ (tablesAs ++ tail)) (sym (ns .text))
               ∙ ap (λ (tail : List ℕ). modeText mode ++ tail) (sym (ts .text))
               ∙ sym is;
@@ -468,11 +469,11 @@ unfolding reading linesOf
 reading-text text line rest e = sized (ltb byteLimit (length text)) refl e
   where
     moded : (plain short : Bool) → begins plainLine text ≡ plain → begins shortLine text ≡ short → length text ≤ byteLimit
-        → cond plain (withTables 0 (tablesOf pairLimit 0 2 (drop (length plainLine) text)))
-        (cond short (withTables 1 (tablesOf pairLimit 0 2 (drop (length shortLine) text))) (noBundle 1)) .next ≡ goesOn line rest
+        → cond plain (withTables 0 (tablesOf cataloguePairLimit 0 2 (drop (length plainLine) text)))
+        (cond short (withTables 1 (tablesOf cataloguePairLimit 0 2 (drop (length shortLine) text))) (noBundle 1)) .next ≡ goesOn line rest
         → BundleAsText text
-        (cond plain (withTables 0 (tablesOf pairLimit 0 2 (drop (length plainLine) text)))
-        (cond short (withTables 1 (tablesOf pairLimit 0 2 (drop (length shortLine) text))) (noBundle 1))) rest
+        (cond plain (withTables 0 (tablesOf cataloguePairLimit 0 2 (drop (length plainLine) text)))
+        (cond short (withTables 1 (tablesOf cataloguePairLimit 0 2 (drop (length shortLine) text))) (noBundle 1))) rest
     moded true short p s fits e =
         tables-then-nodes 0 text (drop (length plainLine) text) line rest (omega arith) (begins-text plainLine text p) fits e
     moded false true p s fits e =

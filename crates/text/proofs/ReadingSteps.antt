@@ -9,7 +9,8 @@ use lib.Dec.{leb, eqb}
 use lib.ListN.{length, getD, drop, drop-of-length-le}
 use lib.Seq.{drop-cons, drop-drop}
 use borrow.Author.Tests.{leb-true}
-use Rattle.text.specs.Limits.{greatestNumber, nodeSize}
+use Rattle.relations.specs.Limits.{questionNodeWords}
+use Rattle.text.specs.Limits.{greatestNumber}
 use Rattle.text.specs.Catalogue.{catalogueWords}
 use Rattle.text.specs.Marks.{zeroDigit, digit, separator, relationKey, nodeKey}
 use Rattle.text.proofs.Tests.{both-first, both-second}
@@ -115,7 +116,7 @@ tables-done zero total line bytes h = refl
 tables-done (suc more) total line bytes h = absurd (omega arith)
 
 pub nodes-step : (left line : ℕ) (bytes : List ℕ) → 0 < left
-    → nodesOf left line bytes ≡ andThen (keyedLine nodeKey nodeSize line bytes) (λ after rest. unlessEnded after rest (nodesOf (left - 1) after rest))
+    → nodesOf left line bytes ≡ andThen (keyedLine nodeKey questionNodeWords line bytes) (λ after rest. unlessEnded after rest (nodesOf (left - 1) after rest))
 unfolding nodesOf
 nodes-step zero line bytes h = absurd (omega arith)
 nodes-step (suc more) line bytes h = let e : suc more - 1 ≡ more = omega arith in rw e

@@ -7,7 +7,7 @@ use native.Mathlib.Omega.{arith}
 use lib.Dec.{leb}
 use lib.ListN.{length, drop}
 use lib.Seq.{drop-drop}
-use Rattle.text.specs.Limits.{wordLimit}
+use Rattle.relations.specs.Limits.{wordLimit}
 use Rattle.text.specs.Catalogue.{pairOk}
 use Rattle.text.specs.Marks.{lineFeed, space, relationKey}
 use Rattle.text.specs.Reading.{value, noNumber, numberThen, Relation, relation, noRelation, withRows, withColumns, relationOf, rowsOf, tableOf}

@@ -6,7 +6,8 @@ use mathlib.Core.List.{List}
 use mathlib.Core.Bool.{Bool, true, false, cond}
 use native.Mathlib.Omega.{arith}
 use lib.ListN.{length}
-use Rattle.text.specs.Limits.{pairLimit, wordLimit, nodeLimit, nodeSize}
+use Rattle.relations.specs.Limits.{wordLimit, questionNodeLimit, questionNodeWords}
+use Rattle.text.specs.Limits.{cataloguePairLimit}
 use Rattle.text.specs.Reading.{Next, goesOn, wrongAt, reading}
 use Rattle.text.specs.ReadCall.{ReadNumbers, ReadOutcome, readRefused, bundleOutcome, smallBuffers, readNumbers, readOutcome}
 use Rattle.text.specs.WriteCall.{WriteOutcome, writeNumbers, writeOutcome}
@@ -19,9 +20,9 @@ use Rattle.text.proofs.ReadingLaws.{reading-text}
 use Rattle.text.proofs.RoundTrip.{write-accepts, write-accepted}
 
 pub record BundleNumbers (pairs words nodes : ℕ) : Type 0 where
-  pub few-pairs : 2 * pairs ≤ 2 * pairLimit
+  pub few-pairs : 2 * pairs ≤ 2 * cataloguePairLimit
   pub few-words : words ≤ wordLimit
-  pub few-nodes : nodeSize * nodes ≤ nodeSize * nodeLimit
+  pub few-nodes : questionNodeWords * nodes ≤ questionNodeWords * questionNodeLimit
 
 accepted-numbers : (text catalogue tables question : List ℕ) → readOutcome text catalogue tables question .numbers .status ≡ 0
     → BundleNumbers (readOutcome text catalogue tables question .numbers .pairs) (readOutcome text catalogue tables question .numbers .words) (readOutcome text catalogue tables question .numbers .nodes)

@@ -8,7 +8,8 @@ use lib.Dec.{leb, ltb}
 use lib.ListN.{length, take, drop}
 use lib.Seq.{sets, sets-eq, take-at}
 use borrow.Author.Tests.{leb-true, le-leb, ltb-false}
-use Rattle.text.specs.Limits.{pairLimit, wordLimit, nodeLimit, nodeSize, byteLimit}
+use Rattle.relations.specs.Limits.{wordLimit, questionNodeLimit, questionNodeWords}
+use Rattle.text.specs.Limits.{cataloguePairLimit, byteLimit}
 use Rattle.text.specs.Catalogue.{tablesOk}
 use Rattle.text.specs.Writing.{bundleText}
 use Rattle.text.specs.Reading.{Bundle, Next, goesOn, wrongAt, reading}
@@ -84,20 +85,20 @@ written-back text bundle rest catalogue tables question buffer line is large roo
     let ns : List ℕ = bundle .nodes in
     let good : GoodTables cs ts = good-tables cs ts (is .tables-ok) in
     let nodes : GoodNodes ns = good-nodes ns (is .nodes-ok) in
-    let noPairs : Bool = ltb (length catalogue) (2 * pairLimit) in
+    let noPairs : Bool = ltb (length catalogue) (2 * cataloguePairLimit) in
     let noWords : Bool = ltb (length tables) wordLimit in
-    let noNodes : Bool = ltb (length question) (nodeSize * nodeLimit) in
+    let noNodes : Bool = ltb (length question) (questionNodeWords * questionNodeLimit) in
     let first : (noPairs || noWords) ≡ false = neither-first (noPairs || noWords) noNodes large in
-    let pairs-room : 2 * pairLimit ≤ length catalogue = ltb-false (length catalogue) (2 * pairLimit) (neither-first noPairs noWords first) in
+    let pairs-room : 2 * cataloguePairLimit ≤ length catalogue = ltb-false (length catalogue) (2 * cataloguePairLimit) (neither-first noPairs noWords first) in
     let words-room : wordLimit ≤ length tables = ltb-false (length tables) wordLimit (neither-second noPairs noWords first) in
-    let nodes-room : nodeSize * nodeLimit ≤ length question =
-    ltb-false (length question) (nodeSize * nodeLimit) (neither-second (noPairs || noWords) noNodes large)
+    let nodes-room : questionNodeWords * questionNodeLimit ≤ length question =
+    ltb-false (length question) (questionNodeWords * questionNodeLimit) (neither-second (noPairs || noWords) noNodes large)
     in
     let same : bundleText (bundle .mode) cs ts ns ≡ text = is .text-is in
     rw (
       take-sets catalogue cs (2 * (length cs / 2)) (sym (pairs-even cs (good .pairs))) (omega arith),
       take-sets tables ts (length ts) refl (omega arith),
-      take-sets question ns (nodeSize * (length ns / nodeSize)) (omega arith) (omega arith),
+      take-sets question ns (questionNodeWords * (length ns / questionNodeWords)) (omega arith) (omega arith),
     )
     (write-accepts (bundle .mode) cs ts ns buffer (is .tables-ok) (is .nodes-ok) (rw same (is .short-text)) (rw same room)
     ∙ ap (λ (bytes : List ℕ). wrote bytes buffer) same)

@@ -10,7 +10,8 @@ use lib.Dec.{leb, eqb}
 use lib.ListN.{length, take, drop, take-append-drop, length-drop}
 use lib.Seq.{drop-append-seam, length-take-le, take-all}
 use borrow.Author.Tests.{le-ltb, le-leb, eq-eqb}
-use Rattle.text.specs.Limits.{pairLimit, wordLimit, nodeLimit, nodeSize, byteLimit}
+use Rattle.relations.specs.Limits.{wordLimit, questionNodeLimit, questionNodeWords}
+use Rattle.text.specs.Limits.{cataloguePairLimit, byteLimit}
 use Rattle.text.specs.Catalogue.{pairOk, pairsOk, catalogueWords, tablesOk}
 use Rattle.text.specs.Marks.{lineFeed, space, separator, plainLine, shortLine, relationKey, rowKey, nodeKey}
 use Rattle.text.specs.Writing.{decimal, numbersText, lineText, linesText, tablesText, modeText, bundleText}
@@ -182,58 +183,58 @@ tablesOf-of-text (suc count) total line (columns ∷ rows ∷ more) tables rest 
 
 -- Nodes.
 
-pub nodesOf-of-text : (count more line : ℕ) (words : List ℕ) → more < count → length words ≡ suc more * nodeSize → Words32 words
-    → nodesOf count line (linesText nodeKey nodeSize (suc more) words) ≡ readOf words (line + suc more) []
+pub nodesOf-of-text : (count more line : ℕ) (words : List ℕ) → more < count → length words ≡ suc more * questionNodeWords → Words32 words
+    → nodesOf count line (linesText nodeKey questionNodeWords (suc more) words) ≡ readOf words (line + suc more) []
 unfolding nodesOf linesText
 nodesOf-of-text zero more line words few many h = absurd (omega arith)
 nodesOf-of-text (suc count) zero line words few many h =
-    let first : List ℕ = take nodeSize words in
-    let size : length words ≡ nodeSize = omega arith in
-    let all : first ≡ words = take-all nodeSize words (omega arith) in
+    let first : List ℕ = take questionNodeWords words in
+    let size : length words ≡ questionNodeWords = omega arith in
+    let all : first ≡ words = take-all questionNodeWords words (omega arith) in
     let then : ℕ → List ℕ → Read = λ after bytes. unlessEnded after bytes (nodesOf count after bytes) in
     ap (λ (found : Read). andThen found then)
-    (keyedLine-of-text nodeKey nodeSize line first [] (ap length all ∙ size) (words32-take nodeSize words h))
+    (keyedLine-of-text nodeKey questionNodeWords line first [] (ap length all ∙ size) (words32-take questionNodeWords words h))
     ∙ ap (λ (ws : List ℕ). readOf ws (line + 1) []) (append-nil first ∙ all)
 nodesOf-of-text (suc count) (suc more) line words few many h =
-    let first : List ℕ = take nodeSize words in
-    let others : List ℕ = drop nodeSize words in
-    let wide : length first ≡ nodeSize = length-take-le nodeSize words (omega arith) in
-    let left : length others ≡ suc more * nodeSize = length-drop nodeSize words ∙ omega arith in
+    let first : List ℕ = take questionNodeWords words in
+    let others : List ℕ = drop questionNodeWords words in
+    let wide : length first ≡ questionNodeWords = length-take-le questionNodeWords words (omega arith) in
+    let left : length others ≡ suc more * questionNodeWords = length-drop questionNodeWords words ∙ omega arith in
     let then : ℕ → List ℕ → Read = λ after bytes. unlessEnded after bytes (nodesOf count after bytes) in
     let lines : line + 1 + suc more ≡ line + suc (suc more) = omega arith in
     ap (λ (found : Read). andThen found then)
-    (keyedLine-of-text nodeKey nodeSize line first (linesText nodeKey nodeSize (suc more) others) wide (words32-take nodeSize words h))
+    (keyedLine-of-text nodeKey questionNodeWords line first (linesText nodeKey questionNodeWords (suc more) others) wide (words32-take questionNodeWords words h))
     ∙ ap (λ (found : Read). record { words = first ++ found .words; next = found .next })
-    (nodesOf-of-text count more (line + 1) others (omega arith) left (words32-drop nodeSize words h))
+    (nodesOf-of-text count more (line + 1) others (omega arith) left (words32-drop questionNodeWords words h))
     ∙ ap (λ (after : ℕ). readOf (first ++ others) after []) lines
-    ∙ ap (λ (ws : List ℕ). readOf ws (line + suc (suc more)) []) (take-append-drop nodeSize words)
+    ∙ ap (λ (ws : List ℕ). readOf ws (line + suc (suc more)) []) (take-append-drop questionNodeWords words)
 
 -- The whole.
 
 -- a node line is no relation line
-nodes-no-relation : (more : ℕ) (words : List ℕ) → begins relationKey (linesText nodeKey nodeSize (suc more) words) ≡ false
+nodes-no-relation : (more : ℕ) (words : List ℕ) → begins relationKey (linesText nodeKey questionNodeWords (suc more) words) ≡ false
 unfolding linesText begins
 nodes-no-relation more words = refl
 
 -- the tables and the nodes, behind the mode line
-tables-and-nodes : (mode more : ℕ) (catalogue tables nodes : List ℕ) → tablesOk catalogue tables ≡ true → more < nodeLimit
-    → length nodes ≡ suc more * nodeSize → Words32 tables → Words32 nodes
-    → withTables mode (tablesOf pairLimit 0 2 (tablesText catalogue tables ++ linesText nodeKey nodeSize (suc more) nodes))
+tables-and-nodes : (mode more : ℕ) (catalogue tables nodes : List ℕ) → tablesOk catalogue tables ≡ true → more < questionNodeLimit
+    → length nodes ≡ suc more * questionNodeWords → Words32 tables → Words32 nodes
+    → withTables mode (tablesOf cataloguePairLimit 0 2 (tablesText catalogue tables ++ linesText nodeKey questionNodeWords (suc more) nodes))
     ≡ record { mode = mode; catalogue = catalogue; tables = tables; nodes = nodes; next = goesOn (2 + tableLines catalogue + suc more) [] }
 tables-and-nodes mode more catalogue tables nodes ok few many h k =
     let good : GoodTables catalogue tables = good-tables catalogue tables ok in
     ap (λ (found : Tables). withTables mode found)
-    (tablesOf-of-text pairLimit 0 2 catalogue tables (linesText nodeKey nodeSize (suc more) nodes) (good .few) (good .pairs)
+    (tablesOf-of-text cataloguePairLimit 0 2 catalogue tables (linesText nodeKey questionNodeWords (suc more) nodes) (good .few) (good .pairs)
     (omega arith) (good .sum) h (nodes-no-relation more nodes))
     ∙ ap (λ (found : Read). record { mode = mode; catalogue = catalogue; tables = tables; nodes = found .words; next = found .next })
-    (nodesOf-of-text nodeLimit more (2 + tableLines catalogue) nodes few many k)
+    (nodesOf-of-text questionNodeLimit more (2 + tableLines catalogue) nodes few many k)
 
 -- the mode line, before any bytes
-linesOf-mode : (mode : ℕ) (bytes : List ℕ) → linesOf (modeText mode ++ bytes) ≡ withTables (cond (eqb mode 0) 0 1) (tablesOf pairLimit 0 2 bytes)
+linesOf-mode : (mode : ℕ) (bytes : List ℕ) → linesOf (modeText mode ++ bytes) ≡ withTables (cond (eqb mode 0) 0 1) (tablesOf cataloguePairLimit 0 2 bytes)
 unfolding linesOf begins
 linesOf-mode mode bytes = go (eqb mode 0)
   where
-    go : (plain : Bool) → linesOf (cond plain plainLine shortLine ++ bytes) ≡ withTables (cond plain 0 1) (tablesOf pairLimit 0 2 bytes)
+    go : (plain : Bool) → linesOf (cond plain plainLine shortLine ++ bytes) ≡ withTables (cond plain 0 1) (tablesOf cataloguePairLimit 0 2 bytes)
     go true = refl
     go false = refl
 
@@ -244,11 +245,11 @@ pub reading-of-text : (mode : ℕ) (catalogue tables nodes : List ℕ) → table
 unfolding reading bundleText
 reading-of-text mode catalogue tables nodes ok nodes-ok h k short =
     let good : GoodNodes nodes = good-nodes nodes nodes-ok in
-    let more : ℕ = length nodes / nodeSize - 1 in
-    let count : length nodes / nodeSize ≡ suc more = omega arith in
-    let lines : List ℕ = linesText nodeKey nodeSize (suc more) nodes in
+    let more : ℕ = length nodes / questionNodeWords - 1 in
+    let count : length nodes / questionNodeWords ≡ suc more = omega arith in
+    let lines : List ℕ = linesText nodeKey questionNodeWords (suc more) nodes in
     rw (le-ltb byteLimit (length (bundleText mode catalogue tables nodes)) short)
     (ap (λ (text : List ℕ). linesOf text)
-    (append-assoc (modeText mode) (tablesText catalogue tables) (linesText nodeKey nodeSize (length nodes / nodeSize) nodes))
-    ∙ linesOf-mode mode (tablesText catalogue tables ++ linesText nodeKey nodeSize (length nodes / nodeSize) nodes)
+    (append-assoc (modeText mode) (tablesText catalogue tables) (linesText nodeKey questionNodeWords (length nodes / questionNodeWords) nodes))
+    ∙ linesOf-mode mode (tablesText catalogue tables ++ linesText nodeKey questionNodeWords (length nodes / questionNodeWords) nodes)
     ∙ rw count (tables-and-nodes (cond (eqb mode 0) 0 1) more catalogue tables nodes ok (omega arith) (omega arith) h k))

@@ -10,7 +10,7 @@ use lib.Dec.{eqb, ltb}
 use lib.ListN.{length, getD, take, drop, length-append, length-take, length-drop}
 use lib.Seq.{drop-cons, drop-drop, length-take-le}
 use borrow.Author.Tests.{lt-ltb}
-use Rattle.text.specs.Limits.{nodeSize, nodeLimit}
+use Rattle.relations.specs.Limits.{questionNodeWords, questionNodeLimit}
 use Rattle.text.specs.Marks.{zeroDigit, separator, plainLine, shortLine, relationKey, rowKey, nodeKey}
 use Rattle.text.specs.Catalogue.{pairOk, pairsOk, catalogueWords, tablesOk}
 use Rattle.text.specs.Writing.{digits, decimal, numbersText, linesText, tablesText, modeText, bundleText}
@@ -80,9 +80,9 @@ table-turn catalogue tables pair place columns rows h ok e f =
     }
 
 pub bundle-parts : (mode : ℕ) (catalogue tables nodes : List ℕ)
-    → bundleText mode catalogue tables nodes ≡ modeText mode ++ (tablesText catalogue tables ++ linesText nodeKey nodeSize (length nodes / nodeSize) nodes)
+    → bundleText mode catalogue tables nodes ≡ modeText mode ++ (tablesText catalogue tables ++ linesText nodeKey questionNodeWords (length nodes / questionNodeWords) nodes)
 unfolding bundleText
-bundle-parts mode catalogue tables nodes = append-assoc (modeText mode) (tablesText catalogue tables) (linesText nodeKey nodeSize (length nodes / nodeSize) nodes)
+bundle-parts mode catalogue tables nodes = append-assoc (modeText mode) (tablesText catalogue tables) (linesText nodeKey questionNodeWords (length nodes / questionNodeWords) nodes)
 
 -- How long a text can be.
 length-digits : (more n : ℕ) → length (digits more n) ≤ suc more
@@ -127,7 +127,7 @@ length-mode mode = go (eqb mode 0) where
   go true = refl
   go false = refl
 
-pub bundle-fits : (mode : ℕ) (catalogue tables nodes : List ℕ) → tablesOk catalogue tables ≡ true → length nodes / nodeSize ≤ nodeLimit
+pub bundle-fits : (mode : ℕ) (catalogue tables nodes : List ℕ) → tablesOk catalogue tables ≡ true → length nodes / questionNodeWords ≤ questionNodeLimit
     → length (bundleText mode catalogue tables nodes) ≤ furthest
 unfolding bundleText
 bundle-fits mode catalogue tables nodes ok few =
@@ -138,5 +138,5 @@ bundle-fits mode catalogue tables nodes ok few =
       length-tables catalogue tables (good .pairs),
       good .few,
       good .fits,
-      length-lines nodeKey nodeSize (length nodes / nodeSize) nodes,
+      length-lines nodeKey questionNodeWords (length nodes / questionNodeWords) nodes,
     ))

@@ -4,7 +4,8 @@ use mathlib.Core.Path.{_≡_}
 use mathlib.Core.List.{List}
 use lib.ListN.{length, drop}
 use lib.Seq.{sets}
-use Rattle.text.specs.Limits.{storedColumnLimit, rowLimit, wordLimit, nodeSize}
+use Rattle.relations.specs.Limits.{wordLimit, questionNodeWords}
+use Rattle.text.specs.Limits.{storedColumnLimit, rowLimit}
 use Rattle.text.specs.Catalogue.{catalogueWords}
 use Rattle.text.specs.Reading as reads
 use Rattle.text.specs.Reading.{value, noNumber, relation, noRelation, Next, goesOn, wrongAt, Read, Tables}
@@ -79,13 +80,13 @@ module _ (text : List ℕ) where
   -- nodes: those of a good reading are counted
   pub record NodesFound (found : Read) (before after : List ℕ) (answer : NodesRead) : Type 0 where
     pub means : found .next ≡ standing (answer .step)
-    pub counted : {line : ℕ} {bytes : List ℕ} → found .next ≡ goesOn line bytes → nodeSize * answer .nodes ≡ length (found .words)
+    pub counted : {line : ℕ} {bytes : List ℕ} → found .next ≡ goesOn line bytes → questionNodeWords * answer .nodes ≡ length (found .words)
     pub words : after ≡ sets before 0 (found .words)
 
 -- all lines: the numbers of a bundle, or the wrong line
 abbrev pub linesAnswer : reads.Bundle → Next → Lines
 linesAnswer bundle (goesOn line bytes) =
-    AllRead (bundle .mode) (length (bundle .catalogue) / 2) (length (bundle .tables)) (length (bundle .nodes) / nodeSize)
+    AllRead (bundle .mode) (length (bundle .catalogue) / 2) (length (bundle .tables)) (length (bundle .nodes) / questionNodeWords)
 linesAnswer bundle (wrongAt line) = WrongLine line
 
 pub record BundleFound (found : reads.Bundle) (catalogue₀ catalogue₁ tables₀ tables₁ question₀ question₁ : List ℕ) (answer : Lines) : Type 0 where

@@ -4,7 +4,8 @@ use mathlib.Core.List.{List, [], _∷_}
 use mathlib.Core.Bool.{Bool, true, false, cond, _&&_}
 use lib.ListN.{length}
 use lib.Dec.{leb, eqb}
-use Rattle.text.specs.Limits.{pairLimit, storedColumnLimit, rowLimit, wordLimit}
+use Rattle.relations.specs.Limits.{wordLimit}
+use Rattle.text.specs.Limits.{cataloguePairLimit, storedColumnLimit, rowLimit}
 use Rattle.text.specs.declared.catalogue.Judged.{Judged}
 use Rattle.text.specs.declared.catalogue.Judged.the-variants.{Words, Wrong}
 
@@ -25,7 +26,7 @@ catalogueWords (columns ∷ rows ∷ more) = columns * rows + catalogueWords mor
 
 -- "0 to 16 pairs", "at most 16,384 words in all"
 abbrev pub catalogueOk : List ℕ → Bool
-catalogueOk catalogue = leb (length catalogue) (2 * pairLimit) && pairsOk catalogue && leb (catalogueWords catalogue) wordLimit
+catalogueOk catalogue = leb (length catalogue) (2 * cataloguePairLimit) && pairsOk catalogue && leb (catalogueWords catalogue) wordLimit
 
 -- "their length is exactly the sum"
 abbrev pub tablesOk : List ℕ → List ℕ → Bool

@@ -5,7 +5,8 @@ use mathlib.Core.Bool.{Bool, cond, _||_}
 use lib.ListN.{length}
 use lib.Dec.{ltb}
 use lib.Seq.{sets}
-use Rattle.text.specs.Limits.{pairLimit, wordLimit, nodeLimit, nodeSize}
+use Rattle.relations.specs.Limits.{wordLimit, questionNodeLimit, questionNodeWords}
+use Rattle.text.specs.Limits.{cataloguePairLimit}
 use Rattle.text.specs.Reading.{Next, goesOn, wrongAt, reading}
 use Rattle.text.specs.Reading as reads
 use Rattle.text.specs.declared.bundle.Reading.{Reading}
@@ -54,7 +55,7 @@ module _ (catalogue tables question : List ℕ) where
               mode = bundle .mode;
               pairs = length (bundle .catalogue) / 2;
               words = length (bundle .tables);
-              nodes = length (bundle .nodes) / nodeSize;
+              nodes = length (bundle .nodes) / questionNodeWords;
             };
         catalogue = sets catalogue 0 (bundle .catalogue);
         tables = sets tables 0 (bundle .tables);
@@ -65,7 +66,7 @@ module _ (catalogue tables question : List ℕ) where
 -- "reading buffers under 32, 16,384, 384 words"
 abbrev pub smallBuffers : (catalogue tables question : List ℕ) → Bool
 smallBuffers catalogue tables question =
-    ltb (length catalogue) (2 * pairLimit) || ltb (length tables) wordLimit || ltb (length question) (nodeSize * nodeLimit)
+    ltb (length catalogue) (2 * cataloguePairLimit) || ltb (length tables) wordLimit || ltb (length question) (questionNodeWords * questionNodeLimit)
 
 -- "Read: 14, 12"
 unfoldable pub readOutcome : (text catalogue tables question : List ℕ) → ReadOutcome

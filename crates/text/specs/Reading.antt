@@ -6,7 +6,8 @@ use mathlib.Core.List.{List, [], _∷_, _++_}
 use mathlib.Core.Bool.{Bool, true, false, cond, _&&_}
 use lib.ListN.{length, drop}
 use lib.Dec.{leb, ltb, eqb}
-use Rattle.text.specs.Limits.{pairLimit, wordLimit, nodeLimit, nodeSize, byteLimit, greatestNumber}
+use Rattle.relations.specs.Limits.{wordLimit, questionNodeLimit, questionNodeWords}
+use Rattle.text.specs.Limits.{cataloguePairLimit, byteLimit, greatestNumber}
 use Rattle.text.specs.Catalogue.{pairOk, catalogueWords}
 use Rattle.text.specs.Marks.{lineFeed, space, zeroDigit, digit, separator, plainLine, shortLine, relationKey, rowKey, nodeKey}
 
@@ -145,7 +146,7 @@ unlessEnded line (byte ∷ bytes) more = more
 unfoldable pub nodesOf : (count line : ℕ) → List ℕ → Read
 nodesOf zero line bytes = nothing (wrongAt line)
 nodesOf (suc more) line bytes =
-    andThen (keyedLine nodeKey nodeSize line bytes) (λ after rest. unlessEnded after rest (nodesOf more after rest))
+    andThen (keyedLine nodeKey questionNodeWords line bytes) (λ after rest. unlessEnded after rest (nodesOf more after rest))
 
 -- The bundle: the lines "in this order".
 pub record Bundle : Type 0 where
@@ -159,7 +160,7 @@ abbrev pub noBundle : (line : ℕ) → Bundle
 noBundle line = record { mode = 0; catalogue = []; tables = []; nodes = []; next = wrongAt line }
 
 abbrev pub nodesAfter : Next → Read
-nodesAfter (goesOn line bytes) = nodesOf nodeLimit line bytes
+nodesAfter (goesOn line bytes) = nodesOf questionNodeLimit line bytes
 nodesAfter (wrongAt line) = nothing (wrongAt line)
 
 abbrev pub withTables : (mode : ℕ) → Tables → Bundle
@@ -174,8 +175,8 @@ withTables mode found =
 
 unfoldable pub linesOf : List ℕ → Bundle
 linesOf text =
-    cond (begins plainLine text) (withTables 0 (tablesOf pairLimit 0 2 (drop (length plainLine) text)))
-    (cond (begins shortLine text) (withTables 1 (tablesOf pairLimit 0 2 (drop (length shortLine) text)))
+    cond (begins plainLine text) (withTables 0 (tablesOf cataloguePairLimit 0 2 (drop (length plainLine) text)))
+    (cond (begins shortLine text) (withTables 1 (tablesOf cataloguePairLimit 0 2 (drop (length shortLine) text)))
     (noBundle 1))
 
 -- "At most 65,536 bytes (over: 12, place 0)"

@@ -7,7 +7,8 @@ use mathlib.Core.Bool.{true, false, cond}
 use lib.ListN.{length, take}
 use lib.Dec.{eqb}
 use lib.Seq.{sets}
-use Rattle.text.specs.Limits.{nodeSize, byteLimit, greatestNumber}
+use Rattle.relations.specs.Limits.{questionNodeWords}
+use Rattle.text.specs.Limits.{byteLimit, greatestNumber}
 use Rattle.text.specs.Catalogue.{tablesOk}
 use Rattle.text.specs.Writing.{bundleText}
 use Rattle.text.specs.Reading.{Bundle, goesOn, reading}
@@ -47,7 +48,7 @@ bundleOf mode catalogue tables nodes =
       catalogue = catalogue;
       tables = tables;
       nodes = nodes;
-      next = goesOn (2 + tableLines catalogue + length nodes / nodeSize) [];
+      next = goesOn (2 + tableLines catalogue + length nodes / questionNodeWords) [];
     }
 
 -- Calls.
@@ -67,7 +68,7 @@ foundBundle mode bundleCatalogue bundleTables bundleNodes catalogue tables quest
             mode = cond (eqb mode 0) 0 1;
             pairs = length bundleCatalogue / 2;
             words = length bundleTables;
-            nodes = length bundleNodes / nodeSize;
+            nodes = length bundleNodes / questionNodeWords;
           };
       catalogue = sets catalogue 0 bundleCatalogue;
       tables = sets tables 0 bundleTables;
@@ -78,7 +79,7 @@ foundBundle mode bundleCatalogue bundleTables bundleNodes catalogue tables quest
 abbrev pub writeBack : ReadOutcome → (buffer : List ℕ) → WriteOutcome
 writeBack read buffer =
     writeOutcome (read .numbers .mode) (take (2 * read .numbers .pairs) (read .catalogue)) (take (read .numbers .words) (read .tables))
-    (take (nodeSize * read .numbers .nodes) (read .question)) buffer
+    (take (questionNodeWords * read .numbers .nodes) (read .question)) buffer
 
 -- what `read` is handed of that which a call of `write` left: as many bytes as its numbers say
 abbrev pub readBack : WriteOutcome → (catalogue tables question : List ℕ) → ReadOutcome

@@ -5,7 +5,8 @@ use mathlib.Core.Bool.{Bool, cond, not, _&&_, _||_}
 use lib.ListN.{length}
 use lib.Dec.{leb, ltb, eqb}
 use lib.Seq.{sets}
-use Rattle.text.specs.Limits.{nodeLimit, nodeSize, byteLimit}
+use Rattle.relations.specs.Limits.{questionNodeLimit, questionNodeWords}
+use Rattle.text.specs.Limits.{byteLimit}
 use Rattle.text.specs.Catalogue.{tablesOk}
 use Rattle.text.specs.Writing.{bundleText}
 use Rattle.text.specs.declared.writing.Writing.{Writing}
@@ -34,7 +35,7 @@ pub record WriteOutcome : Type 0 where
 
 -- "node words not a multiple of 6, or 0 or over 64 nodes"
 abbrev pub nodesOk : List ℕ → Bool
-nodesOk nodes = eqb (length nodes % nodeSize) 0 && leb 1 (length nodes / nodeSize) && leb (length nodes / nodeSize) nodeLimit
+nodesOk nodes = eqb (length nodes % questionNodeWords) 0 && leb 1 (length nodes / questionNodeWords) && leb (length nodes / questionNodeWords) questionNodeLimit
 
 -- "text over its buffer or over 65,536 bytes"
 abbrev pub textFits : (bytes text : List ℕ) → Bool

@@ -4,7 +4,7 @@ use mathlib.Core.List.{List, [], _∷_, _++_}
 use mathlib.Core.Bool.{cond}
 use lib.ListN.{length, take, drop}
 use lib.Dec.{eqb, ltb}
-use Rattle.text.specs.Limits.{nodeSize}
+use Rattle.relations.specs.Limits.{questionNodeWords}
 use Rattle.text.specs.Marks.{zeroDigit, separator, plainLine, shortLine, relationKey, rowKey, nodeKey}
 
 -- "Numbers are decimal, no leading zeros": a number of at most `more` + 1 digits
@@ -43,4 +43,4 @@ modeText mode = cond (eqb mode 0) plainLine shortLine
 -- the lines "in this order"
 unfoldable pub bundleText : (mode : ℕ) (catalogue tables nodes : List ℕ) → List ℕ
 bundleText mode catalogue tables nodes =
-    modeText mode ++ tablesText catalogue tables ++ linesText nodeKey nodeSize (length nodes / nodeSize) nodes
+    modeText mode ++ tablesText catalogue tables ++ linesText nodeKey questionNodeWords (length nodes / questionNodeWords) nodes

@@ -3,7 +3,8 @@ ghost use mathlib.Core.Path.{_≡_};
 ghost use mathlib.Core.Bool.{true};
 ghost use Prim.Native.Nat.{_+_, _≤_, _<_};
 ghost use lib.ListN.{length, drop};
-ghost use Rattle.text.specs.Limits.{pairLimit, wordLimit, nodeLimit};
+ghost use Rattle.relations.specs.Limits.{wordLimit, questionNodeLimit};
+ghost use Rattle.text.specs.Limits.{cataloguePairLimit};
 ghost use Rattle.text.specs.Marks.{relationKey};
 ghost use Rattle.text.specs.Reading.{relationOf, begins, tableOf, tablesOf, nodesOf, withTables, linesOf};
 ghost use Rattle.text.specs.Answers.{Placed, RelationRead, TablesFound, NodesFound, linesAnswer, BundleFound};
@@ -106,7 +107,7 @@ fn read_table(
     catalogue: &mut [u32],
     tables: &mut [u32],
 ) -> TablesRead
-    requires { ⌜ (pairs < pairLimit) × (total ≤ wordLimit) × Placed (now text) start × (begins relationKey (drop (start .at) (now text)) ≡ true) ⌝ }
+    requires { ⌜ (pairs < cataloguePairLimit) × (total ≤ wordLimit) × Placed (now text) start × (begins relationKey (drop (start .at) (now text)) ≡ true) ⌝ }
     ensures { λ r. ⌜ TablesFound (now (text .entry)) (tableOf total (start .line) (drop (start .at) (now (text .entry)))) pairs total (now (catalogue .entry)) (now (catalogue .exit)) (now (tables .entry)) (now (tables .exit)) r ⌝ }
 {
     let line = start.line;
@@ -148,7 +149,7 @@ fn read_table(
 // The tables, as many as there are relation lines, up to the limit.
 fn read_tables(text: &[u8], start: Cursor, catalogue: &mut [u32], tables: &mut [u32]) -> TablesRead
     requires { ⌜ Placed (now text) start ⌝ }
-    ensures { λ r. ⌜ TablesFound (now (text .entry)) (tablesOf pairLimit 0 (start .line) (drop (start .at) (now (text .entry)))) 0 0 (now (catalogue .entry)) (now (catalogue .exit)) (now (tables .entry)) (now (tables .exit)) r ⌝ }
+    ensures { λ r. ⌜ TablesFound (now (text .entry)) (tablesOf cataloguePairLimit 0 (start .line) (drop (start .at) (now (text .entry)))) 0 0 (now (catalogue .entry)) (now (catalogue .exit)) (now (tables .entry)) (now (tables .exit)) r ⌝ }
 {
     let mut at = start.at;
     let mut line = start.line;
@@ -191,7 +192,7 @@ fn read_tables(text: &[u8], start: Cursor, catalogue: &mut [u32], tables: &mut [
 // The nodes, to the text's end.
 fn read_nodes(text: &[u8], start: Cursor, question: &mut [u32]) -> NodesRead
     requires { ⌜ Placed (now text) start ⌝ }
-    ensures { λ r. ⌜ NodesFound (now (text .entry)) (nodesOf nodeLimit (start .line) (drop (start .at) (now (text .entry)))) (now (question .entry)) (now (question .exit)) r ⌝ }
+    ensures { λ r. ⌜ NodesFound (now (text .entry)) (nodesOf questionNodeLimit (start .line) (drop (start .at) (now (text .entry)))) (now (question .entry)) (now (question .exit)) r ⌝ }
 {
     let mut at = start.at;
     let mut line = start.line;
@@ -240,7 +241,7 @@ fn read_behind_mode(
     question: &mut [u32],
 ) -> Lines
     requires { ⌜ (at ≤ length (now text)) × (1 ≤ at) ⌝ }
-    ensures { λ r. ⌜ BundleFound (withTables mode (tablesOf pairLimit 0 2 (drop at (now (text .entry))))) (now (catalogue .entry)) (now (catalogue .exit)) (now (tables .entry)) (now (tables .exit)) (now (question .entry)) (now (question .exit)) r ⌝ }
+    ensures { λ r. ⌜ BundleFound (withTables mode (tablesOf cataloguePairLimit 0 2 (drop at (now (text .entry))))) (now (catalogue .entry)) (now (catalogue .exit)) (now (tables .entry)) (now (tables .exit)) (now (question .entry)) (now (question .exit)) r ⌝ }
 {
     let read = read_tables(text, Cursor { at, line: 2 }, catalogue, tables);
     let step = read.step;

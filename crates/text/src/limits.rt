@@ -1,4 +1,4 @@
-// The limits of document 01 that text is judged by, one home for each (specs/Limits.antt says the same numbers).
+// The limits of document 01 that text is judged by, one home for each (specs/Limits.antt and the crate `relations` say the same numbers).
 
 // A catalogue has at most so many pairs; its tables at most so many words.
 pub const PAIRS: usize = 16;

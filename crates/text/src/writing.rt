@@ -3,7 +3,7 @@ ghost use mathlib.Core.Path.{_≡_};
 ghost use mathlib.Core.Bool.{true};
 ghost use Prim.Native.Nat.{_+_, _*_, _/_, _≤_};
 ghost use lib.ListN.{length, set, take, drop};
-ghost use Rattle.text.specs.Limits.{nodeSize, nodeLimit};
+ghost use Rattle.relations.specs.Limits.{questionNodeWords, questionNodeLimit};
 ghost use Rattle.text.specs.Catalogue.{pairsOk, catalogueWords, tablesOk};
 ghost use Rattle.text.specs.Writing.{decimal, numbersText, linesText, tablesText, modeText, bundleText};
 ghost use Rattle.text.specs.Put.{Put, furthest};
@@ -135,7 +135,7 @@ fn put_mode(text: &mut [u8], mode: u32) -> usize
 }
 
 fn put_bundle(mode: u32, catalogue: &[u32], tables: &[u32], nodes: &[u32], text: &mut [u8]) -> usize
-    requires { ⌜ (tablesOk (now catalogue) (now tables) ≡ true) × (length (now nodes) / nodeSize ≤ nodeLimit) ⌝ }
+    requires { ⌜ (tablesOk (now catalogue) (now tables) ≡ true) × (length (now nodes) / questionNodeWords ≤ questionNodeLimit) ⌝ }
     ensures { λ r. ⌜ Put 0 (bundleText mode (now (catalogue .entry)) (now (tables .entry)) (now (nodes .entry))) (now (text .entry)) (now (text .exit)) r ⌝ }
 {
     let tables_at = put_mode(text, mode);
@@ -153,7 +153,7 @@ fn put_bundle(mode: u32, catalogue: &[u32], tables: &[u32], nodes: &[u32], text:
 
 // The bytes of the bundle's text, with no buffer written.
 fn count_bytes(mode: u32, catalogue: &[u32], tables: &[u32], nodes: &[u32]) -> usize
-    requires { ⌜ (tablesOk (now catalogue) (now tables) ≡ true) × (length (now nodes) / nodeSize ≤ nodeLimit) ⌝ }
+    requires { ⌜ (tablesOk (now catalogue) (now tables) ≡ true) × (length (now nodes) / questionNodeWords ≤ questionNodeLimit) ⌝ }
     ensures { λ r. ⌜ r ≡ length (bundleText mode (now (catalogue .entry)) (now (tables .entry)) (now (nodes .entry))) ⌝ }
 {
     let mut text = [0u8; 1];

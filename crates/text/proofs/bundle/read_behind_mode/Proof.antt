@@ -2,7 +2,7 @@
 -- Assumes nothing.
 use Rattle.text.specs.declared.lines.Step.the-variants.{Next as Onward}
 use Rattle.text.proofs.ReadingLaws.{length-tables}
-use Rattle.text.specs.Limits.{pairLimit}
+use Rattle.text.specs.Limits.{cataloguePairLimit}
 use lib.ListN.{drop}
 use mathlib.Core.Path.{ap, _∙_}
 use Rattle.text.proofs.BundleLaws.{wrong-tables, wrong-nodes, bundle-found}
@@ -62,7 +62,7 @@ same-length-8 c = search needs
 returns-3 : tie.Need-returns-3
 returns-3 c = let t = c .before .before .before .before .before .before .before .before .before .before .before .before .before .before .before .before .before .before .before .before .args .text .now in let r = c .before .before .before .before .before .before .before .before .before .before .before .before .before .read-tables .ensures in
     bundle-found (c .before .before .before .before .before .before .before .before .before .before .before .before .before .before .before .before .before .before .before .before .args .mode) r (c .before .before .before .before .before .before .before .step2 .given .1) (c .before .before .before .before .read-nodes .ensures) (c .enum-told .given .1)
-    (length-tables pairLimit 0 2 (drop (c .before .before .before .before .before .before .before .before .before .before .before .before .before .before .before .before .before .before .before .before .args .at) t) _ _ (r .means ∙ ap (standing t) (c .before .before .before .before .before .before .before .step2 .given .1)))
+    (length-tables cataloguePairLimit 0 2 (drop (c .before .before .before .before .before .before .before .before .before .before .before .before .before .before .before .before .before .before .before .before .args .at) t) _ _ (r .means ∙ ap (standing t) (c .before .before .before .before .before .before .before .step2 .given .1)))
 
 pub read-behind-mode-spec : {M : Type 1} → statement M
 read-behind-mode-spec =

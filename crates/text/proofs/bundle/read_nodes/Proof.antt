@@ -6,7 +6,7 @@ use Rattle.text.proofs.ReadingSteps.{nodes-step, nodes-done, text-ended
 use Rattle.text.specs.Answers.{standing}
 use Rattle.text.specs.Reading.{Read, unlessEnded, nodesOf}
 use Rattle.text.specs.Marks.{nodeKey}
-use Rattle.text.specs.Limits.{nodeLimit, nodeSize}
+use Rattle.relations.specs.Limits.{questionNodeLimit, questionNodeWords}
 use lib.ListN.{length, drop}
 use mathlib.Core.Path.{_≡_, refl, sym, ap, _∙_}
 use Prim.Native.Nat.{ℕ, _≤_, _-_, _+_, _*_}
@@ -16,25 +16,25 @@ use Rattle.text.proofs.bundle.read_nodes.Statement.{statement}
 use Rattle.text.proofs.bundle.read_nodes.Tie as tie
 
 abbrev Inv-loop : tie.InvT-loop
-Inv-loop text question₀ at₀ line₀ nodes₀ t9 question at line nodes = (nodes ≤ nodeLimit) × (at ≤ length text) × (line ≤ at + 1) × (length question ≡ length question₀)
-    × Carries (nodesOf nodeLimit line₀ (drop at₀ text)) (nodesOf (nodeLimit - nodes) line (drop at text)) 0 (nodeSize * nodes) question₀ question
+Inv-loop text question₀ at₀ line₀ nodes₀ t9 question at line nodes = (nodes ≤ questionNodeLimit) × (at ≤ length text) × (line ≤ at + 1) × (length question ≡ length question₀)
+    × Carries (nodesOf questionNodeLimit line₀ (drop at₀ text)) (nodesOf (questionNodeLimit - nodes) line (drop at text)) 0 (questionNodeWords * nodes) question₀ question
 
 abbrev μ-loop : tie.MeasureT-loop
-μ-loop text question₀ at₀ line₀ nodes₀ t9 question at line nodes = nodeLimit - nodes
+μ-loop text question₀ at₀ line₀ nodes₀ t9 question at line nodes = questionNodeLimit - nodes
 
 -- the line that a turn of the loop has read, and its place
 one-node : (c : tie.After-known-told Inv-loop μ-loop)
-    → Carries (nodesOf nodeLimit (c .before .before .before .before .before .before .before .before .before .before .before .before .args .start .line) (drop (c .before .before .before .before .before .before .before .before .before .before .before .before .args .start .at) (c .before .before .before .before .before .before .before .before .before .before .before .before .args .text .now)))
+    → Carries (nodesOf questionNodeLimit (c .before .before .before .before .before .before .before .before .before .before .before .before .args .start .line) (drop (c .before .before .before .before .before .before .before .before .before .before .before .before .args .start .at) (c .before .before .before .before .before .before .before .before .before .before .before .before .args .text .now)))
     (unlessEnded (c .before .next .given .0 .0 .line) (drop (c .before .next .given .0 .0 .at) (c .before .before .before .before .before .before .before .before .before .before .before .before .args .text .now))
-    (nodesOf (nodeLimit - c .before .before .before .before .before .before .before .before .before .loop .nodes - 1) (c .before .next .given .0 .0 .line) (drop (c .before .next .given .0 .0 .at) (c .before .before .before .before .before .before .before .before .before .before .before .before .args .text .now))))
-    0 (nodeSize * c .before .before .before .before .before .before .before .before .before .loop .nodes + nodeSize) (c .before .before .before .before .before .before .before .before .before .before .before .before .args .question .now) (c .before .before .before .before .before .read-line .last .1 .1 .1 .1 .0)
+    (nodesOf (questionNodeLimit - c .before .before .before .before .before .before .before .before .before .loop .nodes - 1) (c .before .next .given .0 .0 .line) (drop (c .before .next .given .0 .0 .at) (c .before .before .before .before .before .before .before .before .before .before .before .before .args .text .now))))
+    0 (questionNodeWords * c .before .before .before .before .before .before .before .before .before .loop .nodes + questionNodeWords) (c .before .before .before .before .before .before .before .before .before .before .before .before .args .question .now) (c .before .before .before .before .before .read-line .last .1 .1 .1 .1 .0)
 one-node c =
     let l = c .before .before .before .before .before .before .before .before .before .loop in
     let t = c .before .before .before .before .before .before .before .before .before .before .before .before .args .text .now in
     let r = c .before .before .before .before .before .read-line .ensures in
-    carries-lines (l .inv .4) nodeSize (λ after rest. unlessEnded after rest (nodesOf (nodeLimit - l .nodes - 1) after rest))
-    (nodes-step (nodeLimit - l .nodes) (l .line) (drop (l .at) t) (omega arith)) r (c .before .next .given .1)
-    (keyedLine-length nodeKey nodeSize (l .line) (drop (l .at) t) _ _ (r .means ∙ ap (standing t) (c .before .next .given .1)))
+    carries-lines (l .inv .4) questionNodeWords (λ after rest. unlessEnded after rest (nodesOf (questionNodeLimit - l .nodes - 1) after rest))
+    (nodes-step (questionNodeLimit - l .nodes) (l .line) (drop (l .at) t) (omega arith)) r (c .before .next .given .1)
+    (keyedLine-length nodeKey questionNodeWords (l .line) (drop (l .at) t) _ _ (r .means ∙ ap (standing t) (c .before .next .given .1)))
 
 loop-holds : tie.Need-loop-holds Inv-loop μ-loop
 loop-holds c = (omega arith, c .before .before .pre .0, c .before .before .pre .1, refl, carries-start _ _ _)
@@ -59,7 +59,7 @@ same-length c = c .before .before .before .before .before .read-line .kept .1 .1
 
 returns : tie.Need-returns Inv-loop μ-loop
 returns c = let l = c .before .before .before .before .before .before .before .before .before .loop in let t = c .before .before .before .before .before .before .before .before .before .before .before .before .args .text .now in
-    let r = carries-off (l .inv .4) (λ after rest. unlessEnded after rest (nodesOf (nodeLimit - l .nodes - 1) after rest)) (nodes-step (nodeLimit - l .nodes) (l .line) (drop (l .at) t) (omega arith))
+    let r = carries-off (l .inv .4) (λ after rest. unlessEnded after rest (nodesOf (questionNodeLimit - l .nodes - 1) after rest)) (nodes-step (questionNodeLimit - l .nodes) (l .line) (drop (l .at) t) (omega arith))
     (c .before .before .before .before .before .read-line .ensures) (c .before .wrong .given .1) in
     record { means = r .means; counted = λ e. no-next (sym (r .means) ∙ e); words = r .words }
 
@@ -71,7 +71,7 @@ same-length-2 c = c .before .before .before .before .before .before .read-line .
 
 returns-2 : tie.Need-returns-2 Inv-loop μ-loop
 returns-2 c = let t = c .before .before .before .before .before .before .before .before .before .before .before .before .before .args .text .now in let k = c .before .before .next .given .0 .0 in let o = one-node (c .before) in
-    let ended = text-ended t (k .line) (k .at) (nodesOf (nodeLimit - c .before .before .before .before .before .before .before .before .before .before .loop .nodes - 1) (k .line) (drop (k .at) t)) (c .if1 .taken) in
+    let ended = text-ended t (k .line) (k .at) (nodesOf (questionNodeLimit - c .before .before .before .before .before .before .before .before .before .before .loop .nodes - 1) (k .line) (drop (k .at) t)) (c .if1 .taken) in
     let r = carries-done o {text = t} k ended (placed-at (c .before .before .before .before .before .before .read-line .ensures) (c .before .before .next .given .1)) in
     record { means = r .means; counted = λ e. omega (arith, o .counts, ap (λ (x : Read). length (x .words)) ended); words = r .words }
 
@@ -81,9 +81,9 @@ loop-less c = omega arith
 loop-again : tie.Need-loop-again Inv-loop μ-loop
 loop-again c = let t = c .before .before .before .before .before .before .before .before .before .before .before .before .before .args .text .now in let k = c .before .before .next .given .0 .0 in let l = c .before .before .before .before .before .before .before .before .before .before .loop in
     let placed = placed-at (c .before .before .before .before .before .before .read-line .ensures) (c .before .before .next .given .1) in
-    let on = carries-by (one-node (c .before)) (text-goes-on t (k .line) (k .at) (nodesOf (nodeLimit - l .nodes - 1) (k .line) (drop (k .at) t)) (c .if1 .left)) in
-    let left : nodeLimit - l .nodes - 1 ≡ nodeLimit - (l .nodes + 1) = omega arith in
-    let place : nodeSize * l .nodes + nodeSize ≡ nodeSize * (l .nodes + 1) = omega arith in
+    let on = carries-by (one-node (c .before)) (text-goes-on t (k .line) (k .at) (nodesOf (questionNodeLimit - l .nodes - 1) (k .line) (drop (k .at) t)) (c .if1 .left)) in
+    let left : questionNodeLimit - l .nodes - 1 ≡ questionNodeLimit - (l .nodes + 1) = omega arith in
+    let place : questionNodeWords * l .nodes + questionNodeWords ≡ questionNodeWords * (l .nodes + 1) = omega arith in
     (omega arith, placed .0, placed .1, c .before .before .before .before .before .before .read-line .kept .1 .1 .1 .1 .0 ∙ l .inv .3, rw (left, place) at on)
 
 same-length-3 : tie.Need-same-length-3 Inv-loop μ-loop
@@ -91,7 +91,7 @@ same-length-3 c = c .before .loop .inv .3
 
 returns-3 : tie.Need-returns-3 Inv-loop μ-loop
 returns-3 c = let l = c .before .loop in
-    let r = carries-wrong (l .inv .4) {text = c .before .before .before .before .args .text .now} (nodes-done (nodeLimit - l .nodes) (l .line) (drop (l .at) (c .before .before .before .before .args .text .now)) (omega arith)) in
+    let r = carries-wrong (l .inv .4) {text = c .before .before .before .before .args .text .now} (nodes-done (questionNodeLimit - l .nodes) (l .line) (drop (l .at) (c .before .before .before .before .args .text .now)) (omega arith)) in
     record { means = r .means; counted = λ e. no-next (sym (r .means) ∙ e); words = r .words }
 
 pub read-nodes-spec : {M : Type 1} → statement M

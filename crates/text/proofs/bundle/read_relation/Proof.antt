@@ -3,7 +3,7 @@
 use Rattle.text.proofs.Judgements.{good-pair}
 use Rattle.text.proofs.RelationLaws.{relation-found, no-rows, no-columns}
 use Rattle.text.proofs.Answered.{number-found, number-missing, value-as}
-use Rattle.text.specs.Limits.{wordLimit}
+use Rattle.relations.specs.Limits.{wordLimit}
 use borrow.Author.Tests.{lt-leb, le-leb}
 use lib.ListN.{drop}
 use mathlib.Core.Path.{sym, _∙_}

@@ -7,7 +7,8 @@ use Rattle.text.proofs.ReadingSteps.{tables-step, tables-done}
 use Rattle.text.specs.Answers.{standing, PlacedStep}
 use Rattle.text.specs.Reading.{tableOf, tablesOf}
 use Rattle.text.specs.Catalogue.{catalogueWords}
-use Rattle.text.specs.Limits.{pairLimit, wordLimit}
+use Rattle.relations.specs.Limits.{wordLimit}
+use Rattle.text.specs.Limits.{cataloguePairLimit}
 use lib.ListN.{length, drop}
 use mathlib.Core.Path.{_≡_, refl, sym, ap, _∙_}
 use Prim.Native.Nat.{ℕ, _≤_, _-_, _+_}
@@ -17,11 +18,11 @@ use Rattle.text.proofs.bundle.read_tables.Statement.{statement}
 use Rattle.text.proofs.bundle.read_tables.Tie as tie
 
 abbrev Inv-loop : tie.InvT-loop
-Inv-loop text catalogue₀ tables₀ at₀ line₀ pairs₀ words₀ t13 catalogue tables at line pairs words = (pairs ≤ pairLimit) × (words ≤ wordLimit) × (at ≤ length text) × (line ≤ at + 1) × (length catalogue ≡ length catalogue₀) × (length tables ≡ length tables₀)
-    × CarriesTables (tablesOf pairLimit 0 line₀ (drop at₀ text)) (tablesOf (pairLimit - pairs) words line (drop at text)) catalogue₀ catalogue tables₀ tables pairs words
+Inv-loop text catalogue₀ tables₀ at₀ line₀ pairs₀ words₀ t13 catalogue tables at line pairs words = (pairs ≤ cataloguePairLimit) × (words ≤ wordLimit) × (at ≤ length text) × (line ≤ at + 1) × (length catalogue ≡ length catalogue₀) × (length tables ≡ length tables₀)
+    × CarriesTables (tablesOf cataloguePairLimit 0 line₀ (drop at₀ text)) (tablesOf (cataloguePairLimit - pairs) words line (drop at text)) catalogue₀ catalogue tables₀ tables pairs words
 
 abbrev μ-loop : tie.MeasureT-loop
-μ-loop text catalogue₀ tables₀ at₀ line₀ pairs₀ words₀ t13 catalogue tables at line pairs words = pairLimit - pairs
+μ-loop text catalogue₀ tables₀ at₀ line₀ pairs₀ words₀ t13 catalogue tables at line pairs words = cataloguePairLimit - pairs
 
 -- the table that a turn of the loop has read
 one-table : (c : tie.After-known-told Inv-loop μ-loop)
@@ -57,9 +58,9 @@ loop-again : tie.Need-loop-again Inv-loop μ-loop
 loop-again c = let l = c .before .before .before .before .before .before .before .before .before .before .before .before .before .before .loop in let t = c .before .before .before .before .before .before .before .before .before .before .before .before .before .before .before .before .before .before .args .text .now in let bytes = drop (l .at) t in
     let r = c .before .before .before .before .before .before .before .read-table .ensures in let e = c .before .step .given .1 in
     let placed : PlacedStep t (Onward (c .before .step .given .0 .0)) = rw e at (r .placed) in
-    let left : pairLimit - l .pairs - 1 ≡ pairLimit - c .before .before .before .before .before .before .before .read-table .result .pairs = omega (arith, one-pair c, r .pairs-read) in
-    let carried = next-table (l .inv .6) (λ after rest. tablesOf (pairLimit - l .pairs - 1) (l .words + catalogueWords (tableOf (l .words) (l .line) bytes .catalogue)) after rest)
-    (tables-step (pairLimit - l .pairs) (l .words) (l .line) bytes (omega arith) ∙ rw (sym (c .before .before .before .before .before .before .before .before .before .before .before .begins-with .ensures) ∙ c .before .before .before .before .before .before .before .before .before .before .if1 .taken)) r e (one-table c) in (
+    let left : cataloguePairLimit - l .pairs - 1 ≡ cataloguePairLimit - c .before .before .before .before .before .before .before .read-table .result .pairs = omega (arith, one-pair c, r .pairs-read) in
+    let carried = next-table (l .inv .6) (λ after rest. tablesOf (cataloguePairLimit - l .pairs - 1) (l .words + catalogueWords (tableOf (l .words) (l .line) bytes .catalogue)) after rest)
+    (tables-step (cataloguePairLimit - l .pairs) (l .words) (l .line) bytes (omega arith) ∙ rw (sym (c .before .before .before .before .before .before .before .before .before .before .before .begins-with .ensures) ∙ c .before .before .before .before .before .before .before .before .before .before .if1 .taken)) r e (one-table c) in (
       omega (arith, one-pair c, r .pairs-read),
       r .within,
       placed .0,
@@ -80,8 +81,8 @@ same-length-2 c = c .before .before .before .before .before .before .before .rea
 
 returns : tie.Need-returns Inv-loop μ-loop
 returns c = let l = c .before .before .before .before .before .before .before .before .before .before .before .before .before .before .loop in let s = c .before .before .before .before .before .before .before .before .before .before .before .before .before .before .before .before .before .before in let bytes = drop (l .at) (s .args .text .now) in
-    wrong-table (l .inv .6) (λ after rest. tablesOf (pairLimit - l .pairs - 1) (l .words + catalogueWords (tableOf (l .words) (l .line) bytes .catalogue)) after rest)
-    (tables-step (pairLimit - l .pairs) (l .words) (l .line) bytes (omega arith) ∙ rw (sym (c .before .before .before .before .before .before .before .before .before .before .before .begins-with .ensures) ∙ c .before .before .before .before .before .before .before .before .before .before .if1 .taken))
+    wrong-table (l .inv .6) (λ after rest. tablesOf (cataloguePairLimit - l .pairs - 1) (l .words + catalogueWords (tableOf (l .words) (l .line) bytes .catalogue)) after rest)
+    (tables-step (cataloguePairLimit - l .pairs) (l .words) (l .line) bytes (omega arith) ∙ rw (sym (c .before .before .before .before .before .before .before .before .before .before .before .begins-with .ensures) ∙ c .before .before .before .before .before .before .before .before .before .before .if1 .taken))
     (c .before .before .before .before .before .before .before .read-table .ensures) (c .before .step2 .given .1)
 
 same-length-3 : tie.Need-same-length-3 Inv-loop μ-loop
@@ -93,7 +94,7 @@ same-length-4 c = c .before .before .before .before .loop .inv .5
 returns-2 : tie.Need-returns-2 Inv-loop μ-loop
 returns-2 c = let l = c .before .before .before .before .loop in let s = c .before .before .before .before .before .before .before .before in let bytes = drop (l .at) (s .args .text .now) in
     last-table (l .inv .6) (record { at = l .at; line = l .line })
-    (tables-step (pairLimit - l .pairs) (l .words) (l .line) bytes (omega arith) ∙ rw (sym (c .before .begins-with .ensures) ∙ c .if1 .left))
+    (tables-step (cataloguePairLimit - l .pairs) (l .words) (l .line) bytes (omega arith) ∙ rw (sym (c .before .begins-with .ensures) ∙ c .if1 .left))
     (l .inv .2, l .inv .3) (l .inv .1)
 
 same-length-5 : tie.Need-same-length-5 Inv-loop μ-loop
@@ -105,7 +106,7 @@ same-length-6 c = c .before .loop .inv .5
 returns-3 : tie.Need-returns-3 Inv-loop μ-loop
 returns-3 c = let l = c .before .loop in let s = c .before .before .before .before .before in
     last-table (l .inv .6) (record { at = l .at; line = l .line })
-    (tables-done (pairLimit - l .pairs) (l .words) (l .line) (drop (l .at) (s .args .text .now)) (omega arith)) (l .inv .2, l .inv .3) (l .inv .1)
+    (tables-done (cataloguePairLimit - l .pairs) (l .words) (l .line) (drop (l .at) (s .args .text .now)) (omega arith)) (l .inv .2, l .inv .3) (l .inv .1)
 
 pub read-tables-spec : {M : Type 1} → statement M
 read-tables-spec =

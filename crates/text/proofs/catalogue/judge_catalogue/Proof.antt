@@ -8,7 +8,8 @@ use mathlib.Core.List.{_∷_}
 use native.Mathlib.Omega.{arith}
 use borrow.Author.Tests.{le-leb, lt-leb}
 use lib.ListN.{length, drop}
-use Rattle.text.specs.Limits.{pairLimit, wordLimit}
+use Rattle.relations.specs.Limits.{wordLimit}
+use Rattle.text.specs.Limits.{cataloguePairLimit}
 use Rattle.text.specs.Catalogue.{pairOk, pairsOk, catalogueWords}
 use Rattle.text.proofs.Judgements.{good-pair}
 use Rattle.text.proofs.CatalogueLaws.{drop-pair, pairs-good, pairs-bad, pairs-odd, pairs-end, words-pair, words-end}
@@ -97,12 +98,12 @@ loop-again c =
 returns-2 : tie.Need-returns-2 Inv-loop μ-loop
 returns-2 c =
     let bad : pairOk (c .before .before .before .before .wide .result) (c .before .before .wide2 .result) ≡ false = sym (c .before .pair-ok .ensures) ∙ c .if2 .left in
-    simp (le-leb (length (c .before .before .before .before .before .before .before .before .before .before .args .catalogue .now)) (2 * pairLimit) (omega arith), c .before .before .before .before .before .before .before .loop .inv .2 ∙ pairs-bad (c .before .before .before .before .wide .result) (c .before .before .wide2 .result) _ _ (first-pair (c .before .before)) bad)
+    simp (le-leb (length (c .before .before .before .before .before .before .before .before .before .before .args .catalogue .now)) (2 * cataloguePairLimit) (omega arith), c .before .before .before .before .before .before .before .loop .inv .2 ∙ pairs-bad (c .before .before .before .before .wide .result) (c .before .before .wide2 .result) _ _ (first-pair (c .before .before)) bad)
 
 returns-3 : tie.Need-returns-3 Inv-loop μ-loop
 returns-3 c =
     let l = c .before .before .before .before .before .args .catalogue .now in
-    simp (le-leb (length l) (2 * pairLimit) (omega arith), c .before .before .loop .inv .2 ∙ pairs-odd l (c .before .before .loop .at) (omega arith) (omega arith))
+    simp (le-leb (length l) (2 * cataloguePairLimit) (omega arith), c .before .before .loop .inv .2 ∙ pairs-odd l (c .before .before .loop .at) (omega arith) (omega arith))
 
 -- behind the loop and refusals of the pairs: all pairs are ok, and all words are counted
 all-pairs : (c : lts.Else3 (wide-reads.Asked, wide-reads.Learnt, pair-ok-reads.Asked, pair-ok-reads.Learnt) reads.Pre reads.Post Inv-loop μ-loop)
@@ -115,11 +116,11 @@ all-words c = omega (arith, c .before .before .loop .inv .3, words-end (c .befor
 
 returns-4 : tie.Need-returns-4 Inv-loop μ-loop
 returns-4 c =
-    simp (le-leb (length (c .before .before .before .before .before .before .args .catalogue .now)) (2 * pairLimit) (omega arith), all-pairs (c .before), all-words (c .before), lt-leb (c .before .before .before .loop .words) wordLimit (omega arith))
+    simp (le-leb (length (c .before .before .before .before .before .before .args .catalogue .now)) (2 * cataloguePairLimit) (omega arith), all-pairs (c .before), all-words (c .before), lt-leb (c .before .before .before .loop .words) wordLimit (omega arith))
 
 returns-5 : tie.Need-returns-5 Inv-loop μ-loop
 returns-5 c =
-    simp (le-leb (length (c .before .before .before .before .before .before .args .catalogue .now)) (2 * pairLimit) (omega arith), all-pairs (c .before), all-words (c .before), le-leb (c .before .before .before .loop .words) wordLimit (omega arith))
+    simp (le-leb (length (c .before .before .before .before .before .before .args .catalogue .now)) (2 * cataloguePairLimit) (omega arith), all-pairs (c .before), all-words (c .before), le-leb (c .before .before .before .loop .words) wordLimit (omega arith))
 
 pub judge-catalogue-spec : {M : Type 1} → statement M
 judge-catalogue-spec =

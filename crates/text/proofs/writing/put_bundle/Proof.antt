@@ -7,7 +7,7 @@ use native.Mathlib.Nat.{mul-div-le}
 use native.Mathlib.Omega.{arith}
 use borrow.Author.Needs.{needs}
 use lib.ListN.{length}
-use Rattle.text.specs.Limits.{nodeSize}
+use Rattle.relations.specs.Limits.{questionNodeWords}
 use Rattle.text.specs.Marks.{nodeKey}
 use Rattle.text.specs.Writing.{linesText, tablesText, modeText, bundleText}
 use Rattle.text.specs.Put.{furthest}
@@ -35,7 +35,7 @@ abbrev tables : Start → List ℕ
 tables c = tablesText (c .args .catalogue .now) (c .args .tables .now)
 
 abbrev lines : Start → List ℕ
-lines c = linesText nodeKey nodeSize (length (c .args .nodes .now) / nodeSize) (c .args .nodes .now)
+lines c = linesText nodeKey questionNodeWords (length (c .args .nodes .now) / questionNodeWords) (c .args .nodes .now)
 
 fits : (c : Start) → 0 + length (all c) ≤ furthest
 fits c = omega (arith, bundle-fits (c .args .mode) (c .args .catalogue .now) (c .args .tables .now) (c .args .nodes .now) (c .pre .0) (c .pre .1))
@@ -64,7 +64,7 @@ slice-aggregate-put-lines c = search needs
 put-lines-requires : tie.Need-put-lines-requires
 put-lines-requires c κs =
     let start = c .before .before .before .before .before .before .before .before .before .before .before .before .before .before in
-    (omega (arith, mul-div-le (length (start .args .nodes .now)) nodeSize), put-fits (lines start) [] furthest (tabled (c .before .before .before .before)) (sym (append-nil (lines start))) (fits start))
+    (omega (arith, mul-div-le (length (start .args .nodes .now)) questionNodeWords), put-fits (lines start) [] furthest (tabled (c .before .before .before .before)) (sym (append-nil (lines start))) (fits start))
 
 same-length : tie.Need-same-length
 same-length c = search needs

@@ -7,7 +7,8 @@ use native.Mathlib.Omega.{arith}
 use borrow.Author.Needs.{needs}
 use borrow.Author.Tests.{not-true, not-false, eq-eqb, ne-eqb, le-leb, lt-leb}
 use lib.ListN.{length}
-use Rattle.text.specs.Limits.{nodeSize, nodeLimit, byteLimit}
+use Rattle.relations.specs.Limits.{questionNodeWords, questionNodeLimit}
+use Rattle.text.specs.Limits.{byteLimit}
 use Rattle.text.specs.Catalogue.{tablesOk}
 use Rattle.text.specs.Writing.{bundleText}
 use Rattle.text.specs.WriteCall.{nodesOk, writeOutcome}
@@ -29,7 +30,7 @@ tables-passed c = sym (c .before .tables-ok .ensures) ∙ not-false _ (c .if1 .l
 nodes-passed : (c : lts.Else4 calls reads.Pre reads.Post) → nodesOk (c .before .before .before .before .before .before .before .before .before .args .nodes .now) ≡ true
 nodes-passed c =
     let nodes = c .before .before .before .before .before .before .before .before .before .args .nodes .now in
-    simp (eq-eqb (length nodes % nodeSize) 0 (c .before .before .if2 .left), le-leb 1 (length nodes / nodeSize) (omega arith), le-leb (length nodes / nodeSize) nodeLimit (omega arith))
+    simp (eq-eqb (length nodes % questionNodeWords) 0 (c .before .before .if2 .left), le-leb 1 (length nodes / questionNodeWords) (omega arith), le-leb (length nodes / questionNodeWords) questionNodeLimit (omega arith))
 
 -- the number of bytes that `count_bytes` answers
 abbrev bytes : lts.After-count-bytes calls reads.Pre reads.Post → ℕ
@@ -44,19 +45,19 @@ returns c = simp (sym (c .before .tables-ok .ensures) ∙ not-true _ (c .if1 .ta
 
 returns-2 : tie.Need-returns-2
 unfolding writeOutcome
-returns-2 c = simp (tables-passed (c .before), ne-eqb (length (c .before .before .before .before .before .before .before .args .nodes .now) % nodeSize) 0 (c .if2 .taken))
+returns-2 c = simp (tables-passed (c .before), ne-eqb (length (c .before .before .before .before .before .before .before .args .nodes .now) % questionNodeWords) 0 (c .if2 .taken))
 
 returns-3 : tie.Need-returns-3
 unfolding writeOutcome
 returns-3 c =
     let nodes = c .before .before .before .before .before .before .before .before .args .nodes .now in
-    simp (tables-passed (c .before .before), eq-eqb (length nodes % nodeSize) 0 (c .before .if2 .left), lt-leb 1 (length nodes / nodeSize) (omega arith))
+    simp (tables-passed (c .before .before), eq-eqb (length nodes % questionNodeWords) 0 (c .before .if2 .left), lt-leb 1 (length nodes / questionNodeWords) (omega arith))
 
 returns-4 : tie.Need-returns-4
 unfolding writeOutcome
 returns-4 c =
     let nodes = c .before .before .before .before .before .before .before .before .before .args .nodes .now in
-    simp (tables-passed (c .before .before .before), eq-eqb (length nodes % nodeSize) 0 (c .before .before .if2 .left), le-leb 1 (length nodes / nodeSize) (omega arith), lt-leb (length nodes / nodeSize) nodeLimit (omega arith))
+    simp (tables-passed (c .before .before .before), eq-eqb (length nodes % questionNodeWords) 0 (c .before .before .if2 .left), le-leb 1 (length nodes / questionNodeWords) (omega arith), lt-leb (length nodes / questionNodeWords) questionNodeLimit (omega arith))
 
 count-bytes-requires : tie.Need-count-bytes-requires
 count-bytes-requires c κs = (tables-passed (c .before .before .before), omega arith)

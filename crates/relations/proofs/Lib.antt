@@ -1,0 +1,17 @@
+pub mod BoolLaws
+pub mod ListLaws
+pub mod RowLaws
+pub mod ValueLaws
+pub mod PlaceLaws
+pub mod ComparisonLaws
+pub mod MachineLaws
+pub mod OperationLaws
+pub mod OrderLaws
+pub mod CountZero
+pub mod WidthLaws
+pub mod LegalityLaws
+pub mod PlanWidths
+pub mod PlanNarrow
+pub mod PlanWordsBack
+pub mod PlanWordsOnly
+pub mod Examples

@@ -1,0 +1,38 @@
+-- The numbers that the documents fix. Nothing else names one of them by its digits.
+use Prim.Native.Nat.{ℕ, _-_}
+
+-- "No value is over 32 columns"; also the attributes of a project, the columns in scope, an alpha's width.
+abbrev pub columnLimit : ℕ
+columnLimit = 32
+
+-- "1 to 256 nodes of 36 words"
+abbrev pub planNodeLimit : ℕ
+planNodeLimit = 256
+
+abbrev pub planNodeWords : ℕ
+planNodeWords = 36
+
+-- op, left, right and count; the rest of a node is its list
+abbrev pub headWords : ℕ
+headWords = 4
+
+abbrev pub listWords : ℕ
+listWords = planNodeWords - headWords
+
+-- "count 0 to 8 triples", "1 to 8 pairs"
+abbrev pub tripleLimit : ℕ
+tripleLimit = 8
+
+abbrev pub pairLimit : ℕ
+pairLimit = 8
+
+-- "1 to 64 nodes of six words"
+abbrev pub questionNodeLimit : ℕ
+questionNodeLimit = 64
+
+abbrev pub questionNodeWords : ℕ
+questionNodeWords = 6
+
+-- "at most 16,384 words in all"; also the rows of a table and the capacity
+abbrev pub wordLimit : ℕ
+wordLimit = 16384
