@@ -22,16 +22,29 @@ Inv-loop text question₀ at₀ line₀ nodes₀ t9 question at line nodes = (no
 abbrev μ-loop : tie.MeasureT-loop
 μ-loop text question₀ at₀ line₀ nodes₀ t9 question at line nodes = questionNodeLimit - nodes
 
+-- the places of a turn of the loop: the function's start, the loop's head, and what the turn has read
+abbrev Turn : Type 0
+Turn = tie.After-known-told Inv-loop μ-loop
+
+abbrev start : Turn → tie.Start Inv-loop μ-loop
+start c = c .before .before .before .before .before .before .before .before .before .before .before .before
+
+abbrev head : Turn → tie.At-loop Inv-loop μ-loop
+head c = c .before .before .before .before .before .before .before .before .before
+
+abbrev line-read : Turn → tie.After-read-line Inv-loop μ-loop
+line-read c = c .before .before .before .before .before
+
 -- the line that a turn of the loop has read, and its place
-one-node : (c : tie.After-known-told Inv-loop μ-loop)
-    → Carries (nodesOf questionNodeLimit (c .before .before .before .before .before .before .before .before .before .before .before .before .args .start .line) (drop (c .before .before .before .before .before .before .before .before .before .before .before .before .args .start .at) (c .before .before .before .before .before .before .before .before .before .before .before .before .args .text .now)))
-    (unlessEnded (c .before .next .given .0 .0 .line) (drop (c .before .next .given .0 .0 .at) (c .before .before .before .before .before .before .before .before .before .before .before .before .args .text .now))
-    (nodesOf (questionNodeLimit - c .before .before .before .before .before .before .before .before .before .loop .nodes - 1) (c .before .next .given .0 .0 .line) (drop (c .before .next .given .0 .0 .at) (c .before .before .before .before .before .before .before .before .before .before .before .before .args .text .now))))
-    0 (questionNodeWords * c .before .before .before .before .before .before .before .before .before .loop .nodes + questionNodeWords) (c .before .before .before .before .before .before .before .before .before .before .before .before .args .question .now) (c .before .before .before .before .before .read-line .last .1 .1 .1 .1 .0)
+one-node : (c : Turn)
+    → Carries (nodesOf questionNodeLimit (start c .args .start .line) (drop (start c .args .start .at) (start c .args .text .now)))
+    (unlessEnded (c .before .next .given .0 .0 .line) (drop (c .before .next .given .0 .0 .at) (start c .args .text .now))
+    (nodesOf (questionNodeLimit - head c .loop .nodes - 1) (c .before .next .given .0 .0 .line) (drop (c .before .next .given .0 .0 .at) (start c .args .text .now))))
+    0 (questionNodeWords * head c .loop .nodes + questionNodeWords) (start c .args .question .now) (line-read c .read-line .last .1 .1 .1 .1 .0)
 one-node c =
-    let l = c .before .before .before .before .before .before .before .before .before .loop in
-    let t = c .before .before .before .before .before .before .before .before .before .before .before .before .args .text .now in
-    let r = c .before .before .before .before .before .read-line .ensures in
+    let l = head c .loop in
+    let t = start c .args .text .now in
+    let r = line-read c .read-line .ensures in
     carries-lines (l .inv .4) questionNodeWords (λ after rest. unlessEnded after rest (nodesOf (questionNodeLimit - l .nodes - 1) after rest))
     (nodes-step (questionNodeLimit - l .nodes) (l .line) (drop (l .at) t) (omega arith)) r (c .before .next .given .1)
     (keyedLine-length nodeKey questionNodeWords (l .line) (drop (l .at) t) _ _ (r .means ∙ ap (standing t) (c .before .next .given .1)))

@@ -24,16 +24,35 @@ Inv-loop text catalogue₀ tables₀ at₀ line₀ pairs₀ words₀ t13 catalog
 abbrev μ-loop : tie.MeasureT-loop
 μ-loop text catalogue₀ tables₀ at₀ line₀ pairs₀ words₀ t13 catalogue tables at line pairs words = cataloguePairLimit - pairs
 
--- the table that a turn of the loop has read
-one-table : (c : tie.After-known-told Inv-loop μ-loop)
-    → TableAsText (c .before .before .before .before .before .before .before .before .before .before .before .before .before .before .loop .words) (drop (c .before .before .before .before .before .before .before .before .before .before .before .before .before .before .loop .at) (c .before .before .before .before .before .before .before .before .before .before .before .before .before .before .before .before .before .before .args .text .now))
-    (tableOf (c .before .before .before .before .before .before .before .before .before .before .before .before .before .before .loop .words) (c .before .before .before .before .before .before .before .before .before .before .before .before .before .before .loop .line) (drop (c .before .before .before .before .before .before .before .before .before .before .before .before .before .before .loop .at) (c .before .before .before .before .before .before .before .before .before .before .before .before .before .before .before .before .before .before .args .text .now))) (drop (c .before .step .given .0 .0 .at) (c .before .before .before .before .before .before .before .before .before .before .before .before .before .before .before .before .before .before .args .text .now))
-one-table c =
-    tableOf-text (c .before .before .before .before .before .before .before .before .before .before .before .before .before .before .loop .words) (c .before .before .before .before .before .before .before .before .before .before .before .before .before .before .loop .line) (drop (c .before .before .before .before .before .before .before .before .before .before .before .before .before .before .loop .at) (c .before .before .before .before .before .before .before .before .before .before .before .before .before .before .before .before .before .before .args .text .now)) _ _
-    (sym (c .before .before .before .before .before .before .before .before .before .before .before .begins-with .ensures) ∙ c .before .before .before .before .before .before .before .before .before .before .if1 .taken) (c .before .before .before .before .before .before .before .read-table .ensures .means ∙ ap (standing (c .before .before .before .before .before .before .before .before .before .before .before .before .before .before .before .before .before .before .args .text .now)) (c .before .step .given .1))
+-- the places of a turn of the loop: the function's start, the loop's head, and what the turn has read
+abbrev Turn : Type 0
+Turn = tie.After-known-told Inv-loop μ-loop
 
-one-pair : (c : tie.After-known-told Inv-loop μ-loop)
-    → length (tableOf (c .before .before .before .before .before .before .before .before .before .before .before .before .before .before .loop .words) (c .before .before .before .before .before .before .before .before .before .before .before .before .before .before .loop .line) (drop (c .before .before .before .before .before .before .before .before .before .before .before .before .before .before .loop .at) (c .before .before .before .before .before .before .before .before .before .before .before .before .before .before .before .before .before .before .args .text .now)) .catalogue) ≡ 2
+abbrev start : Turn → tie.Start Inv-loop μ-loop
+start c = c .before .before .before .before .before .before .before .before .before .before .before .before .before .before .before .before .before .before
+
+abbrev head : Turn → tie.At-loop Inv-loop μ-loop
+head c = c .before .before .before .before .before .before .before .before .before .before .before .before .before .before
+
+abbrev key-read : Turn → tie.After-begins-with Inv-loop μ-loop
+key-read c = c .before .before .before .before .before .before .before .before .before .before .before
+
+abbrev key-seen : Turn → tie.Then1 Inv-loop μ-loop
+key-seen c = c .before .before .before .before .before .before .before .before .before .before
+
+abbrev table-read : Turn → tie.After-read-table Inv-loop μ-loop
+table-read c = c .before .before .before .before .before .before .before
+
+-- the table that a turn of the loop has read
+one-table : (c : Turn)
+    → TableAsText (head c .loop .words) (drop (head c .loop .at) (start c .args .text .now))
+    (tableOf (head c .loop .words) (head c .loop .line) (drop (head c .loop .at) (start c .args .text .now))) (drop (c .before .step .given .0 .0 .at) (start c .args .text .now))
+one-table c =
+    tableOf-text (head c .loop .words) (head c .loop .line) (drop (head c .loop .at) (start c .args .text .now)) _ _
+    (sym (key-read c .begins-with .ensures) ∙ key-seen c .if1 .taken) (table-read c .read-table .ensures .means ∙ ap (standing (start c .args .text .now)) (c .before .step .given .1))
+
+one-pair : (c : Turn)
+    → length (tableOf (head c .loop .words) (head c .loop .line) (drop (head c .loop .at) (start c .args .text .now)) .catalogue) ≡ 2
 one-pair c = ap length (one-table c .pair)
 
 loop-holds : tie.Need-loop-holds Inv-loop μ-loop
