@@ -1,0 +1,9 @@
+pub mod StoredLaws
+pub mod WordLaws
+pub mod ShapeLaws
+pub mod TripleLaws
+pub mod DecodeLaws
+pub mod ListedLaws
+pub mod LegalLaws
+pub mod JudgeLaws
+pub mod PlanTheorem

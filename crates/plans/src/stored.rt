@@ -1,0 +1,53 @@
+// The stored tables as the catalogue's pairs describe them: a relation's columns and rows, and where its words start.
+ghost use mathlib.Core.Path.{_≡_};
+ghost use Prim.Native.Nat.{_≤_};
+ghost use Rattle.relations.specs.Limits.{wordLimit};
+ghost use Rattle.plans.specs.Stored.{relationsOf, columnsOf, rowsOf, startOf};
+
+pub fn wide(word: u32) -> usize
+    ensures { λ r. ⌜ r ≡ word ⌝ }
+{
+    word as usize
+}
+
+pub fn relations_of(catalogue: &[u32]) -> usize
+    ensures { λ r. ⌜ r ≡ relationsOf (now (catalogue .entry)) ⌝ }
+{
+    catalogue.len() / 2
+}
+
+// 0 for an unknown relation.
+pub fn columns_of(catalogue: &[u32], relation: usize) -> usize
+    ensures { λ r. ⌜ r ≡ columnsOf (now (catalogue .entry)) relation ⌝ }
+{
+    if relation < catalogue.len() / 2 {
+        wide(catalogue[2 * relation])
+    } else {
+        0
+    }
+}
+
+// 0 for an unknown relation.
+pub fn rows_of(catalogue: &[u32], relation: usize) -> usize
+    ensures { λ r. ⌜ r ≡ rowsOf (now (catalogue .entry)) relation ⌝ }
+{
+    if relation < catalogue.len() / 2 {
+        wide(catalogue[2 * relation + 1])
+    } else {
+        0
+    }
+}
+
+// How many words of the tables stand before the relation's.
+pub fn start_of(catalogue: &[u32], relation: usize) -> usize
+    requires { ⌜ startOf (now catalogue) relation ≤ wordLimit ⌝ }
+    ensures { λ r. ⌜ r ≡ startOf (now (catalogue .entry)) relation ⌝ }
+{
+    let mut start = 0;
+    let mut passed = 0;
+    while passed < relation {
+        start += columns_of(catalogue, passed) * rows_of(catalogue, passed);
+        passed += 1;
+    }
+    start
+}
