@@ -1,9 +1,9 @@
 -- What 36 words are decoded to. The words of a node that reads are the node's own words, so its head words are its parts. Assumes nothing.
+use Prim.Native.Nat.{ℕ, _+_}
 use mathlib.Core.Path.{_≡_, refl, sym, ap, subst, _∙_}
-use mathlib.Core.Bool.{Bool, true, false, cond, _&&_, So}
+use mathlib.Core.Bool.{Bool, true, false, cond, _&&_, So, and-true}
 use mathlib.Core.List.{List}
 use mathlib.Core.Option.{Option, some, none, Option·map}
-use Prim.Native.Nat.{ℕ, _+_}
 use native.Mathlib.Omega.{arith}
 use lib.ListN.{getD, length, drop}
 use lib.Seq.{drop-drop, getD-drop}
@@ -14,17 +14,12 @@ use Rattle.relations.specs.Comparison.{operatorOf}
 use Rattle.relations.specs.Legality.{between}
 use Rattle.relations.specs.PlanWords.{readTriples, readParts, readKnown, readNode}
 use Rattle.relations.proofs.PlanWordsOnly.{words-and-back}
-use Rattle.plans.proofs.WordLaws.{getD-front}
-use Rattle.plans.proofs.TripleLaws.{ReadIf, operator-read, triples-read}
 use Rattle.plans.specs.Decoding.{spaced, operatorsKnown, operationIn, operationCode, fits, headIn, planNode, decoded}
 use Rattle.plans.specs.declared.nodes.Operation.{Operation}
 use Rattle.plans.specs.declared.nodes.PlanNode.{PlanNode}
-use Rattle.plans.specs.declared.nodes.Decoded.{Decoded}
 use Rattle.plans.specs.declared.nodes.Decoded.the-variants.{Node, Illegal}
-
-and-true : (b : Bool) → (b && true) ≡ b
-and-true true = refl
-and-true false = refl
+use Rattle.plans.proofs.WordLaws.{getD-front}
+use Rattle.plans.proofs.OperatorLaws.{ReadIf, operator-read, triples-read}
 
 operation-back : (operation : nodes.Operation) → operationOf (operationNumber operation) ≡ some operation
 operation-back loading = refl

@@ -1,9 +1,9 @@
 -- The judgement of one node, and of a plan from left to right. Assumes nothing.
+use Prim.Native.Nat.{ℕ, zero, suc, _+_, _-_, _/_, _%_, _≤_, _<_}
 use mathlib.Core.Path.{_≡_, refl, sym, ap, subst, _∙_}
-use mathlib.Core.Bool.{Bool, true, false, cond, _&&_}
+use mathlib.Core.Bool.{true, false}
 use mathlib.Core.List.{List, [], _∷_, _++_}
 use mathlib.Core.Option.{Option, some, none}
-use Prim.Native.Nat.{ℕ, zero, suc, _+_, _-_, _/_, _%_, _≤_, _<_}
 use native.Mathlib.Omega.{arith}
 use native.Mathlib.Numerals.{add-one}
 use lib.Dec.{leb}
@@ -22,9 +22,7 @@ use Rattle.plans.specs.Decoding.{planNode, decoded}
 use Rattle.plans.specs.Judging.{legalRead, judgedNode, onward, judgeNodes, judgement, widthOf, joinFits}
 use Rattle.plans.specs.declared.nodes.PlanNode.{PlanNode}
 use Rattle.plans.specs.declared.nodes.Decoded.the-variants.{Node, Illegal as NoNode}
-use Rattle.plans.specs.declared.judging.Width.{Width}
 use Rattle.plans.specs.declared.judging.Width.the-variants.{Of, Illegal as NoWidth}
-use Rattle.plans.specs.declared.judging.Judgement.{Judgement}
 use Rattle.plans.specs.declared.judging.Judgement.the-variants.{Legal, Illegal}
 use Rattle.plans.proofs.DecodeLaws.{Stands}
 

@@ -1,9 +1,9 @@
 -- Legality of a decoded node, asked of its words: an arm of `legal_node` for each law. Assumes nothing.
+use Prim.Native.Nat.{ℕ, _+_, _≤_}
 use mathlib.Core.Path.{_≡_, refl, sym, ap, ap₂, _∙_}
-use mathlib.Core.Bool.{Bool, true, false, cond, _&&_, So}
+use mathlib.Core.Bool.{Bool, _&&_, So, and-true}
 use mathlib.Core.List.{List, map}
 use mathlib.Core.Option.{Option, some, none, Option·map}
-use Prim.Native.Nat.{ℕ, _+_, _*_, _≤_}
 use native.Mathlib.Omega.{arith}
 use lib.Dec.{ltb, leb}
 use lib.ListN.{getD, length, take, drop, length-map, length-drop}
@@ -12,13 +12,13 @@ use borrow.Author.Tests.{le-leb}
 use Rattle.relations.specs.Limits.{columnLimit, tripleLimit, pairLimit, planNodeWords, headWords}
 use Rattle.relations.specs.Lists.{all}
 use Rattle.relations.specs.Comparison.{Operator, operatorOf}
-use Rattle.relations.specs.Columns.{Triple, attribute, constant, leftNumbers}
+use Rattle.relations.specs.Columns.{Triple, attribute, constant}
 use Rattle.relations.specs.Nodes as nodes
 use Rattle.relations.specs.Nodes.{join, semijoin, antijoin, selectConstant, selectAttribute}
 use Rattle.relations.specs.Plan.{widthAt}
-use Rattle.relations.specs.Legality.{between, inside, tripleInside, pairInside, distinct, lower, legalTriples, legalSides, legalNode}
-use Rattle.relations.specs.PlanWords.{shapeOf, readTriples, readPairs, readParts, readNode}
-use Rattle.plans.specs.Decoding.{spaced, operationIn, fits, decoded}
+use Rattle.relations.specs.Legality.{between, lower, legalTriples, legalSides}
+use Rattle.relations.specs.PlanWords.{shapeOf, readTriples, readParts, readNode}
+use Rattle.plans.specs.Decoding.{spaced, operationIn, fits}
 use Rattle.plans.specs.Judging.{legalRead, triplesLegal, pairsLegal}
 use Rattle.plans.specs.declared.nodes.Operation.{Operation}
 use Rattle.plans.specs.declared.nodes.Operation.the-variants.{Load, Project, SelectConstant, SelectAttribute, Join, Semijoin, Antijoin, Divide, Unite, Intersect, Subtract}
@@ -28,10 +28,6 @@ use Rattle.plans.proofs.WordLaws.{getD-front}
 use Rattle.plans.proofs.ShapeLaws.{count-least, count-most}
 use Rattle.plans.proofs.ListedLaws.{attributes-inside, triples-are, triples-inside, pairs-many, pairs-lefts, pairs-inside}
 use Rattle.plans.proofs.DecodeLaws.{Stands}
-
-and-true : (b : Bool) → (b && true) ≡ b
-and-true true = refl
-and-true false = refl
 
 -- the thing that something read was made of
 made-of : {A : Type 0} (make : A → nodes.Node) (read : Option A) (node : nodes.Node) → Option·map make read ≡ some node → (found : A) × (read ≡ some found)

@@ -1,7 +1,7 @@
 pub mod StoredLaws
 pub mod WordLaws
 pub mod ShapeLaws
-pub mod TripleLaws
+pub mod OperatorLaws
 pub mod DecodeLaws
 pub mod ListedLaws
 pub mod LegalLaws

@@ -1,16 +1,16 @@
 -- A node's list, as attributes, triples and pairs: their numbers are words that stand apart by a step. Assumes nothing.
+use Prim.Native.Nat.{ℕ, zero, suc, _≤_}
 use mathlib.Core.Path.{_≡_, refl, sym, ap, ap₂, _∙_}
 use mathlib.Core.Bool.{Bool, true, false, _&&_}
 use mathlib.Core.List.{List, [], _∷_, map}
 use mathlib.Core.Option.{Option, some, none}
-use Prim.Native.Nat.{ℕ, zero, suc, _≤_}
 use native.Mathlib.Omega.{arith}
 use native.Mathlib.Nat.{le-of-suc-le-suc}
 use lib.ListN.{getD, length, take, drop}
 use lib.Seq.{drop-drop}
 use Rattle.relations.specs.Lists.{all}
 use Rattle.relations.specs.Comparison.{Operator, operatorOf}
-use Rattle.relations.specs.Columns.{Attribute, Triple, Pair, attribute, leftNumbers}
+use Rattle.relations.specs.Columns.{Triple, attribute, leftNumbers}
 use Rattle.relations.specs.Legality.{between, inside, tripleInside, pairInside}
 use Rattle.relations.specs.PlanWords.{tripleBefore, readTriples, readPairs}
 use Rattle.relations.proofs.ListLaws.{all-test-map}

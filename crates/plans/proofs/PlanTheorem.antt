@@ -1,15 +1,15 @@
 -- Judged legal are exactly the words of legal plans. Node by node: words that read are a node's own words, and a legal node's words read back. Assumes nothing.
+use Prim.Native.Nat.{ℕ, zero, suc, _+_, _*_, _/_, _%_, _≤_}
 use mathlib.Core.Path.{_≡_, refl, sym, ap, ap₂, subst, _∙_}
 use mathlib.Core.Bool.{Bool, true, false, cond, _&&_, So}
 use mathlib.Core.List.{List, [], _∷_, _++_}
 use mathlib.Core.Option.{Option, some, none}
-use Prim.Native.Nat.{ℕ, zero, suc, _+_, _*_, _/_, _%_, _≤_}
 use native.Mathlib.Omega.{arith}
-use native.Mathlib.Nat.{suc-mul, div-add-mod', add-suc, suc-add, zero-add, add-zero}
-use lib.Dec.{leb, eqb}
+use native.Mathlib.Nat.{suc-mul, div-add-mod', zero-add, add-zero}
+use lib.Dec.{eqb}
 use lib.ListN.{length, take, drop, length-append, length-drop, take-append-drop}
 use lib.Seq.{length-take-le, take-at, drop-at}
-use borrow.Author.Tests.{eqb-true, eq-eqb, le-leb}
+use borrow.Author.Tests.{eqb-true, eq-eqb}
 use Rattle.relations.specs.Limits.{columnLimit, tripleLimit, pairLimit, planNodeLimit, planNodeWords}
 use Rattle.relations.specs.Lists.{flat}
 use Rattle.relations.specs.Nodes as nodes
@@ -18,11 +18,10 @@ use Rattle.relations.specs.Plan.{widthOfNode}
 use Rattle.relations.specs.Legality.{between, legalNode, legalNodes, legalPlan}
 use Rattle.relations.specs.PlanWords.{nodeWords, countFits, readNode}
 use Rattle.relations.proofs.BoolLaws.{and-left, and-right, and-both}
-use Rattle.relations.proofs.LegalityLaws.{LegalFacts, legal-facts, between-so, so-between}
+use Rattle.relations.proofs.LegalityLaws.{LegalFacts, legal-facts, between-so}
 use Rattle.relations.proofs.PlanWordsOnly.{words-and-back}
 use Rattle.plans.specs.Stored.{relationsOf, columnsOf}
-use Rattle.plans.specs.Judging.{judgedNode, onward, judgeNodes, judgement, readBefore, nodesIn, nodesOf, JudgedExactly}
-use Rattle.plans.specs.declared.judging.Width.{Width}
+use Rattle.plans.specs.Judging.{judgedNode, onward, judgeNodes, judgement, nodesIn, nodesOf, JudgedExactly}
 use Rattle.plans.specs.declared.judging.Width.the-variants.{Of, Illegal as NoWidth}
 use Rattle.plans.specs.declared.judging.Judgement.{Judgement}
 use Rattle.plans.specs.declared.judging.Judgement.the-variants.{Legal, Illegal}

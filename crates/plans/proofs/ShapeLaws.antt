@@ -1,8 +1,8 @@
 -- A node's words against its operation's shape: each of the decoder's tests, and the room that the list then has. Assumes nothing.
-use mathlib.Core.Path.{_≡_, refl, sym, ap, subst, _∙_}
-use mathlib.Core.Bool.{Bool, true, false, _&&_, _||_, So}
-use mathlib.Core.List.{List}
 use Prim.Native.Nat.{ℕ, _+_, _*_, _≤_, _<_}
+use mathlib.Core.Path.{_≡_, sym, ap, _∙_}
+use mathlib.Core.Bool.{false, _&&_, _||_, So, and-false}
+use mathlib.Core.List.{List}
 use native.Mathlib.Omega.{arith}
 use lib.Dec.{leb, eqb}
 use lib.ListN.{getD, drop}
@@ -17,10 +17,6 @@ use Rattle.relations.proofs.BoolLaws.{and-left, and-right}
 use Rattle.relations.proofs.PlanWordsBack.{shape-room}
 use Rattle.plans.specs.Decoding.{shapeIn, fits}
 use Rattle.plans.specs.declared.nodes.Shape.{Shape}
-
-and-false : (a : Bool) → (a && false) ≡ false
-and-false true = refl
-and-false false = refl
 
 -- the shape that the code found for the operation, and the count that it read
 module _ (operation : Operation) (shape : Shape) (is : shapeIn shape ≡ shapeOf operation) (words : List ℕ) (count : ℕ) (read : count ≡ getD words 3 0) where

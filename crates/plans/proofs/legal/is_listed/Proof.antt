@@ -1,17 +1,16 @@
-use lib.Dec.{eqb}
-use borrow.Author.Tests.{eq-eqb, ne-eqb}
-use Rattle.plans.proofs.WordLaws.{any-onward, any-stopped, any-ended}
-use Rattle.plans.specs.Decoding.{spaced}
-use Rattle.relations.specs.Columns.{listed}
-use lib.ListN.{length, drop}
-use mathlib.Core.Path.{_≡_, refl, sym, _∙_}
+-- `plans::legal::is_listed` meets its contract. The loop's invariant: the number is listed if it is among the `left` attributes from `at` on. The measure is `left`.
+-- Assumes nothing.
 use Prim.Native.Nat.{_<_, _+_, _*_}
-use borrow.Author.Needs.{needs}
+use mathlib.Core.Path.{_≡_, refl, sym, _∙_}
 use native.Mathlib.Omega.{arith}
+use lib.Dec.{eqb}
+use lib.ListN.{length, drop}
+use borrow.Author.Tests.{eq-eqb, ne-eqb}
+use Rattle.relations.specs.Columns.{listed}
+use Rattle.plans.specs.Decoding.{spaced}
+use Rattle.plans.proofs.WordLaws.{any-onward, any-stopped, any-ended}
 use Rattle.plans.proofs.legal.is_listed.Statement.{statement}
 use Rattle.plans.proofs.legal.is_listed.Tie as tie
-use Rattle.plans.proofs.legal.is_listed.Reads as reads
-use Rattle.plans.proofs.legal.is_listed.Lts as lts
 
 abbrev Inv-loop : tie.InvT-loop
 Inv-loop number words from count at₀ left₀ at left = (at + 2 * left < length words + 2) × (listed number (spaced 2 count (drop from words)) ≡ listed number (spaced 2 left (drop at words)))
@@ -19,39 +18,30 @@ Inv-loop number words from count at₀ left₀ at left = (at + 2 * left < length
 abbrev μ-loop : tie.MeasureT-loop
 μ-loop number words from count at₀ left₀ at left = left
 
--- src/legal.rt:73:5
 loop-holds : tie.Need-loop-holds Inv-loop μ-loop
 loop-holds c = (c .pre, refl)
 
--- src/legal.rt:74:22
 mul-if1 : tie.Need-mul-if1 Inv-loop μ-loop
 mul-if1 c = omega arith
 
--- src/legal.rt:74:22
 shared-slice-read-if1 : tie.Need-shared-slice-read-if1 Inv-loop μ-loop
 shared-slice-read-if1 c = omega arith
 
--- src/legal.rt:75:13
 returns : tie.Need-returns Inv-loop μ-loop
 returns c = sym (c .before .before .before .loop .inv .1 ∙ any-stopped (eqb (c .before .before .before .before .args .number)) 2 (c .before .before .before .loop .left) (c .before .before .before .before .args .words .now) (c .before .before .before .loop .at) (omega arith) (eq-eqb _ _ (c .if1 .taken)))
 
--- src/legal.rt:77:9
 sub-left : tie.Need-sub-left Inv-loop μ-loop
 sub-left c = omega arith
 
--- src/legal.rt:78:9
 add-at : tie.Need-add-at Inv-loop μ-loop
 add-at c = omega arith
 
--- src/legal.rt:73:5
 loop-less : tie.Need-loop-less Inv-loop μ-loop
 loop-less c = omega arith
 
--- src/legal.rt:73:5
 loop-again : tie.Need-loop-again Inv-loop μ-loop
 loop-again c = (omega arith, c .before .before .before .loop .inv .1 ∙ any-onward (eqb (c .before .before .before .before .args .number)) 2 (c .before .before .before .loop .left) (c .before .before .before .before .args .words .now) (c .before .before .before .loop .at) (omega arith) (ne-eqb _ _ (c .if1 .left)))
 
--- src/legal.rt:67:1
 returns-2 : tie.Need-returns-2 Inv-loop μ-loop
 returns-2 c = sym (c .before .loop .inv .1 ∙ any-ended (eqb (c .before .before .args .number)) 2 (c .before .loop .left) (c .before .before .args .words .now) (c .before .loop .at) (omega arith))
 

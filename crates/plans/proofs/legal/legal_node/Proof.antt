@@ -1,10 +1,12 @@
-use Rattle.plans.proofs.LegalLaws.{count-within, legal-load, legal-project, legal-select-constant, legal-select-attribute, legal-join, legal-semijoin, legal-antijoin, legal-divide, legal-unite, legal-intersect, legal-subtract}
-use Rattle.plans.proofs.DecodeLaws.{Stands, stands}
-use Rattle.plans.specs.declared.nodes.Operation.the-variants.{Project, Join, Semijoin, Antijoin, Divide}
-use Rattle.plans.specs.Stored.{relationsOf}
+-- `plans::legal::legal_node` meets its contract: the node stands for what its words read as, and for each operation the tests of the words are its rule (LegalLaws).
+-- Assumes nothing.
 use mathlib.Core.Path.{sym}
 use native.Mathlib.Omega.{arith}
 use borrow.Author.Needs.{needs}
+use Rattle.plans.specs.declared.nodes.Operation.the-variants.{Project, Join, Semijoin, Antijoin, Divide}
+use Rattle.plans.specs.Stored.{relationsOf}
+use Rattle.plans.proofs.LegalLaws.{count-within, legal-load, legal-project, legal-select-constant, legal-select-attribute, legal-join, legal-semijoin, legal-antijoin, legal-divide, legal-unite, legal-intersect, legal-subtract}
+use Rattle.plans.proofs.DecodeLaws.{Stands, stands}
 use Rattle.plans.proofs.legal.legal_node.Statement.{statement}
 use Rattle.plans.proofs.legal.legal_node.Tie as tie
 use Rattle.plans.proofs.legal.legal_node.Reads as reads
@@ -21,151 +23,114 @@ use Rattle.plans.proofs.stored.relations_of.Reads as relations-of-reads
 stood : (s : lts.Start (width-at-reads.Asked, width-at-reads.Learnt, relations-of-reads.Asked, relations-of-reads.Learnt, within-reads.Asked, within-reads.Learnt, legal-triples-reads.Asked, legal-triples-reads.Learnt, narrow-reads.Asked, narrow-reads.Learnt, legal-division-reads.Asked, legal-division-reads.Learnt, legal-sides-reads.Asked, legal-sides-reads.Learnt) reads.Pre reads.Post) → Stands (s .args .words .now) (s .args .node)
 stood s = stands (s .args .words .now) (s .args .node) (s .pre .0) (s .pre .1)
 
--- src/legal.rt:173:9
 width-at-requires : tie.Need-width-at-requires
 width-at-requires c κs = search needs
 
--- src/legal.rt:176:35
 enum-told : tie.Need-enum-told
 enum-told c = search needs
 
--- src/legal.rt:176:35
 relations-of-requires : tie.Need-relations-of-requires
 relations-of-requires c κs = search needs
 
--- src/legal.rt:177:39
 enum-told-2 : tie.Need-enum-told-2
 enum-told-2 c = search needs
 
--- src/legal.rt:177:39
 within-requires : tie.Need-within-requires
 within-requires c κs = (omega arith, omega arith, omega (arith, count-within (relationsOf (c .before .before .before .before .before .before .args .catalogue .now)) (c .before .before .before .before .before .before .args .widths .now) (c .before .before .before .before .before .before .args .words .now) (c .before .before .before .before .before .before .args .node) (stood (c .before .before .before .before .before .before)) Project (c .enum-told2 .given .1) .1, c .before .before .before .before .before .before .pre .0))
 
--- src/legal.rt:178:46
 enum-told-3 : tie.Need-enum-told-3
 enum-told-3 c = search needs
 
--- src/legal.rt:178:46
 within-requires-2 : tie.Need-within-requires-2
 within-requires-2 c κs = search needs
 
--- src/legal.rt:181:20
 enum-told-4 : tie.Need-enum-told-4
 enum-told-4 c = search needs
 
--- src/legal.rt:181:20
 within-requires-3 : tie.Need-within-requires-3
 within-requires-3 c κs = search needs
 
--- src/legal.rt:182:37
 add-within : tie.Need-add-within
 add-within c = search needs
 
--- src/legal.rt:182:23
 within-requires-4 : tie.Need-within-requires-4
 within-requires-4 c κs = search needs
 
--- src/legal.rt:184:28
 enum-told-5 : tie.Need-enum-told-5
 enum-told-5 c = search needs
 
--- src/legal.rt:184:28
 legal-triples-requires : tie.Need-legal-triples-requires
 legal-triples-requires c κs = (c .before .before .before .before .before .before .pre .0, count-within (relationsOf (c .before .before .before .before .before .before .args .catalogue .now)) (c .before .before .before .before .before .before .args .widths .now) (c .before .before .before .before .before .before .args .words .now) (c .before .before .before .before .before .before .args .node) (stood (c .before .before .before .before .before .before)) Join (c .enum-told5 .given .1) .1)
 
--- src/legal.rt:184:65
 narrow-requires : tie.Need-narrow-requires
 narrow-requires c κs = search needs
 
--- src/legal.rt:185:32
 enum-told-6 : tie.Need-enum-told-6
 enum-told-6 c = search needs
 
--- src/legal.rt:185:32
 legal-triples-requires-2 : tie.Need-legal-triples-requires-2
 legal-triples-requires-2 c κs = (c .before .before .before .before .before .before .pre .0, count-within (relationsOf (c .before .before .before .before .before .before .args .catalogue .now)) (c .before .before .before .before .before .before .args .widths .now) (c .before .before .before .before .before .before .args .words .now) (c .before .before .before .before .before .before .args .node) (stood (c .before .before .before .before .before .before)) Semijoin (c .enum-told6 .given .1) .1)
 
--- src/legal.rt:186:32
 enum-told-7 : tie.Need-enum-told-7
 enum-told-7 c = search needs
 
--- src/legal.rt:186:32
 legal-triples-requires-3 : tie.Need-legal-triples-requires-3
 legal-triples-requires-3 c κs = (c .before .before .before .before .before .before .pre .0, count-within (relationsOf (c .before .before .before .before .before .before .args .catalogue .now)) (c .before .before .before .before .before .before .args .widths .now) (c .before .before .before .before .before .before .args .words .now) (c .before .before .before .before .before .before .args .node) (stood (c .before .before .before .before .before .before)) Antijoin (c .enum-told7 .given .1) .1)
 
--- src/legal.rt:187:30
 enum-told-8 : tie.Need-enum-told-8
 enum-told-8 c = search needs
 
--- src/legal.rt:187:30
 legal-division-requires : tie.Need-legal-division-requires
 legal-division-requires c κs = (c .before .before .before .before .before .before .pre .0, count-within (relationsOf (c .before .before .before .before .before .before .args .catalogue .now)) (c .before .before .before .before .before .before .args .widths .now) (c .before .before .before .before .before .before .args .words .now) (c .before .before .before .before .before .before .args .node) (stood (c .before .before .before .before .before .before)) Divide (c .enum-told8 .given .1) .1)
 
--- src/legal.rt:188:29
 enum-told-9 : tie.Need-enum-told-9
 enum-told-9 c = search needs
 
--- src/legal.rt:188:29
 legal-sides-requires : tie.Need-legal-sides-requires
 legal-sides-requires c κs = search needs
 
--- src/legal.rt:189:33
 enum-told-10 : tie.Need-enum-told-10
 enum-told-10 c = search needs
 
--- src/legal.rt:189:33
 legal-sides-requires-2 : tie.Need-legal-sides-requires-2
 legal-sides-requires-2 c κs = search needs
 
--- src/legal.rt:190:32
 enum-told-11 : tie.Need-enum-told-11
 enum-told-11 c = search needs
 
--- src/legal.rt:190:32
 legal-sides-requires-3 : tie.Need-legal-sides-requires-3
 legal-sides-requires-3 c κs = search needs
 
--- src/legal.rt:165:1
 returns : tie.Need-returns
 returns c = rw (c .relations-of .ensures) (sym (legal-load (relationsOf (c .before .before .before .before .before .before .before .args .catalogue .now)) (c .before .before .before .before .before .before .before .args .widths .now) (c .before .before .before .before .before .before .before .args .words .now) (c .before .before .before .before .before .before .before .args .node) (stood (c .before .before .before .before .before .before .before)) (c .before .enum-told .given .1)))
 
--- src/legal.rt:165:1
 returns-2 : tie.Need-returns-2
 returns-2 c = rw (c .within .ensures, c .before .before .before .width-at .ensures) (sym (legal-project (relationsOf (c .before .before .before .before .before .before .before .args .catalogue .now)) (c .before .before .before .before .before .before .before .args .widths .now) (c .before .before .before .before .before .before .before .args .words .now) (c .before .before .before .before .before .before .before .args .node) (stood (c .before .before .before .before .before .before .before)) (c .before .before .before .before .before .before .before .pre .0) (c .before .enum-told2 .given .1)))
 
--- src/legal.rt:165:1
 returns-3 : tie.Need-returns-3
 returns-3 c = rw (c .within2 .ensures, c .before .before .before .width-at .ensures) (sym (legal-select-constant (relationsOf (c .before .before .before .before .before .before .before .args .catalogue .now)) (c .before .before .before .before .before .before .before .args .widths .now) (c .before .before .before .before .before .before .before .args .words .now) (c .before .before .before .before .before .before .before .args .node) (stood (c .before .before .before .before .before .before .before)) (c .before .enum-told3 .given .1)))
 
--- src/legal.rt:165:1
 returns-4 : tie.Need-returns-4
 returns-4 c = rw (c .before .within3 .ensures, c .within4 .ensures, c .before .before .before .before .width-at .ensures) (sym (legal-select-attribute (relationsOf (c .before .before .before .before .before .before .before .before .args .catalogue .now)) (c .before .before .before .before .before .before .before .before .args .widths .now) (c .before .before .before .before .before .before .before .before .args .words .now) (c .before .before .before .before .before .before .before .before .args .node) (stood (c .before .before .before .before .before .before .before .before)) (c .before .before .enum-told4 .given .1)))
 
--- src/legal.rt:165:1
 returns-5 : tie.Need-returns-5
 returns-5 c = rw (c .before .legal-triples .ensures, c .narrow .ensures) (sym (legal-join (relationsOf (c .before .before .before .before .before .before .before .before .args .catalogue .now)) (c .before .before .before .before .before .before .before .before .args .widths .now) (c .before .before .before .before .before .before .before .before .args .words .now) (c .before .before .before .before .before .before .before .before .args .node) (stood (c .before .before .before .before .before .before .before .before)) (c .before .before .enum-told5 .given .1)))
 
--- src/legal.rt:165:1
 returns-6 : tie.Need-returns-6
 returns-6 c = rw (c .legal-triples2 .ensures) (sym (legal-semijoin (relationsOf (c .before .before .before .before .before .before .before .args .catalogue .now)) (c .before .before .before .before .before .before .before .args .widths .now) (c .before .before .before .before .before .before .before .args .words .now) (c .before .before .before .before .before .before .before .args .node) (stood (c .before .before .before .before .before .before .before)) (c .before .enum-told6 .given .1)))
 
--- src/legal.rt:165:1
 returns-7 : tie.Need-returns-7
 returns-7 c = rw (c .legal-triples3 .ensures) (sym (legal-antijoin (relationsOf (c .before .before .before .before .before .before .before .args .catalogue .now)) (c .before .before .before .before .before .before .before .args .widths .now) (c .before .before .before .before .before .before .before .args .words .now) (c .before .before .before .before .before .before .before .args .node) (stood (c .before .before .before .before .before .before .before)) (c .before .enum-told7 .given .1)))
 
--- src/legal.rt:165:1
 returns-8 : tie.Need-returns-8
 returns-8 c = rw (c .legal-division .ensures) (sym (legal-divide (relationsOf (c .before .before .before .before .before .before .before .args .catalogue .now)) (c .before .before .before .before .before .before .before .args .widths .now) (c .before .before .before .before .before .before .before .args .words .now) (c .before .before .before .before .before .before .before .args .node) (stood (c .before .before .before .before .before .before .before)) (c .before .enum-told8 .given .1)))
 
--- src/legal.rt:165:1
 returns-9 : tie.Need-returns-9
 returns-9 c = rw (c .legal-sides .ensures) (sym (legal-unite (relationsOf (c .before .before .before .before .before .before .before .args .catalogue .now)) (c .before .before .before .before .before .before .before .args .widths .now) (c .before .before .before .before .before .before .before .args .words .now) (c .before .before .before .before .before .before .before .args .node) (stood (c .before .before .before .before .before .before .before)) (c .before .enum-told9 .given .1)))
 
--- src/legal.rt:165:1
 returns-10 : tie.Need-returns-10
 returns-10 c = rw (c .legal-sides2 .ensures) (sym (legal-intersect (relationsOf (c .before .before .before .before .before .before .before .args .catalogue .now)) (c .before .before .before .before .before .before .before .args .widths .now) (c .before .before .before .before .before .before .before .args .words .now) (c .before .before .before .before .before .before .before .args .node) (stood (c .before .before .before .before .before .before .before)) (c .before .enum-told10 .given .1)))
 
--- src/legal.rt:165:1
 returns-11 : tie.Need-returns-11
 returns-11 c = rw (c .legal-sides3 .ensures) (sym (legal-subtract (relationsOf (c .before .before .before .before .before .before .before .args .catalogue .now)) (c .before .before .before .before .before .before .before .args .widths .now) (c .before .before .before .before .before .before .before .args .words .now) (c .before .before .before .before .before .before .before .args .node) (stood (c .before .before .before .before .before .before .before)) (c .before .enum-told11 .given .1)))
 

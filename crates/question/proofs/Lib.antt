@@ -1,0 +1,15 @@
+-- Tests, searches, masks
+pub mod Tests
+pub mod Searches
+pub mod Bits
+-- Decoded nodes and their trees
+pub mod Forms
+pub mod TreeLaws
+pub mod Counts
+pub mod Judgements
+-- Accepted tables
+pub mod SortedTrees
+pub mod TreeSizes
+pub mod ScopesShown
+pub mod GoodForm
+pub mod Accepted

@@ -1,0 +1,10 @@
+pub mod Limits
+pub mod Nodes
+pub mod References
+pub mod Trees
+pub mod Catalogue
+pub mod Scopes
+pub mod Judgement
+pub mod Accepted
+-- What the code keeps instead
+pub mod Marks

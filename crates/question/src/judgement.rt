@@ -1,0 +1,247 @@
+// A question judged: refusals 1 to 6 in their order, each with its place.
+ghost use mathlib.Core.Path.{_≡_};
+ghost use mathlib.Core.Bool.{true};
+ghost use Prim.Native.Nat.{_+_, _*_, _≤_, _/_};
+ghost use lib.ListN.{length};
+ghost use Rattle.question.specs.declared.judgement.Judgement.the-variants.{Refused};
+ghost use Rattle.question.specs.Nodes.{nodeCount, nodeAt, isIllFormed};
+ghost use Rattle.question.specs.References.{lowest};
+ghost use Rattle.question.specs.Judgement.{countOk, judgeCount, isAlpha, isUnknown, judgeTree, judgeNodes, judged};
+use crate::limits::NODE_WORDS;
+use crate::limits::NODES;
+use crate::node::Node;
+use crate::node::decode;
+use crate::references::lowest_not_once;
+use crate::scope::empty;
+use crate::scope::walk;
+
+pub enum Judgement {
+    Accepted,
+    Refused { status: u32, place: u32 },
+}
+
+fn refused(status: u32, place: u32) -> Judgement
+    ensures { λ r. ⌜ r ≡ Refused status place ⌝ }
+{
+    Judgement::Refused { status, place }
+}
+
+// Refusal 1 asks for the number of words only.
+fn count_ok(words: &[u32]) -> bool
+    ensures { λ r. ⌜ r ≡ countOk (now (words .entry)) ⌝ }
+{
+    let nodes = words.len() / NODE_WORDS;
+    (words.len() % NODE_WORDS == 0) & (1 <= nodes) & (nodes <= NODES)
+}
+
+pub fn judge_count(words: &[u32]) -> Judgement
+    ensures { λ r. ⌜ r ≡ judgeCount (now (words .entry)) ⌝ }
+{
+    if count_ok(words) {
+        return Judgement::Accepted;
+    }
+    refused(1, 0)
+}
+
+fn is_ill_formed(node: Node) -> bool
+    ensures { λ r. ⌜ r ≡ isIllFormed node ⌝ }
+{
+    match node {
+        Node::Table { relation: _ } => false,
+        Node::Alpha {
+            target: _,
+            binding: _,
+            condition: _,
+        } => false,
+        Node::Target {
+            variable: _,
+            attribute: _,
+            next: _,
+        } => false,
+        Node::Binding {
+            variable: _,
+            range: _,
+            next: _,
+        } => false,
+        Node::RangeOr { left: _, right: _ } => false,
+        Node::RangeAnd { left: _, right: _ } => false,
+        Node::RangeAndNot { left: _, right: _ } => false,
+        Node::Atom(_) => false,
+        Node::And { left: _, right: _ } => false,
+        Node::Or { left: _, right: _ } => false,
+        Node::Not { inner: _ } => false,
+        Node::Some {
+            variable: _,
+            range: _,
+            condition: _,
+        } => false,
+        Node::Every {
+            variable: _,
+            range: _,
+            condition: _,
+        } => false,
+        Node::IllFormed => true,
+    }
+}
+
+fn is_alpha(node: Node) -> bool
+    ensures { λ r. ⌜ r ≡ isAlpha node ⌝ }
+{
+    match node {
+        Node::Table { relation: _ } => false,
+        Node::Alpha {
+            target: _,
+            binding: _,
+            condition: _,
+        } => true,
+        Node::Target {
+            variable: _,
+            attribute: _,
+            next: _,
+        } => false,
+        Node::Binding {
+            variable: _,
+            range: _,
+            next: _,
+        } => false,
+        Node::RangeOr { left: _, right: _ } => false,
+        Node::RangeAnd { left: _, right: _ } => false,
+        Node::RangeAndNot { left: _, right: _ } => false,
+        Node::Atom(_) => false,
+        Node::And { left: _, right: _ } => false,
+        Node::Or { left: _, right: _ } => false,
+        Node::Not { inner: _ } => false,
+        Node::Some {
+            variable: _,
+            range: _,
+            condition: _,
+        } => false,
+        Node::Every {
+            variable: _,
+            range: _,
+            condition: _,
+        } => false,
+        Node::IllFormed => false,
+    }
+}
+
+fn is_unknown(relations: usize, node: Node) -> bool
+    ensures { λ r. ⌜ r ≡ isUnknown relations node ⌝ }
+{
+    match node {
+        Node::Table { relation } => relations <= (relation as usize),
+        Node::Alpha {
+            target: _,
+            binding: _,
+            condition: _,
+        } => false,
+        Node::Target {
+            variable: _,
+            attribute: _,
+            next: _,
+        } => false,
+        Node::Binding {
+            variable: _,
+            range: _,
+            next: _,
+        } => false,
+        Node::RangeOr { left: _, right: _ } => false,
+        Node::RangeAnd { left: _, right: _ } => false,
+        Node::RangeAndNot { left: _, right: _ } => false,
+        Node::Atom(_) => false,
+        Node::And { left: _, right: _ } => false,
+        Node::Or { left: _, right: _ } => false,
+        Node::Not { inner: _ } => false,
+        Node::Some {
+            variable: _,
+            range: _,
+            condition: _,
+        } => false,
+        Node::Every {
+            variable: _,
+            range: _,
+            condition: _,
+        } => false,
+        Node::IllFormed => false,
+    }
+}
+
+// Refusal 2: the lowest node whose words break its form, or the number of nodes.
+fn lowest_ill_formed(words: &[u32], nodes: usize) -> usize
+    requires { ⌜ nodes * 6 ≤ length (now words) ⌝ }
+    ensures { λ r. ⌜ r ≡ lowest (λ i. isIllFormed (nodeAt (now (words .entry)) i)) nodes ⌝ }
+{
+    let mut i = 0;
+    while i < nodes {
+        if is_ill_formed(decode(words, i)) {
+            return i;
+        }
+        i += 1;
+    }
+    i
+}
+
+// Refusal 4: the lowest table node with an unknown relation, or the number of nodes.
+fn lowest_unknown(relations: usize, words: &[u32], nodes: usize) -> usize
+    requires { ⌜ nodes * 6 ≤ length (now words) ⌝ }
+    ensures { λ r. ⌜ r ≡ lowest (λ i. isUnknown relations (nodeAt (now (words .entry)) i)) nodes ⌝ }
+{
+    let mut i = 0;
+    while i < nodes {
+        if is_unknown(relations, decode(words, i)) {
+            return i;
+        }
+        i += 1;
+    }
+    i
+}
+
+// Refusals 4, 5 and 6 of a table that is a tree, each over the whole of it.
+fn judge_tree(catalogue: &[u32], words: &[u32], nodes: usize) -> Judgement
+    requires { ⌜ (nodes ≡ nodeCount (now words)) × (nodes ≤ 64) ⌝ }
+    ensures { λ r. ⌜ r ≡ judgeTree (now (catalogue .entry)) (now (words .entry)) ⌝ }
+{
+    let unknown = lowest_unknown(catalogue.len() / 2, words, nodes);
+    if unknown < nodes {
+        return refused(4, unknown as u32);
+    }
+    let found = walk(catalogue, words, nodes as u32, empty());
+    if found.unbound < NODES as u32 {
+        return refused(5, found.unbound);
+    }
+    if found.unfit < NODES as u32 {
+        return refused(6, found.unfit);
+    }
+    Judgement::Accepted
+}
+
+// Refusals 2 to 6, where the number of words is right.
+fn judge_nodes(catalogue: &[u32], words: &[u32]) -> Judgement
+    requires { ⌜ countOk (now words) ≡ true ⌝ }
+    ensures { λ r. ⌜ r ≡ judgeNodes (now (catalogue .entry)) (now (words .entry)) ⌝ }
+{
+    let nodes = words.len() / NODE_WORDS;
+    let last = nodes - 1;
+    let ill_formed = lowest_ill_formed(words, nodes);
+    if ill_formed < nodes {
+        return refused(2, ill_formed as u32);
+    }
+    let not_once = lowest_not_once(words, nodes);
+    if not_once < last as u32 {
+        return refused(3, not_once);
+    }
+    if is_alpha(decode(words, last)) {
+        return judge_tree(catalogue, words, nodes);
+    }
+    refused(3, last as u32)
+}
+
+// All that a question can be refused for, over a catalogue.
+pub fn judge(catalogue: &[u32], words: &[u32]) -> Judgement
+    ensures { λ r. ⌜ r ≡ judged (now (catalogue .entry)) (now (words .entry)) ⌝ }
+{
+    if count_ok(words) {
+        return judge_nodes(catalogue, words);
+    }
+    refused(1, 0)
+}

@@ -1,0 +1,387 @@
+// Refusals 5 and 6: one walk over the question's tree, which carries the scope down and brings faults and widths up.
+ghost use mathlib.Core.Path.{_≡_};
+ghost use Prim.Native.Nat.{_*_, _≤_, _<_, min};
+ghost use lib.ListN.{length};
+ghost use Rattle.question.specs.Limits.{variableCount};
+ghost use Rattle.question.specs.Nodes.{VariableFits, OperandVariableFits};
+ghost use Rattle.question.specs.Catalogue.{columnsOf};
+ghost use Rattle.question.specs.Trees.{treeOf};
+ghost use Rattle.question.specs.Scopes.{widthIn, addWidths, emptyScope, bind, opening, inside, operandUnbound, unboundAt, operandUnfit, unfitAt, targetWidth, widthOf, lowestOf, walk};
+use crate::limits::COLUMNS;
+use crate::limits::NODES;
+use crate::node::Node;
+use crate::node::Operand;
+use crate::node::decode;
+use crate::references::references_of;
+
+// For each variable the width of its rows, 0 where it is not in scope; and all columns in scope.
+pub struct Scope {
+    pub widths: [u32; 26],
+    pub columns: u32,
+}
+
+// What a walk finds: the lowest places of refusals 5 and 6, 64 where there is none; the width of a range, or of targets;
+// the scope behind bindings.
+pub struct Found {
+    pub unbound: u32,
+    pub unfit: u32,
+    pub width: u32,
+    pub scope: Scope,
+}
+
+// Widths are counted up to 33: over 32 all are too wide.
+fn add_widths(a: u32, b: u32) -> u32
+    ensures { λ r. ⌜ r ≡ addWidths a b ⌝ }
+{
+    if COLUMNS < a {
+        return COLUMNS + 1;
+    }
+    if COLUMNS < b {
+        return COLUMNS + 1;
+    }
+    if COLUMNS < a + b {
+        return COLUMNS + 1;
+    }
+    a + b
+}
+
+fn width_in(scope: Scope, variable: u32) -> u32
+    requires { ⌜ variable < variableCount ⌝ }
+    ensures { λ r. ⌜ r ≡ widthIn scope variable ⌝ }
+{
+    scope.widths[variable as usize]
+}
+
+pub fn empty() -> Scope
+    ensures { λ r. ⌜ r ≡ emptyScope ⌝ }
+{
+    Scope {
+        widths: [0u32; 26],
+        columns: 0,
+    }
+}
+
+fn bind(scope: Scope, variable: u32, width: u32) -> Scope
+    requires { ⌜ variable < variableCount ⌝ }
+    ensures { λ r. ⌜ r ≡ bind scope variable width ⌝ }
+{
+    let mut bound = scope;
+    bound.widths[variable as usize] = width;
+    bound.columns = add_widths(scope.columns, width);
+    bound
+}
+
+fn opening(node: Node, scope: Scope) -> Scope
+    ensures { λ r. ⌜ r ≡ opening node scope ⌝ }
+{
+    match node {
+        Node::Table { relation: _ } => scope,
+        Node::Alpha {
+            target: _,
+            binding: _,
+            condition: _,
+        } => empty(),
+        Node::Target {
+            variable: _,
+            attribute: _,
+            next: _,
+        } => scope,
+        Node::Binding {
+            variable: _,
+            range: _,
+            next: _,
+        } => scope,
+        Node::RangeOr { left: _, right: _ } => scope,
+        Node::RangeAnd { left: _, right: _ } => scope,
+        Node::RangeAndNot { left: _, right: _ } => scope,
+        Node::Atom(_) => scope,
+        Node::And { left: _, right: _ } => scope,
+        Node::Or { left: _, right: _ } => scope,
+        Node::Not { inner: _ } => scope,
+        Node::Some {
+            variable: _,
+            range: _,
+            condition: _,
+        } => scope,
+        Node::Every {
+            variable: _,
+            range: _,
+            condition: _,
+        } => scope,
+        Node::IllFormed => scope,
+    }
+}
+
+// The scope of what stands behind a node's first reference.
+fn inside(node: Node, scope: Scope, first: Found) -> Scope
+    requires { ⌜ VariableFits node ⌝ }
+    ensures { λ r. ⌜ r ≡ inside node scope first ⌝ }
+{
+    match node {
+        Node::Table { relation: _ } => scope,
+        Node::Alpha {
+            target: _,
+            binding: _,
+            condition: _,
+        } => first.scope,
+        Node::Target {
+            variable: _,
+            attribute: _,
+            next: _,
+        } => scope,
+        Node::Binding {
+            variable,
+            range: _,
+            next: _,
+        } => bind(scope, variable, first.width),
+        Node::RangeOr { left: _, right: _ } => scope,
+        Node::RangeAnd { left: _, right: _ } => scope,
+        Node::RangeAndNot { left: _, right: _ } => scope,
+        Node::Atom(_) => scope,
+        Node::And { left: _, right: _ } => scope,
+        Node::Or { left: _, right: _ } => scope,
+        Node::Not { inner: _ } => scope,
+        Node::Some {
+            variable,
+            range: _,
+            condition: _,
+        } => bind(scope, variable, first.width),
+        Node::Every {
+            variable,
+            range: _,
+            condition: _,
+        } => bind(scope, variable, first.width),
+        Node::IllFormed => scope,
+    }
+}
+
+fn operand_unbound(scope: Scope, operand: Operand) -> bool
+    requires { ⌜ OperandVariableFits operand ⌝ }
+    ensures { λ r. ⌜ r ≡ operandUnbound scope operand ⌝ }
+{
+    match operand {
+        Operand::Of {
+            variable,
+            attribute: _,
+        } => width_in(scope, variable) == 0,
+        Operand::Fixed(_) => false,
+    }
+}
+
+// Refusal 5 at a node: a variable that is not in scope, or bound while in scope.
+fn unbound_at(node: Node, scope: Scope) -> bool
+    requires { ⌜ VariableFits node ⌝ }
+    ensures { λ r. ⌜ r ≡ unboundAt node scope ⌝ }
+{
+    match node {
+        Node::Table { relation: _ } => false,
+        Node::Alpha {
+            target: _,
+            binding: _,
+            condition: _,
+        } => false,
+        Node::Target {
+            variable,
+            attribute: _,
+            next: _,
+        } => width_in(scope, variable) == 0,
+        Node::Binding {
+            variable,
+            range: _,
+            next: _,
+        } => 0 < width_in(scope, variable),
+        Node::RangeOr { left: _, right: _ } => false,
+        Node::RangeAnd { left: _, right: _ } => false,
+        Node::RangeAndNot { left: _, right: _ } => false,
+        Node::Atom(atom) => {
+            let operand = atom.operand;
+            (width_in(scope, atom.variable) == 0) | operand_unbound(scope, operand)
+        },
+        Node::And { left: _, right: _ } => false,
+        Node::Or { left: _, right: _ } => false,
+        Node::Not { inner: _ } => false,
+        Node::Some {
+            variable,
+            range: _,
+            condition: _,
+        } => 0 < width_in(scope, variable),
+        Node::Every {
+            variable,
+            range: _,
+            condition: _,
+        } => 0 < width_in(scope, variable),
+        Node::IllFormed => false,
+    }
+}
+
+fn operand_unfit(scope: Scope, operand: Operand) -> bool
+    requires { ⌜ OperandVariableFits operand ⌝ }
+    ensures { λ r. ⌜ r ≡ operandUnfit scope operand ⌝ }
+{
+    match operand {
+        Operand::Of {
+            variable,
+            attribute,
+        } => width_in(scope, variable) < attribute.0,
+        Operand::Fixed(_) => false,
+    }
+}
+
+// Refusal 6 at a node; `first` and `second` are the widths of its first two references.
+fn unfit_at(node: Node, scope: Scope, first: u32, second: u32) -> bool
+    requires { ⌜ VariableFits node ⌝ }
+    ensures { λ r. ⌜ r ≡ unfitAt node scope first second ⌝ }
+{
+    match node {
+        Node::Table { relation: _ } => false,
+        Node::Alpha {
+            target: _,
+            binding: _,
+            condition: _,
+        } => COLUMNS < second,
+        Node::Target {
+            variable,
+            attribute,
+            next: _,
+        } => width_in(scope, variable) < attribute,
+        Node::Binding {
+            variable: _,
+            range: _,
+            next: _,
+        } => COLUMNS < add_widths(scope.columns, first),
+        Node::RangeOr { left: _, right: _ } => first != second,
+        Node::RangeAnd { left: _, right: _ } => first != second,
+        Node::RangeAndNot { left: _, right: _ } => first != second,
+        Node::Atom(atom) => {
+            let operand = atom.operand;
+            (width_in(scope, atom.variable) < atom.attribute.0) | operand_unfit(scope, operand)
+        },
+        Node::And { left: _, right: _ } => false,
+        Node::Or { left: _, right: _ } => false,
+        Node::Not { inner: _ } => false,
+        Node::Some {
+            variable: _,
+            range: _,
+            condition: _,
+        } => COLUMNS < add_widths(scope.columns, first),
+        Node::Every {
+            variable: _,
+            range: _,
+            condition: _,
+        } => COLUMNS < add_widths(scope.columns, first),
+        Node::IllFormed => false,
+    }
+}
+
+fn columns_of(catalogue: &[u32], relation: u32) -> u32
+    ensures { λ r. ⌜ r ≡ columnsOf (now (catalogue .entry)) relation ⌝ }
+{
+    let at = (relation as usize) * 2;
+    if at < catalogue.len() {
+        return catalogue[at];
+    }
+    0
+}
+
+fn target_width(scope: Scope, variable: u32, attribute: u32) -> u32
+    requires { ⌜ variable < variableCount ⌝ }
+    ensures { λ r. ⌜ r ≡ targetWidth scope variable attribute ⌝ }
+{
+    if attribute == 0 {
+        return width_in(scope, variable);
+    }
+    1
+}
+
+fn width_of(catalogue: &[u32], node: Node, scope: Scope, first: u32, second: u32) -> u32
+    requires { ⌜ VariableFits node ⌝ }
+    ensures { λ r. ⌜ r ≡ widthOf (columnsOf (now (catalogue .entry))) node scope first second ⌝ }
+{
+    match node {
+        Node::Table { relation } => columns_of(catalogue, relation),
+        Node::Alpha {
+            target: _,
+            binding: _,
+            condition: _,
+        } => second,
+        Node::Target {
+            variable,
+            attribute,
+            next: _,
+        } => add_widths(target_width(scope, variable, attribute), first),
+        Node::Binding {
+            variable: _,
+            range: _,
+            next: _,
+        } => 0,
+        Node::RangeOr { left: _, right: _ } => first,
+        Node::RangeAnd { left: _, right: _ } => first,
+        Node::RangeAndNot { left: _, right: _ } => first,
+        Node::Atom(_) => 0,
+        Node::And { left: _, right: _ } => 0,
+        Node::Or { left: _, right: _ } => 0,
+        Node::Not { inner: _ } => 0,
+        Node::Some {
+            variable: _,
+            range: _,
+            condition: _,
+        } => 0,
+        Node::Every {
+            variable: _,
+            range: _,
+            condition: _,
+        } => 0,
+        Node::IllFormed => 0,
+    }
+}
+
+fn lower(a: u32, b: u32) -> u32
+    ensures { λ r. ⌜ r ≡ min a b ⌝ }
+{
+    if a < b {
+        return a;
+    }
+    b
+}
+
+// The lowest of a node's own place, where it is at fault, and those found below.
+fn lowest_of(fault: bool, i: u32, first: u32, second: u32, third: u32) -> u32
+    ensures { λ r. ⌜ r ≡ lowestOf fault i first second third ⌝ }
+{
+    let below = lower(first, lower(second, third));
+    if fault {
+        return lower(i, below);
+    }
+    lower(NODES as u32, below)
+}
+
+// What the tree that a reference names has, in a scope. The reference falls at each call.
+pub fn walk(catalogue: &[u32], words: &[u32], reference: u32, scope: Scope) -> Found
+    requires { ⌜ reference * 6 ≤ length (now words) ⌝ }
+    ensures { λ r. ⌜ r ≡ walk (columnsOf (now (catalogue .entry))) (treeOf (now (words .entry)) reference) scope ⌝ }
+{
+    if reference == 0 {
+        return Found {
+            unbound: NODES as u32,
+            unfit: NODES as u32,
+            width: 0,
+            scope,
+        };
+    }
+    let i = reference - 1;
+    let node = decode(words, i as usize);
+    let named = references_of(node);
+    let first = walk(catalogue, words, named.first, opening(node, scope));
+    let inner = inside(node, scope, first);
+    let second = walk(catalogue, words, named.second, inner);
+    let third = walk(catalogue, words, named.third, inner);
+    let bound = second.scope;
+    let unbound = unbound_at(node, scope);
+    let unfit = unfit_at(node, scope, first.width, second.width);
+    Found {
+        unbound: lowest_of(unbound, i, first.unbound, second.unbound, third.unbound),
+        unfit: lowest_of(unfit, i, first.unfit, second.unfit, third.unfit),
+        width: width_of(catalogue, node, scope, first.width, second.width),
+        scope: bound,
+    }
+}
