@@ -5,18 +5,20 @@ use mathlib.Core.List.{List, [], _∷_, _++_}
 use Prim.Native.Nat.{ℕ, zero, suc, _+_, _≤_, _<_, min}
 use native.Mathlib.Omega.{arith}
 use lib.Dec.{ltb, leb, eqb}
-use lib.ListN.{length, length-append}
+use lib.ListN.{length}
 use borrow.Author.Tests.{ltb-true, ltb-false, leb-true, eqb-true, eqb-false, ne-eqb, not-false}
 use Rattle.relations.specs.Limits.{columnLimit, questionNodeLimit}
-use Rattle.relations.specs.Lists.{All, flat}
+use Rattle.relations.specs.Lists.{All}
 use Rattle.relations.specs.Comparison.{Operator, operatorOf}
 use Rattle.relations.specs.Columns.{Attribute, attribute}
 use Rattle.relations.proofs.BoolLaws.{and-left, and-right}
 use Rattle.calculus.specs.Question as calculus
 use Rattle.calculus.specs.Scope as scopes
-use Rattle.calculus.specs.Scope.{extend, columnsIn, columnNumber, columnsFrom, targetColumns}
+use Rattle.calculus.specs.Scope.{extend, columnsIn}
 use Rattle.calculus.specs.Form.{NotInScope, Known, GoodAtom, GoodTarget, widthOfRange, scopeOfBindings, GoodRange, GoodBindings, GoodMaybe, GoodCondition}
-use Rattle.calculus.proofs.LegalColumns.{columns-length, targets-columns}
+use Rattle.calculus.specs.Form as form
+use Rattle.calculus.proofs.ScopeLaws.{targets-width}
+use Rattle.calculus.proofs.LegalColumns.{targets-columns}
 use Rattle.question.specs.Limits.{variableCount, operatorCount}
 use Rattle.question.specs.Nodes.{operandFits, atomFits}
 use Rattle.question.specs.Trees.{Tree, nothing, branch, operatorFor, operandOf, targetOf, atomOf, alphaOf, reading}
@@ -117,8 +119,8 @@ module _ {scope : Scope} {s : scopes.Scope} (shows : Shows scope s) where
   good-target v zero small bound fit = in-scope v small bound
   good-target v (suc n) small bound fit = (omega arith, has-attribute v (suc n) small fit)
 
-  target-columns : (v a : ℕ) → v < variableCount → targetWidth scope v a ≡ length (targetColumns s (targetOf v a))
-  target-columns v zero small = shows .shown v small ∙ sym (columns-length (scopes.widthIn s v) (columnNumber s v 1))
+  target-columns : (v a : ℕ) → v < variableCount → targetWidth scope v a ≡ form.targetWidth s (targetOf v a)
+  target-columns v zero small = shows .shown v small
   target-columns v (suc n) small = rw (ne-eqb (suc n) 0 (λ e. omega arith))
 
 -- a sum of widths that is no more than 32 is the sum
@@ -146,8 +148,8 @@ module _ (columns : ℕ → ℕ) (relations : ℕ) where
       → GoodMaybe columns relations restriction (scopeOfBindings columns (reading tree .bindings) [])
       → All (GoodTarget (scopeOfBindings columns (reading tree .bindings) [])) targets
       → 1 ≤ length targets
-      → length (flat (targetColumns (scopeOfBindings columns (reading tree .bindings) [])) targets) ≤ columnLimit
-      → AlphaGood (alphaOf targets (reading tree .bindings) restriction) (length (flat (targetColumns (scopeOfBindings columns (reading tree .bindings) [])) targets))
+      → form.targetsWidth (scopeOfBindings columns (reading tree .bindings) []) targets ≤ columnLimit
+      → AlphaGood (alphaOf targets (reading tree .bindings) restriction) (form.targetsWidth (scopeOfBindings columns (reading tree .bindings) []) targets)
   unfolding GoodRange widthOfRange reading
   alpha-of (bindingTree i v r bs) targets restriction b f ts some narrow =
       record { alpha-good = (b .1, b .2, f, ts, omega (arith, b .3), some, narrow); alpha-wide = refl }
@@ -164,7 +166,7 @@ module _ (columns : ℕ → ℕ) (relations : ℕ) where
 
   record TargetsGood (targets : List calculus.Target) (s : scopes.Scope) (width : ℕ) : Type 0 where
     good : All (GoodTarget s) targets
-    wide : width ≡ min (suc columnLimit) (length (flat (targetColumns s) targets))
+    wide : width ≡ min (suc columnLimit) (form.targetsWidth s targets)
 
   -- a binder: the variable is new, its columns fit, and what follows is shown
   record BinderGood (v : ℕ) (range : calculus.Range) (scope : Scope) (s : scopes.Scope) (width : ℕ) : Type 0 where
@@ -200,7 +202,7 @@ module _ (columns : ℕ → ℕ) (relations : ℕ) where
           let l : 1 ≤ length (reading y .targets) = some-target ts in
           let w : walk columns y (first .scope) .width ≤ columnLimit = ltb-false columnLimit (walk columns y (first .scope) .width) (n .fit-here) in
           let A = alpha-of bs (reading y .targets) (reading z .restriction) (B .good) (maybe-good f (first .scope) (scopeOfBindings columns (reading x .bindings) []) (B .shows-after) (n .clean-third)) (T .good) l (omega (arith, T .wide)) in
-          record { good = A .alpha-good; wide = A .alpha-wide ∙ omega (arith, T .wide); some = omega (arith, T .wide, targets-columns (scopeOfBindings columns (reading x .bindings) []) (reading y .targets) l (T .good) .0) }
+          record { good = A .alpha-good; wide = A .alpha-wide ∙ omega (arith, T .wide); some = omega (arith, T .wide, targets-columns (scopeOfBindings columns (reading x .bindings) []) (reading y .targets) l (T .good) .0, targets-width (scopeOfBindings columns (reading x .bindings) []) (reading y .targets)) }
       range-good (orTree {a = a} {b = b} {x = x} {y = y} small r t) scope clean =
           let n = clean-branch columns (RangeOr a b) x y nothing scope small clean in
           let R = range-good r scope (n .clean-first) in
@@ -223,8 +225,7 @@ module _ (columns : ℕ → ℕ) (relations : ℕ) where
           let T = targets-good ts scope s shows (n .clean-first) in
           record {
             good = (good-target shows v a inside (n .bound-here) (n .fit-here), T .good);
-            wide = counts (targetWidth scope v a) (walk columns x scope .width) (length (targetColumns s (targetOf v a))) (length (flat (targetColumns s) (reading x .targets))) (target-columns shows v a inside) (T .wide)
-                ∙ ap (λ (k : ℕ). min (suc columnLimit) k) (sym (length-append (targetColumns s (targetOf v a)) (flat (targetColumns s) (reading x .targets))));
+            wide = counts (targetWidth scope v a) (walk columns x scope .width) (form.targetWidth s (targetOf v a)) (form.targetsWidth s (reading x .targets)) (target-columns shows v a inside) (T .wide);
           }
 
       targets-good : {tree : Tree} → TargetsIfAny relations tree → (scope : Scope) (s : scopes.Scope) → Shows scope s → Clean (walk columns tree scope) → TargetsGood (reading tree .targets) s (walk columns tree scope .width)
