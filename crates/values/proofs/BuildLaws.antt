@@ -21,7 +21,7 @@ abbrev pub insertAll : (candidates value : Rows) → Rows
 insertAll [] value = value
 insertAll (row ∷ candidates) value = insertAll candidates (insertRow row value)
 
-member-insertAll : (r : Row) (cs v : Rows) → member r (insertAll cs v) ≡ (member r cs || member r v)
+pub member-insertAll : (r : Row) (cs v : Rows) → member r (insertAll cs v) ≡ (member r cs || member r v)
 member-insertAll r [] v = refl
 member-insertAll r (c ∷ cs) v = member-insertAll r cs (insertRow c v) ∙ ap (λ b. member r cs || b) (member-insertRow r c v) ∙ swap (member r cs) (sameRow r c) (member r v)
   where

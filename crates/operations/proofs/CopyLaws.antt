@@ -1,0 +1,55 @@
+-- Rows taken over from where they stand, the tables or the work area in front of what is made. Assumes nothing.
+use mathlib.Core.Path.{_≡_, refl, sym, ap, _∙_}
+use mathlib.Core.Bool.{Bool, true, false}
+use mathlib.Core.List.{List, [], _∷_, _++_}
+use Prim.Native.Nat.{ℕ, _+_, _*_, _-_, _≤_, _<_}
+use native.Mathlib.Omega.{arith}
+use lib.ListN.{length}
+use Rattle.relations.specs.Values.{Rows}
+use Rattle.values.specs.Words.{held, rowIn, rowsAt, wordsOf}
+use Rattle.values.specs.Building.{Stands}
+use Rattle.values.proofs.RowsLaws.{times-step, rowsAt-row}
+use Rattle.values.proofs.StandLaws.{stands-same, stands-later}
+use Rattle.values.proofs.FillLaws.{Filled}
+
+module _ (inWork : Bool) (at width left out : ℕ) (tables work : List ℕ) where
+  pub stands-inside : (size : ℕ) → Stands inWork at size out tables work → at + size ≤ length (held inWork tables work)
+  stands-inside size = go inWork
+    where
+      go : (b : Bool) → Stands b at size out tables work → at + size ≤ length (held b tables work)
+      go true h = omega (arith, h .0, h .1)
+      go false h = h
+
+  pub stands-most : (size : ℕ) → Stands inWork at size out tables work → at + size ≤ length tables + length work
+  stands-most size = go inWork
+    where
+      go : (b : Bool) → Stands b at size out tables work → at + size ≤ length tables + length work
+      go true h = omega (arith, h .0, h .1)
+      go false h = omega arith
+
+  -- the first row, and the rows behind it
+  pub stands-first : 0 < left → Stands inWork at (left * width) out tables work → Stands inWork at width out tables work
+  stands-first p = go inWork
+    where
+      go : (b : Bool) → Stands b at (left * width) out tables work → Stands b at width out tables work
+      go true h = (omega (arith, h .0, times-step left width p), h .1)
+      go false h = omega (arith, times-step left width p)
+
+  pub stands-behind : 0 < left → Stands inWork at (left * width) out tables work → Stands inWork (at + width) ((left - 1) * width) out tables work
+  stands-behind p = go inWork
+    where
+      go : (b : Bool) → Stands b at (left * width) out tables work → Stands b (at + width) ((left - 1) * width) out tables work
+      go true h = (omega (arith, h .0, times-step left width p), h .1)
+      go false h = omega (arith, times-step left width p)
+
+  pub rows-first : 0 < left → Stands inWork at (left * width) out tables work
+      → rowsAt width left at (held inWork tables work) ≡ (rowIn (held inWork tables work) at width ∷ []) ++ rowsAt width (left - 1) (at + width) (held inWork tables work)
+  rows-first p h = rowsAt-row width left at (held inWork tables work) p (stands-inside (left * width) h)
+
+-- while a value is filled behind them they stay
+module _ {w out rows made : ℕ} {all todo : Rows} {before now : List ℕ} (f : Filled w out rows made all todo before now) where
+  pub stands-now : (inWork : Bool) (at size : ℕ) (tables : List ℕ) → Stands inWork at size out tables before → Stands inWork at size out tables now
+  stands-now inWork at size tables h = stands-later inWork at size out out tables before now h (omega arith) (omega (arith, f .fits))
+
+  pub row-now : (inWork : Bool) (at width : ℕ) (tables : List ℕ) → Stands inWork at width out tables before → rowIn (held inWork tables now) at width ≡ rowIn (held inWork tables before) at width
+  row-now inWork at width tables h = stands-same inWork at width out tables before now out (wordsOf (rowsAt w made out now)) h (omega arith) (omega (arith, f .fits, f .size)) (f .words)

@@ -1,0 +1,9 @@
+-- In reading order.
+pub mod ListLaws
+pub mod RowSteps
+pub mod FillSteps
+pub mod TestLaws
+pub mod CopyLaws
+pub mod MadeLaws
+pub mod JoinLaws
+pub mod DivisionLaws

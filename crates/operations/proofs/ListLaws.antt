@@ -1,0 +1,80 @@
+-- Columns of a row, and triples and pairs read one after another. Assumes nothing.
+use mathlib.Core.Path.{_≡_, refl, sym, ap, _∙_}
+use mathlib.Core.Bool.{Bool, true, false, _&&_, cond}
+use mathlib.Core.List.{List, [], _∷_, map}
+use mathlib.Core.Option.{Option, some, none, Option·map}
+use Prim.Native.Nat.{ℕ, zero, suc, _+_, _-_, _*_, _≤_, _<_}
+use native.Mathlib.Nat.{add-zero}
+use native.Mathlib.Omega.{arith}
+use lib.ListN.{length, getD, drop, List·getD-eq-default}
+use lib.Seq.{drop-drop, getD-drop}
+use lib.Dec.{eqb}
+use borrow.Author.Tests.{eqb-true, eq-eqb}
+use Rattle.relations.specs.Rows.{Row}
+use Rattle.relations.specs.Comparison.{Operator, equal, notEqual, less, atMost, greater, atLeast, holds, operatorOf}
+use Rattle.relations.specs.Columns.{Triple, Pair, wordAt, column, attribute, meets, equalOn}
+use Rattle.relations.specs.PlanWords.{readTriples, readPairs, tripleBefore}
+use Rattle.operations.specs.Lists.{operatorNamed, firstTriple, firstPair, triplesIn}
+
+-- a column is the word one before its number, and 0 outside the row
+pub word-inside : (row : Row) (number : ℕ) → 0 < number → wordAt row number ≡ getD row (number - 1) 0
+word-inside row zero h = absurd (omega arith)
+word-inside row (suc place) h = let e : suc place - 1 ≡ place = omega arith in rw e
+
+pub word-outside : (row : Row) (number : ℕ) → length row < number → wordAt row number ≡ 0
+word-outside row zero h = refl
+word-outside row (suc place) h = List·getD-eq-default row 0 (omega arith)
+
+-- a word of the list from a place on
+pub first-word : (list : List ℕ) (at : ℕ) → getD (drop at list) 0 0 ≡ getD list at 0
+first-word list at = getD-drop at list 0 0 ∙ rw add-zero
+
+pub next-word : (list : List ℕ) (at i : ℕ) → getD (drop at list) i 0 ≡ getD list (at + i) 0
+next-word list at i = getD-drop at list i 0
+
+-- a turn of a loop over triples or pairs
+pub meets-step : (list : List ℕ) (at more : ℕ) (left right : Row) → 0 < more
+    → meets (triplesIn more (drop at list)) left right
+    ≡ (holds (firstTriple (drop at list) .operator) (column left (firstTriple (drop at list) .left)) (column right (firstTriple (drop at list) .right)) && meets (triplesIn (more - 1) (drop (at + 3) list)) left right)
+meets-step list at zero left right h = absurd (omega arith)
+meets-step list at (suc more) left right h = let e : suc more - 1 ≡ more = omega arith in rw (e, drop-drop 3 at list)
+
+pub equal-step : (list : List ℕ) (at more : ℕ) (left right : Row) → 0 < more
+    → equalOn (readPairs more (drop at list)) left right
+    ≡ (eqb (column left (firstPair (drop at list) .left)) (column right (firstPair (drop at list) .right)) && equalOn (readPairs (more - 1) (drop (at + 2) list)) left right)
+equal-step list at zero left right h = absurd (omega arith)
+equal-step list at (suc more) left right h = let e : suc more - 1 ≡ more = omega arith in rw (e, drop-drop 2 at list)
+
+-- where a number is an operator's, it is the operator of that number
+operator-named : (number : ℕ) (o : Operator) → operatorOf number ≡ some o → operatorNamed number ≡ o
+operator-named number o h = go (eqb number 1) (eqb number 2) (eqb number 3) (eqb number 4) (eqb number 5) (eqb number 6) h
+  where
+    go : (a b c d e f : Bool)
+        → cond a (some equal) (cond b (some notEqual) (cond c (some less) (cond d (some atMost) (cond e (some greater) (cond f (some atLeast) none))))) ≡ some o
+        → cond a equal (cond b notEqual (cond c less (cond d atMost (cond e greater atLeast)))) ≡ o
+    go true b c d e f k = cc
+    go false true c d e f k = cc
+    go false false true d e f k = cc
+    go false false false true e f k = cc
+    go false false false false true f k = cc
+    go false false false false false true k = cc
+    go false false false false false false k = let z : _≡_ {A = ℕ} 0 1 = cc in absurd (omega arith)
+
+-- the triples that relations reads from a legal plan's words are those that the code reads
+pub triples-read : (count : ℕ) (list : List ℕ) (triples : List Triple) → readTriples count list ≡ some triples → triplesIn count list ≡ triples
+triples-read zero list triples h = cc
+triples-read (suc count) list triples h = go (operatorOf (getD list 1 0)) refl (readTriples count (drop 3 list)) (λ rest f. triples-read count (drop 3 list) rest f) refl h
+  where
+    go : (o : Option Operator) → operatorOf (getD list 1 0) ≡ o → (rest : Option (List Triple)) → ((r : List Triple) → readTriples count (drop 3 list) ≡ some r → triplesIn count (drop 3 list) ≡ r) → readTriples count (drop 3 list) ≡ rest → tripleBefore o list rest ≡ some triples → triplesIn (suc count) list ≡ triples
+    go none e rest ih f k = let z : _≡_ {A = ℕ} 0 1 = cc in absurd (omega arith)
+    go (some o) e none ih f k = let z : _≡_ {A = ℕ} 0 1 = cc in absurd (omega arith)
+    go (some o) e (some rest) ih f k = rw (operator-named (getD list 1 0) o e, ih rest f) (cc)
+
+-- a test of two columns, by the words that were read
+pub triple-test : (left right : Row) (t : Triple) {u : Triple} {x y : ℕ} → t ≡ u → x ≡ column left (t .left) → y ≡ column right (t .right)
+    → holds (t .operator) x y ≡ holds (u .operator) (column left (u .left)) (column right (u .right))
+triple-test left right t e p q = rw (p, q, e)
+
+pub pair-test : (left right : Row) (p : Pair) {q : Pair} {x y : ℕ} → p ≡ q → x ≡ column left (p .left) → y ≡ column right (p .right)
+    → eqb x y ≡ eqb (column left (q .left)) (column right (q .right))
+pair-test left right p e f g = rw (f, g, e)

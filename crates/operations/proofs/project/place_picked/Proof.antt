@@ -1,0 +1,53 @@
+use Rattle.operations.proofs.FillSteps.{builds-by}
+use Rattle.values.proofs.RowsLaws.{row-inside}
+use Rattle.relations.specs.Columns.{attribute, pick}
+use lib.ListN.{take}
+use mathlib.Core.List.{List, [], _∷_, map}
+use mathlib.Core.Path.{_≡_, ap, _∙_}
+use native.Mathlib.Omega.{arith}
+use native.Mathlib.Omega.{arith}
+use borrow.Author.Needs.{needs}
+use Rattle.operations.proofs.project.place_picked.Statement.{statement}
+use Rattle.operations.proofs.project.place_picked.Tie as tie
+use Rattle.operations.proofs.project.place_picked.Reads as reads
+use Rattle.operations.proofs.project.place_picked.Lts as lts
+use Rattle.operations.proofs.made.picked_row.Reads as picked-row-reads
+use Rattle.values.proofs.placing.place_row.Reads as place-row-reads
+use Rattle.values.proofs.rows.row.Reads as row-reads
+
+-- src/project.rt:23:45
+row-requires : tie.Need-row-requires
+row-requires c κs = search needs
+
+-- src/project.rt:23:18
+picked-row-requires : tie.Need-picked-row-requires
+picked-row-requires c κs = search needs
+
+-- src/project.rt:24:15
+slice-aggregate-place-row : tie.Need-slice-aggregate-place-row
+slice-aggregate-place-row c = search needs
+
+-- src/project.rt:24:5
+place-row-requires : tie.Need-place-row-requires
+place-row-requires c κs = search needs
+
+-- src/project.rt:19:1
+same-length : tie.Need-same-length
+same-length c = search needs
+
+-- src/project.rt:19:1
+returns : tie.Need-returns
+returns c = let s = c .before .before .before .before .before .before .before .before .before .before .args in
+    builds-by (ap (λ r. r ∷ []) (row-inside (c .before .before .before .before .before .picked-row .result) 0 (s .count) (omega arith) ∙ c .before .before .before .before .before .picked-row .ensures ∙ ap (pick (map attribute (take (s .count) (s .columns .now)))) (c .before .before .before .before .before .before .row .ensures)))
+    (c .before .before .place-row .ensures)
+
+pub place-picked-spec : {M : Type 1} → statement M
+place-picked-spec =
+    tie.close
+    (tie.spec
+    row-requires
+    picked-row-requires
+    slice-aggregate-place-row
+    place-row-requires
+    same-length
+    returns)

@@ -1,0 +1,5 @@
+-- In reading order.
+pub mod Lists
+pub mod Tests
+pub mod Joins
+pub mod Divisions

@@ -1,0 +1,148 @@
+// Attributes, constants and comparisons, as a plan node's list words name them.
+ghost use mathlib.Core.Path.{_≡_};
+ghost use Prim.Native.Nat.{ℕ, _+_, _*_, _≤_};
+ghost use lib.ListN.{length, drop};
+ghost use Rattle.relations.specs.Comparison as comparison;
+ghost use Rattle.relations.specs.Columns as meaning;
+ghost use Rattle.relations.specs.PlanWords.{readPairs};
+ghost use Rattle.operations.specs.Lists.{attributeIn, operatorIn, tripleIn, pairIn, operatorNamed, firstTriple, firstPair, triplesIn};
+
+// The most columns of a row.
+pub const COLUMNS: usize = 32;
+
+// The list of a node that has none.
+pub const NO_WORDS: [u32; 0] = [];
+
+// A column's number, from 1.
+pub struct Attribute(pub u32);
+
+pub struct Constant(pub u32);
+
+pub enum Operator {
+    Equal,
+    NotEqual,
+    Less,
+    AtMost,
+    Greater,
+    AtLeast,
+}
+
+// A comparison of a left row's attribute with a right row's.
+pub struct Triple {
+    pub left: Attribute,
+    pub operator: Operator,
+    pub right: Attribute,
+}
+
+// A left attribute that must equal a right one.
+pub struct Pair {
+    pub left: Attribute,
+    pub right: Attribute,
+}
+
+pub fn holds(operator: Operator, x: u32, y: u32) -> bool
+    ensures { λ r. ⌜ r ≡ comparison.holds (operatorIn operator) x y ⌝ }
+{
+    match operator {
+        Operator::Equal => x == y,
+        Operator::NotEqual => x != y,
+        Operator::Less => x < y,
+        Operator::AtMost => x <= y,
+        Operator::Greater => y < x,
+        Operator::AtLeast => y <= x,
+    }
+}
+
+// The operator of a number from 1 to 6.
+pub fn operator_of(number: u32) -> Operator
+    ensures { λ r. ⌜ operatorIn r ≡ operatorNamed number ⌝ }
+{
+    match number {
+        1 => Operator::Equal,
+        2 => Operator::NotEqual,
+        3 => Operator::Less,
+        4 => Operator::AtMost,
+        5 => Operator::Greater,
+        _ => Operator::AtLeast,
+    }
+}
+
+// The word of a row at an attribute, 0 where the row has no such column.
+pub fn column_of(row: &[u32], attribute: Attribute) -> u32
+    ensures { λ r. ⌜ r ≡ meaning.column (now (row .entry)) (attributeIn attribute) ⌝ }
+{
+    let number = attribute.0 as usize;
+    if number == 0 {
+        return 0;
+    }
+    if row.len() < number {
+        return 0;
+    }
+    row[number - 1]
+}
+
+// The triple that starts at the word `at` of the list.
+pub fn triple_at(list: &[u32], at: usize) -> Triple
+    requires { ⌜ at + 3 ≤ length (now list) ⌝ }
+    ensures { λ r. ⌜ tripleIn r ≡ firstTriple (drop at (now (list .entry))) ⌝ }
+{
+    Triple {
+        left: Attribute(list[at]),
+        operator: operator_of(list[at + 1]),
+        right: Attribute(list[at + 2]),
+    }
+}
+
+// The pair that starts at the word `at` of the list.
+pub fn pair_at(list: &[u32], at: usize) -> Pair
+    requires { ⌜ at + 2 ≤ length (now list) ⌝ }
+    ensures { λ r. ⌜ pairIn r ≡ firstPair (drop at (now (list .entry))) ⌝ }
+{
+    Pair {
+        left: Attribute(list[at]),
+        right: Attribute(list[at + 1]),
+    }
+}
+
+// Whether two rows meet all of so many triples.
+pub fn meets(list: &[u32], count: usize, left: &[u32], right: &[u32]) -> bool
+    requires { ⌜ count * 3 ≤ length (now list) ⌝ }
+    ensures { λ r. ⌜ r ≡ meaning.meets (triplesIn count (now (list .entry))) (now (left .entry)) (now (right .entry)) ⌝ }
+{
+    let mut at: usize = 0;
+    let mut more = count;
+    while 0 < more {
+        let triple = triple_at(list, at);
+        let operator = triple.operator;
+        if holds(
+            operator,
+            column_of(left, triple.left),
+            column_of(right, triple.right),
+        ) {
+            at += 3;
+            more -= 1;
+        } else {
+            return false;
+        }
+    }
+    true
+}
+
+// Whether a left row equals a right row on all of so many pairs.
+pub fn equal_on(list: &[u32], count: usize, left: &[u32], right: &[u32]) -> bool
+    requires { ⌜ count * 2 ≤ length (now list) ⌝ }
+    ensures { λ r. ⌜ r ≡ meaning.equalOn (readPairs count (now (list .entry))) (now (left .entry)) (now (right .entry)) ⌝ }
+{
+    let mut at: usize = 0;
+    let mut more = count;
+    while 0 < more {
+        let pair = pair_at(list, at);
+        if column_of(left, pair.left) == column_of(right, pair.right) {
+            at += 2;
+            more -= 1;
+        } else {
+            return false;
+        }
+    }
+    true
+}

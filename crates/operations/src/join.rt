@@ -1,0 +1,137 @@
+// Operation 5: each left row before each right row that it meets. With no triple this is the product.
+ghost use mathlib.Core.Path.{_≡_};
+ghost use mathlib.Core.List.{[], _∷_, _++_, map};
+ghost use Prim.Native.Nat.{ℕ, _+_, _*_, _≤_, _<_};
+ghost use lib.ListN.{length};
+ghost use Rattle.relations.specs.Limits.{columnLimit};
+ghost use Rattle.relations.specs.Lists.{filter};
+ghost use Rattle.relations.specs.Columns as meaning;
+ghost use Rattle.relations.specs.Values.{Ascending};
+ghost use Rattle.relations.specs.Operations.{joinCandidates};
+ghost use Rattle.values.specs.Words.{rowIn, rowsAt, rowsOf, end};
+ghost use Rattle.values.specs.Building.{Builds};
+ghost use Rattle.operations.specs.Lists.{triplesIn};
+ghost use Rattle.operations.specs.Joins.{joined};
+use crate::columns::meets;
+use crate::made::pair_row;
+use values::placing::Placed;
+use values::placing::place_row;
+use values::rows::Value;
+use values::rows::row;
+
+// Whether the rows that start at `a` and at `b` meet the triples.
+fn rows_meet(
+    list: &[u32],
+    count: usize,
+    work: &[u32],
+    a: usize,
+    width: usize,
+    b: usize,
+    more: usize,
+) -> bool
+    requires { ⌜ count * 3 ≤ length (now list) ⌝ }
+    ensures { λ r. ⌜ r ≡ meaning.meets (triplesIn count (now (list .entry))) (rowIn (now (work .entry)) a width) (rowIn (now (work .entry)) b more) ⌝ }
+{
+    meets(
+        list,
+        count,
+        row(work, work, true, a, width),
+        row(work, work, true, b, more),
+    )
+}
+
+// The left row at `a` with the right row at `b` behind it, if they meet, is put into the value of `made` rows at `out`.
+fn join_pair(
+    list: &[u32],
+    count: usize,
+    work: &mut [u32],
+    a: usize,
+    width: usize,
+    b: usize,
+    more: usize,
+    out: usize,
+    made: usize,
+) -> Placed
+    requires { ⌜ (count * 3 ≤ length (now list)) × (0 < width) × (width + more ≤ columnLimit) × (a + width ≤ length (now work)) × (b + more ≤ length (now work)) × (out + made * (width + more) ≤ length (now work)) × Ascending (rowsAt (width + more) made out (now work)) ⌝ }
+    ensures { λ r. ⌜ Builds (width + more) out made (joined (triplesIn count (now (list .entry))) (rowIn (now (work .entry)) a width) (rowIn (now (work .entry)) b more ∷ [])) (now (work .entry)) (now (work .exit)) r ⌝ }
+{
+    if rows_meet(list, count, work, a, width, b, more) {
+        let pair = pair_row(work, a, width, b, more);
+        place_row(
+            &pair,
+            work,
+            false,
+            0,
+            Value {
+                base: out,
+                rows: made,
+                width: width + more,
+            },
+        )
+    } else {
+        Placed::Rows(made)
+    }
+}
+
+// The left row at `a` with each right row that it meets.
+fn join_row(
+    list: &[u32],
+    count: usize,
+    work: &mut [u32],
+    a: usize,
+    width: usize,
+    right: Value,
+    out: usize,
+    made: usize,
+) -> Placed
+    requires { ⌜ (count * 3 ≤ length (now list)) × (0 < width) × (width + right .width ≤ columnLimit) × (a + width ≤ out) × (end right ≤ out) × (out + made * (width + right .width) ≤ length (now work)) × Ascending (rowsAt (width + right .width) made out (now work)) ⌝ }
+    ensures { λ r. ⌜ Builds (width + right .width) out made (joined (triplesIn count (now (list .entry))) (rowIn (now (work .entry)) a width) (rowsOf right (now (work .entry)))) (now (work .entry)) (now (work .exit)) r ⌝ }
+{
+    let more = right.width;
+    let mut at = right.base;
+    let mut left = right.rows;
+    let mut total = made;
+    while 0 < left {
+        match join_pair(list, count, work, a, width, at, more, out, total) {
+            Placed::Rows(rows) => {
+                total = rows;
+            }
+            Placed::Full => {
+                return Placed::Full;
+            }
+        }
+        at += more;
+        left -= 1;
+    }
+    Placed::Rows(total)
+}
+
+pub fn join(
+    list: &[u32],
+    count: usize,
+    work: &mut [u32],
+    left: Value,
+    right: Value,
+    out: usize,
+) -> Placed
+    requires { ⌜ (count * 3 ≤ length (now list)) × (0 < left .width) × (left .width + right .width ≤ columnLimit) × (end left ≤ out) × (end right ≤ out) × (out ≤ length (now work)) ⌝ }
+    ensures { λ r. ⌜ Builds (left .width + right .width) out 0 (joinCandidates (triplesIn count (now (list .entry))) (rowsOf left (now (work .entry))) (rowsOf right (now (work .entry)))) (now (work .entry)) (now (work .exit)) r ⌝ }
+{
+    let width = left.width;
+    let mut at = left.base;
+    let mut more = left.rows;
+    let mut made: usize = 0;
+    while 0 < more {
+        match join_row(list, count, work, at, width, right, out, made) {
+            Placed::Rows(rows) => {
+                made = rows;
+            }
+            Placed::Full => {
+                return Placed::Full;
+            }
+        }
+        at += width;
+        more -= 1;
+    }
+    Placed::Rows(made)
+}
