@@ -161,7 +161,7 @@ candidates-node tables made Subtract left right count list = refl
 
 -- A legal node over the values that stand in front of `out`.
 module _ (catalogue tables words : List ℕ) (plan : PlanNode) (size : length words ≡ planNodeWords) (stood : Stands words plan)
-  {widths rows bases : List ℕ} {out : ℕ} {work : List ℕ} (legal : legalRead (relationsOf catalogue) widths (readNode words) ≡ true) (stand : Stand widths rows bases out work) where
+    {widths rows bases : List ℕ} {out : ℕ} {work : List ℕ} (legal : legalRead (relationsOf catalogue) widths (readNode words) ≡ true) (stand : Stand widths rows bases out work) where
   abbrev list : List ℕ
   list = drop headWords words
 
@@ -198,8 +198,7 @@ module _ (catalogue tables words : List ℕ) (plan : PlanNode) (size : length wo
   asks-named Antijoin o = let k = facts Antijoin o in (side (plan .left) (k .0), side (plan .right) (k .1), omega (arith, room, counts Antijoin o .1))
   asks-named Divide o =
       let k = facts Divide o in
-      let pairs : List Pair = readPairs (plan .count) list in
-      (
+      let pairs : List Pair = readPairs (plan .count) list in (
         side (plan .left) (k .0),
         side (plan .right) (k .1),
         omega (arith, room, counts Divide o .1),
@@ -213,15 +212,15 @@ module _ (catalogue tables words : List ℕ) (plan : PlanNode) (size : length wo
 
   makes-named : (operation : Operation) → plan .operation ≡ operation → {after : List ℕ} {r : Placed}
       → Builds (widthMade (columnsOf catalogue) operation (plan .left) (plan .count) (valueNamed made (plan .left) .width) (valueNamed made (plan .right) .width)) out 0
-          (offered (storedTables catalogue tables) operation (plan .left) (plan .count) list (rowsOf (valueNamed made (plan .left)) work) (rowsOf (valueNamed made (plan .right)) work)) work after r
+      (offered (storedTables catalogue tables) operation (plan .left) (plan .count) list (rowsOf (valueNamed made (plan .left)) work) (rowsOf (valueNamed made (plan .right)) work)) work after r
       → Builds (widthRead (columnsOf catalogue) widths (readNode words)) out 0 (candidatesRead (storedTables catalogue tables) (standing made work) (readNode words)) work after r
   makes-named operation o g =
       let w : widthOfNode (columnsOf catalogue) widths (nodeIn operation (plan .left) (plan .right) (plan .count) list) ≡ widthMade (columnsOf catalogue) operation (plan .left) (plan .count) (valueNamed made (plan .left) .width) (valueNamed made (plan .right) .width) =
-        width-node (columnsOf catalogue) widths operation (plan .left) (plan .right) (plan .count) list (λ p. omega (arith, room, counts Project (o ∙ p) .1))
-        ∙ ap₂ (widthMade (columnsOf catalogue) operation (plan .left) (plan .count)) (sym (same-width (plan .left))) (sym (same-width (plan .right))) in
+      width-node (columnsOf catalogue) widths operation (plan .left) (plan .right) (plan .count) list (λ p. omega (arith, room, counts Project (o ∙ p) .1))
+      ∙ ap₂ (widthMade (columnsOf catalogue) operation (plan .left) (plan .count)) (sym (same-width (plan .left))) (sym (same-width (plan .right))) in
       let cs : candidates (storedTables catalogue tables) (standing made work) (nodeIn operation (plan .left) (plan .right) (plan .count) list) ≡ offered (storedTables catalogue tables) operation (plan .left) (plan .count) list (rowsOf (valueNamed made (plan .left)) work) (rowsOf (valueNamed made (plan .right)) work) =
-        candidates-node (storedTables catalogue tables) (standing made work) operation (plan .left) (plan .right) (plan .count) list
-        ∙ ap₂ (offered (storedTables catalogue tables) operation (plan .left) (plan .count) list) (standing-at made work (plan .left)) (standing-at made work (plan .right)) in
+      candidates-node (storedTables catalogue tables) (standing made work) operation (plan .left) (plan .right) (plan .count) list
+      ∙ ap₂ (offered (storedTables catalogue tables) operation (plan .left) (plan .count) list) (standing-at made work (plan .left)) (standing-at made work (plan .right)) in
       rw (reads operation o, w, cs) g
 
   -- the same of the sides and the list as they were read
@@ -232,7 +231,7 @@ module _ (catalogue tables words : List ℕ) (plan : PlanNode) (size : length wo
     -- what an operation makes of its values is what the words' node makes
     pub makes : {after : List ℕ} {p : Placed}
         → Builds (widthMade (columnsOf catalogue) operation (plan .left) (plan .count) (left .width) (right .width)) out 0
-            (offered (storedTables catalogue tables) operation (plan .left) (plan .count) words′ (rowsOf left work) (rowsOf right work)) work after p
+        (offered (storedTables catalogue tables) operation (plan .left) (plan .count) words′ (rowsOf left work) (rowsOf right work)) work after p
         → Builds (widthRead (columnsOf catalogue) widths (readNode words)) out 0 (candidatesRead (storedTables catalogue tables) (standing made work) (readNode words)) work after p
     makes g = makes-named operation o (rw (l, r, i) at g)
 

@@ -110,8 +110,7 @@ slice-aggregate-run-node-3 c = sym (length-take-le (c .before .before .before .b
 -- src/lib.rt:51:15
 run-node-requires : tie.Need-run-node-requires Inv-loop μ-loop
 run-node-requires c κs = let s = c .before .before .before .before .before .before .before .before .before .before .before in let t = c .before .before .before .before .before .before .loop in
-    let size : t .at + planNodeWords - t .at ≡ planNodeWords = omega arith in
-    (
+    let size : t .at + planNodeWords - t .at ≡ planNodeWords = omega arith in (
       rw size (length-take-le planNodeWords (drop (t .at) (s .args .plan .now)) (omega (arith, length-drop (t .at) (s .args .plan .now), long s, t .inv .here))),
       s .pre .0,
       rw size (running-legal (s .args .catalogue .now) (s .args .tables .now) (s .args .plan .now) (s .args .nodes) (s .pre .0) (s .pre .1) (t .inv) (omega arith)),

@@ -54,8 +54,8 @@ module _ (catalogue tables : List ℕ) (plan : List Node) (work after : List ℕ
           ≡ ranOutcome catalogue tables plan left output (fitWithin catalogue tables plan (length work))
       ran-done room′ stored =
           let answer : rowIn after (value .base) (value .rows * value .width) ≡ wordsOf (answerRows catalogue tables plan) =
-            row-inside after (value .base) (value .rows * value .width) (ran-answer .inside)
-            ∙ sym (words-rowsAt (value .width) (value .rows) (value .base) after) ∙ ap wordsOf (ran-answer .rows) in
+          row-inside after (value .base) (value .rows * value .width) (ran-answer .inside)
+          ∙ sym (words-rowsAt (value .width) (value .rows) (value .base) after) ∙ ap wordsOf (ran-answer .rows) in
           rw (fit, ← words, le-ltb (length output) (value .rows * value .width) room′, stored, answer, ← nodes-are, ran-answer .heavy, ran-answer .room, ran-answer .width, many)
 
 -- The whole call.

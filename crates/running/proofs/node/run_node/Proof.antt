@@ -58,11 +58,10 @@ returns c = let s = c .before .before .before .before .before .before .before .b
     let stood = stands (s .args .words .now) (c .before .before .before .before .before .before .before .before .before .before .node .given .0 .0) (s .pre .0) (sym (c .before .before .before .before .before .before .before .before .before .before .before .before .decode-node .ensures) ∙ c .before .before .before .before .before .before .before .before .before .before .node .given .1) in
     record {
       builds = builds-as (c .before .before .rows .given .1) (c .before .before .before .before .before .before .make-value .ensures);
-      counts =
-          (
-            c .before .before .before .before .before .before .before .before .width-of .ensures ∙ width-read (s .args .words .now) (c .before .before .before .before .before .before .before .before .before .before .node .given .0 .0) stood (columnsOf (s .args .catalogue .now)) (s .args .widths .now),
-            c .weight .ensures ∙ weight-read (s .args .words .now) (c .before .before .before .before .before .before .before .before .before .before .node .given .0 .0) stood,
-          );
+      counts = (
+        c .before .before .before .before .before .before .before .before .width-of .ensures ∙ width-read (s .args .words .now) (c .before .before .before .before .before .before .before .before .before .before .node .given .0 .0) stood (columnsOf (s .args .catalogue .now)) (s .args .widths .now),
+        c .weight .ensures ∙ weight-read (s .args .words .now) (c .before .before .before .before .before .before .before .before .before .before .node .given .0 .0) stood,
+      );
     }
 
 -- src/node.rt:139:1

@@ -8,6 +8,8 @@ ghost use Rattle.text.specs.Catalogue.{tablesOk};
 ghost use Rattle.plans.specs.Judging.{judgement, nodesOf};
 ghost use Rattle.running.specs.RunCall.{runNumbers, runOutcome, capacityOf, fitWithin, ranOutcome};
 ghost use Rattle.running.specs.PlanRun.{PlanRun};
+use crate::node::Made;
+use crate::node::run_node;
 use plans::judging::Judgement;
 use plans::judging::judge_plan;
 use plans::limits::NODE_WORDS;
@@ -16,12 +18,17 @@ use text::catalogue::tables_ok;
 use text::limits::WORDS;
 use values::placing::write_row;
 use values::rows::Value;
-use crate::node::Made;
-use crate::node::run_node;
+
 pub mod node;
 
 pub enum Ran {
-    Done { nodes: usize, heavy: usize, room: usize, width: usize, rows: usize },
+    Done {
+        nodes: usize,
+        heavy: usize,
+        room: usize,
+        width: usize,
+        rows: usize,
+    },
     WrongTables,
     IllegalPlan(usize),
     NoRoom(usize),
@@ -30,12 +37,22 @@ pub enum Ran {
 
 // The answer of a plan whose values all have room, and what it took; or the node whose value has none.
 pub enum Worked {
-    Answer { value: Value, heavy: usize, room: usize },
+    Answer {
+        value: Value,
+        heavy: usize,
+        room: usize,
+    },
     NoRoom(usize),
 }
 
 // The nodes of a legal plan one after another, each value behind the one before it. All of the work area is room.
-fn run_nodes(catalogue: &[u32], tables: &[u32], plan: &[u32], nodes: usize, work: &mut [u32]) -> Worked
+fn run_nodes(
+    catalogue: &[u32],
+    tables: &[u32],
+    plan: &[u32],
+    nodes: usize,
+    work: &mut [u32],
+) -> Worked
     requires { ⌜ (tablesOk (now catalogue) (now tables) ≡ true) × (judgement (now catalogue) (now plan) ≡ Judgement.Legal nodes) ⌝ }
     ensures { λ r. ⌜ PlanRun (now (catalogue .entry)) (now (tables .entry)) (nodesOf (now (plan .entry))) (now (work .exit)) r ⌝ }
 {
@@ -48,8 +65,21 @@ fn run_nodes(catalogue: &[u32], tables: &[u32], plan: &[u32], nodes: usize, work
     let mut at = 0;
     while place < nodes {
         let next = at + NODE_WORDS;
-        match run_node(catalogue, tables, &plan[at..next], work, &widths[..place], &rows[..place], &bases[..place], out) {
-            Made::Value { width, rows: count, heavy: more } => {
+        match run_node(
+            catalogue,
+            tables,
+            &plan[at..next],
+            work,
+            &widths[..place],
+            &rows[..place],
+            &bases[..place],
+            out,
+        ) {
+            Made::Value {
+                width,
+                rows: count,
+                heavy: more,
+            } => {
                 widths[place] = width;
                 rows[place] = count;
                 bases[place] = out;
@@ -64,12 +94,27 @@ fn run_nodes(catalogue: &[u32], tables: &[u32], plan: &[u32], nodes: usize, work
         at = next;
     }
     let last = nodes - 1;
-    let value = Value { base: bases[last], rows: rows[last], width: widths[last] };
-    Worked::Answer { value, heavy, room: out }
+    let value = Value {
+        base: bases[last],
+        rows: rows[last],
+        width: widths[last],
+    };
+    Worked::Answer {
+        value,
+        heavy,
+        room: out,
+    }
 }
 
 // A legal plan run in the work area, and its answer handed out.
-fn hand_out(catalogue: &[u32], tables: &[u32], plan: &[u32], nodes: usize, work: &mut [u32], output: &mut [u32]) -> Ran
+fn hand_out(
+    catalogue: &[u32],
+    tables: &[u32],
+    plan: &[u32],
+    nodes: usize,
+    work: &mut [u32],
+    output: &mut [u32],
+) -> Ran
     requires { ⌜ (tablesOk (now catalogue) (now tables) ≡ true) × (judgement (now catalogue) (now plan) ≡ Judgement.Legal nodes) ⌝ }
     ensures { λ r. ⌜ ((left : List ℕ) → record { numbers = runNumbers r; work = left; output = now (output .exit) } ≡ ranOutcome (now (catalogue .entry)) (now (tables .entry)) (nodesOf (now (plan .entry))) left (now (output .entry)) (fitWithin (now (catalogue .entry)) (now (tables .entry)) (nodesOf (now (plan .entry))) (length (now (work .entry))))) ⌝ }
 {
@@ -82,7 +127,13 @@ fn hand_out(catalogue: &[u32], tables: &[u32], plan: &[u32], nodes: usize, work:
                 return Ran::LongAnswer(nodes - 1);
             }
             write_row(work, output, false, value.base, words, 0);
-            Ran::Done { nodes, heavy, room, width, rows }
+            Ran::Done {
+                nodes,
+                heavy,
+                room,
+                width,
+                rows,
+            }
         }
         Worked::NoRoom(place) => Ran::NoRoom(place),
     }
@@ -99,7 +150,14 @@ fn clear(words: &mut [u32])
 }
 
 // Once running starts, all words of the work area are 0 afterwards, whatever the outcome.
-fn run_legal(catalogue: &[u32], tables: &[u32], plan: &[u32], nodes: usize, work: &mut [u32], output: &mut [u32]) -> Ran
+fn run_legal(
+    catalogue: &[u32],
+    tables: &[u32],
+    plan: &[u32],
+    nodes: usize,
+    work: &mut [u32],
+    output: &mut [u32],
+) -> Ran
     requires { ⌜ (tablesOk (now catalogue) (now tables) ≡ true) × (judgement (now catalogue) (now plan) ≡ Judgement.Legal nodes) ⌝ }
     ensures { λ r. ⌜ ((behind : List ℕ) → record { numbers = runNumbers r; work = now (work .exit) ++ behind; output = now (output .exit) } ≡ ranOutcome (now (catalogue .entry)) (now (tables .entry)) (nodesOf (now (plan .entry))) (replicate (length (now (work .entry))) 0 ++ behind) (now (output .entry)) (fitWithin (now (catalogue .entry)) (now (tables .entry)) (nodesOf (now (plan .entry))) (length (now (work .entry))))) ⌝ }
 {
@@ -119,7 +177,13 @@ fn capacity_of(work: &[u32]) -> usize
     }
 }
 
-pub fn run(catalogue: &[u32], tables: &[u32], plan: &[u32], work: &mut [u32], output: &mut [u32]) -> Ran
+pub fn run(
+    catalogue: &[u32],
+    tables: &[u32],
+    plan: &[u32],
+    work: &mut [u32],
+    output: &mut [u32],
+) -> Ran
     ensures { λ r. ⌜ record { numbers = runNumbers r; work = now (work .exit); output = now (output .exit) } ≡ runOutcome (now (catalogue .entry)) (now (tables .entry)) (now (plan .entry)) (now (work .entry)) (now (output .entry)) ⌝ }
 {
     if !tables_ok(catalogue, tables) {
@@ -128,7 +192,14 @@ pub fn run(catalogue: &[u32], tables: &[u32], plan: &[u32], work: &mut [u32], ou
     match judge_plan(catalogue, plan) {
         Judgement::Legal(nodes) => {
             let capacity = capacity_of(work);
-            run_legal(catalogue, tables, plan, nodes, &mut work[..capacity], output)
+            run_legal(
+                catalogue,
+                tables,
+                plan,
+                nodes,
+                &mut work[..capacity],
+                output,
+            )
         }
         Judgement::Illegal(place) => Ran::IllegalPlan(place),
     }

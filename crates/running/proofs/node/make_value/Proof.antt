@@ -79,9 +79,9 @@ module _ (v : Sides) where
   -- what it makes is what the words' node makes
   built : (operation : Operation) → start .args .node .operation ≡ operation → {after : List ℕ} {r : Placed}
       → Builds (widthMade (columnsOf (start .args .catalogue .now)) operation (start .args .node .left) (start .args .node .count) (left .width) (right .width)) (start .args .out) 0
-          (offered (storedTables (start .args .catalogue .now) (start .args .tables .now)) operation (start .args .node .left) (start .args .node .count) list (rowsOf left work) (rowsOf right work)) work after r
+      (offered (storedTables (start .args .catalogue .now) (start .args .tables .now)) operation (start .args .node .left) (start .args .node .count) list (rowsOf left work) (rowsOf right work)) work after r
       → Builds (widthRead (columnsOf (start .args .catalogue .now)) (start .args .widths .now) (readNode words)) (start .args .out) 0
-          (candidatesRead (storedTables (start .args .catalogue .now) (start .args .tables .now)) (standing (valuesIn (start .args .widths .now) (start .args .rows .now) (start .args .bases .now)) work) (readNode words)) work after r
+      (candidatesRead (storedTables (start .args .catalogue .now) (start .args .tables .now)) (standing (valuesIn (start .args .widths .now) (start .args .rows .now) (start .args .bases .now)) work) (readNode words)) work after r
   built operation o g =
       makes (start .args .catalogue .now) (start .args .tables .now) words (start .args .node) (start .pre .0) stood (start .pre .3) (start .pre .4)
       (v .before .value-at .ensures) (v .value-at2 .ensures) list-is operation o g

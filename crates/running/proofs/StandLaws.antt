@@ -96,7 +96,7 @@ standing-append [] value work = refl
 standing-append (first ∷ made) value work = ap (λ (more : List Rows). rowsOf first work ∷ more) (standing-append made value work)
 
 module _ {widths rows bases : List ℕ} {out : ℕ} {work : List ℕ} (stand : Stand widths rows bases out work)
-  {width count : ℕ} {cs : Rows} {after : List ℕ} (g : Builds width out 0 cs work after (Placed·Rows count)) where
+    {width count : ℕ} {cs : Rows} {after : List ℕ} (g : Builds width out 0 cs work after (Placed·Rows count)) where
   abbrev before : List Value
   before = valuesIn widths rows bases
 
@@ -122,7 +122,7 @@ module _ {widths rows bases : List ℕ} {out : ℕ} {work : List ℕ} (stand : S
         each =
             rw more-values
             (all-append (StandsBefore (out + count * width) after) before (new ∷ [])
-              (each-kept out (out + count * width) work after (omega arith) same-rows before (stand .each))
-              ((some, few, omega arith, rw (made-value (stand .inside) g) (ascending-canonical cs)), tt));
+            (each-kept out (out + count * width) work after (omega arith) same-rows before (stand .each))
+            ((some, few, omega arith, rw (made-value (stand .inside) g) (ascending-canonical cs)), tt));
         inside = made-fits (stand .inside) g;
       }

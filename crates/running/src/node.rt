@@ -44,7 +44,11 @@ use values::rows::Value;
 
 // What a node's value has, and 1 where its operation is heavy, else 0; or that there is no room for it.
 pub enum Made {
-    Value { width: usize, rows: usize, heavy: usize },
+    Value {
+        width: usize,
+        rows: usize,
+        heavy: usize,
+    },
     NoRoom,
 }
 
@@ -54,14 +58,28 @@ fn value_at(widths: &[usize], rows: &[usize], bases: &[usize], place: usize) -> 
     ensures { λ r. ⌜ r ≡ valueNamed (valuesIn (now (widths .entry)) (now (rows .entry)) (now (bases .entry))) place ⌝ }
 {
     if place < widths.len() {
-        Value { base: bases[place], rows: rows[place], width: widths[place] }
+        Value {
+            base: bases[place],
+            rows: rows[place],
+            width: widths[place],
+        }
     } else {
-        Value { base: 0, rows: 0, width: 0 }
+        Value {
+            base: 0,
+            rows: 0,
+            width: 0,
+        }
     }
 }
 
 // Operation 1, by the relation's number.
-fn load_relation(catalogue: &[u32], tables: &[u32], relation: usize, work: &mut [u32], out: usize) -> Placed
+fn load_relation(
+    catalogue: &[u32],
+    tables: &[u32],
+    relation: usize,
+    work: &mut [u32],
+    out: usize,
+) -> Placed
     requires { ⌜ (tablesOk (now catalogue) (now tables) ≡ true) × (relation < relationsOf (now catalogue)) × (out ≤ length (now work)) ⌝ }
     ensures { λ r. ⌜ Builds (columnsOf (now (catalogue .entry)) relation) out 0 (loadCandidates (storedTables (now (catalogue .entry)) (now (tables .entry)) relation)) (now (work .entry)) (now (work .exit)) r ⌝ }
 {
@@ -92,7 +110,17 @@ fn select_by_attribute(list: &[u32], work: &mut [u32], left: Value, out: usize) 
 }
 
 // The value of a decoded node, from `out` on.
-fn make_value(catalogue: &[u32], tables: &[u32], node: PlanNode, words: &[u32], work: &mut [u32], widths: &[usize], rows: &[usize], bases: &[usize], out: usize) -> Placed
+fn make_value(
+    catalogue: &[u32],
+    tables: &[u32],
+    node: PlanNode,
+    words: &[u32],
+    work: &mut [u32],
+    widths: &[usize],
+    rows: &[usize],
+    bases: &[usize],
+    out: usize,
+) -> Placed
     requires { ⌜ (length (now words) ≡ planNodeWords) × (decoded (readNode (now words)) ≡ Decoded.Node node) × (tablesOk (now catalogue) (now tables) ≡ true) × (legalRead (relationsOf (now catalogue)) (now widths) (readNode (now words)) ≡ true) × Stand (now widths) (now rows) (now bases) out (now work) ⌝ }
     ensures { λ r. ⌜ Builds (widthRead (columnsOf (now (catalogue .entry))) (now (widths .entry)) (readNode (now (words .entry)))) out 0 (candidatesRead (storedTables (now (catalogue .entry)) (now (tables .entry))) (standing (valuesIn (now (widths .entry)) (now (rows .entry)) (now (bases .entry))) (now (work .entry))) (readNode (now (words .entry)))) (now (work .entry)) (now (work .exit)) r ⌝ }
 {
@@ -136,7 +164,16 @@ fn weight(operation: Operation) -> usize
 }
 
 // A legal node, by its words. Words that are no node do not come up: the plan was judged.
-pub fn run_node(catalogue: &[u32], tables: &[u32], words: &[u32], work: &mut [u32], widths: &[usize], rows: &[usize], bases: &[usize], out: usize) -> Made
+pub fn run_node(
+    catalogue: &[u32],
+    tables: &[u32],
+    words: &[u32],
+    work: &mut [u32],
+    widths: &[usize],
+    rows: &[usize],
+    bases: &[usize],
+    out: usize,
+) -> Made
     requires { ⌜ (length (now words) ≡ planNodeWords) × (tablesOk (now catalogue) (now tables) ≡ true) × (legalRead (relationsOf (now catalogue)) (now widths) (readNode (now words)) ≡ true) × Stand (now widths) (now rows) (now bases) out (now work) ⌝ }
     ensures { λ r. ⌜ NodeRun (now (catalogue .entry)) (now (tables .entry)) (readNode (now (words .entry))) (now (widths .entry)) (standing (valuesIn (now (widths .entry)) (now (rows .entry)) (now (bases .entry))) (now (work .entry))) out (now (work .entry)) (now (work .exit)) r ⌝ }
 {
@@ -144,8 +181,22 @@ pub fn run_node(catalogue: &[u32], tables: &[u32], words: &[u32], work: &mut [u3
         Decoded::Node(node) => {
             let operation = node.operation;
             let width = width_of(catalogue, widths, node);
-            match make_value(catalogue, tables, node, words, work, widths, rows, bases, out) {
-                Placed::Rows(rows) => Made::Value { width, rows, heavy: weight(operation) },
+            match make_value(
+                catalogue,
+                tables,
+                node,
+                words,
+                work,
+                widths,
+                rows,
+                bases,
+                out,
+            ) {
+                Placed::Rows(rows) => Made::Value {
+                    width,
+                    rows,
+                    heavy: weight(operation),
+                },
                 Placed::Full => Made::NoRoom,
             }
         }

@@ -14,7 +14,7 @@ use Rattle.relations.specs.Lists.{All, filter}
 use Rattle.relations.specs.Values.{Rows, Tables, Wide, Ascending, canonical}
 use Rattle.relations.specs.Nodes.{Node}
 use Rattle.relations.specs.Machine.{run, lastOr}
-use Rattle.relations.specs.Plan.{values, answer, widths, widthAt, valueAt, candidates, valueWords, widthOfNode, valueOfNode, heavyNode, room} 
+use Rattle.relations.specs.Plan.{values, answer, widths, widthAt, valueAt, candidates, valueWords, widthOfNode, valueOfNode, heavyNode, room}
 use Rattle.relations.specs.Plan.{heavy as heavyOf}
 use Rattle.relations.specs.Legality.{between, legalNodes, legalPlan}
 use Rattle.relations.specs.PlanWords.{readNode}
