@@ -17,7 +17,7 @@ use Rattle.relations.specs.Plan.{widthAt, widthOfNode}
 use Rattle.relations.specs.Legality.{legalTriples, legalNode}
 use Rattle.relations.specs.PlanWords.{readNode}
 use Rattle.relations.proofs.BoolLaws.{and-right}
-use Rattle.plans.specs.Stored.{relationsOf, columnsOf}
+use Rattle.catalogue.specs.Stored.{relationsOf, columnsOf}
 use Rattle.plans.specs.Decoding.{planNode, decoded}
 use Rattle.plans.specs.Judging.{legalRead, judgedNode, onward, judgeNodes, judgement, widthOf, joinFits}
 use Rattle.plans.specs.declared.nodes.PlanNode.{PlanNode}

@@ -1,4 +1,3 @@
-pub mod StoredLaws
 pub mod WordLaws
 pub mod ShapeLaws
 pub mod OperatorLaws

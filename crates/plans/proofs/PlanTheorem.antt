@@ -20,7 +20,7 @@ use Rattle.relations.specs.PlanWords.{nodeWords, countFits, readNode}
 use Rattle.relations.proofs.BoolLaws.{and-left, and-right, and-both}
 use Rattle.relations.proofs.LegalityLaws.{LegalFacts, legal-facts, between-so}
 use Rattle.relations.proofs.PlanWordsOnly.{words-and-back}
-use Rattle.plans.specs.Stored.{relationsOf, columnsOf}
+use Rattle.catalogue.specs.Stored.{relationsOf, columnsOf}
 use Rattle.plans.specs.Judging.{judgedNode, onward, judgeNodes, judgement, nodesIn, nodesOf, JudgedExactly}
 use Rattle.plans.specs.declared.judging.Width.the-variants.{Of, Illegal as NoWidth}
 use Rattle.plans.specs.declared.judging.Judgement.{Judgement}

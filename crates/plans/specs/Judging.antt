@@ -12,7 +12,7 @@ use Rattle.relations.specs.Nodes as nodes
 use Rattle.relations.specs.Plan.{widthAt, widthOfNode}
 use Rattle.relations.specs.Legality.{between, distinct, lower, legalNode, legalPlan}
 use Rattle.relations.specs.PlanWords.{nodeWords, readNode}
-use Rattle.plans.specs.Stored.{relationsOf, columnsOf}
+use Rattle.catalogue.specs.Stored.{relationsOf, columnsOf}
 use Rattle.plans.specs.Decoding.{spaced}
 use Rattle.plans.specs.declared.nodes.Operation.{Operation}
 use Rattle.plans.specs.declared.nodes.Operation.the-variants.{Load, Project, SelectConstant, SelectAttribute, Join, Semijoin, Antijoin, Divide, Unite, Intersect, Subtract}

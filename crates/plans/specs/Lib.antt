@@ -1,3 +1,2 @@
-pub mod Stored
 pub mod Decoding
 pub mod Judging

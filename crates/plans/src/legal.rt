@@ -9,7 +9,7 @@ ghost use Rattle.relations.specs.Columns.{listed};
 ghost use Rattle.relations.specs.Plan.{widthAt};
 ghost use Rattle.relations.specs.Legality.{lower, distinct, legalSides};
 ghost use Rattle.relations.specs.PlanWords.{readNode};
-ghost use Rattle.plans.specs.Stored.{relationsOf, columnsOf};
+ghost use Rattle.catalogue.specs.Stored.{relationsOf, columnsOf};
 ghost use Rattle.plans.specs.Decoding.{spaced, decoded};
 ghost use Rattle.plans.specs.declared.nodes.Decoded.the-variants.{Node};
 ghost use Rattle.plans.specs.Judging.{widthOf, joinFits, triplesLegal, pairsLegal, legalRead};
@@ -20,8 +20,9 @@ use crate::limits::TRIPLE_WORDS;
 use crate::nodes::Operation;
 use crate::nodes::PlanNode;
 use crate::nodes::within;
-use crate::stored::columns_of;
-use crate::stored::relations_of;
+use catalogue::judging::wide;
+use catalogue::stored::columns_of;
+use catalogue::stored::relations_of;
 
 // 0 where there is no such node.
 pub fn width_at(widths: &[usize], place: usize) -> usize
@@ -42,7 +43,7 @@ pub fn width_of(catalogue: &[u32], widths: &[usize], node: PlanNode) -> usize
     let operation = node.operation;
     let left = width_at(widths, node.left);
     match operation {
-        Operation::Load => columns_of(catalogue, node.left),
+        Operation::Load => wide(columns_of(catalogue, node.left)),
         Operation::Project => node.count,
         Operation::SelectConstant => left,
         Operation::SelectAttribute => left,

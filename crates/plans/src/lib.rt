@@ -3,4 +3,3 @@ pub mod judging;
 pub mod legal;
 pub mod limits;
 pub mod nodes;
-pub mod stored;

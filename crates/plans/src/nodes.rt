@@ -15,7 +15,7 @@ use crate::limits::PAIR_WORDS;
 use crate::limits::PAIRS;
 use crate::limits::TRIPLE_WORDS;
 use crate::limits::TRIPLES;
-use crate::stored::wide;
+use catalogue::judging::wide;
 
 pub enum Operation {
     Load,

@@ -12,7 +12,7 @@ use Rattle.relations.proofs.BoolLaws.{true-or-false}
 use Rattle.calculus.specs.Question.{rangeNodes}
 use Rattle.question.specs.Nodes.{nodeCount, nodeAt, isRange, isIllFormed}
 use Rattle.question.specs.References.{referencesTo, seen, firstFrom, lowest, notOnce}
-use Rattle.question.specs.Catalogue.{relationCount, columnsOf}
+use Rattle.catalogue.specs.Stored.{relationsOf, columnsOf}
 use Rattle.question.specs.Trees.{treeOf, treeNodes, questionOf, reading}
 use Rattle.question.specs.Scopes.{emptyScope}
 use Rattle.question.specs.Judgement.{countOk, isAlpha, isUnknown, lowestIllFormed, lastNode, lowestNotOnce, lowestUnknown, faultsFound, judgeTree, judgeNodes, judged}
@@ -123,14 +123,14 @@ accepted-right catalogue words has h =
     let last : ℕ = lastNode words in
     let e : n ≡ suc last = omega (arith, c .some) in
     let formed : (i : ℕ) → i < n → isIllFormed (nodeAt words i) ≡ false = none-below (λ i. isIllFormed (nodeAt words i)) n (p .formed) in
-    let known : (i : ℕ) → i < n → isUnknown (relationCount catalogue) (nodeAt words i) ≡ false = none-below (λ i. isUnknown (relationCount catalogue) (nodeAt words i)) n (p .known) in
+    let known : (i : ℕ) → i < n → isUnknown (relationsOf catalogue) (nodeAt words i) ≡ false = none-below (λ i. isUnknown (relationsOf catalogue) (nodeAt words i)) n (p .known) in
     let once : (j : ℕ) → j < last → seen (referencesTo words (suc last)) j ≡ 1 =
     λ j l. rw (← e) (eqb-true (seen (referencesTo words n) j) 1 (not-false (eqb (seen (referencesTo words n) j) 1) (none-below (notOnce (referencesTo words n)) last (p .once) j l))) in
-    let tree : RangeTree (relationCount catalogue) (treeOf words n) =
-    rw e (sorted words (relationCount catalogue) n (c .few) formed known last (omega arith) .as-range (alpha-kind (nodeAt words last) (p .alpha))) in
+    let tree : RangeTree (relationsOf catalogue) (treeOf words n) =
+    rw e (sorted words (relationsOf catalogue) n (c .few) formed known last (omega arith) .as-range (alpha-kind (nodeAt words last) (p .alpha))) in
     let size : rangeNodes (questionOf words) ≡ n = range-nodes tree ∙ ap (λ (k : ℕ). treeNodes (treeOf words k)) e ∙ whole-table words last once ∙ sym e in
     record {
-      good = range-good (columnsOf catalogue) (relationCount catalogue) has tree emptyScope (p .clean) .good;
+      good = range-good (columnsOf catalogue) (relationsOf catalogue) has tree emptyScope (p .clean) .good;
       whole = size;
       few = omega (arith, size, c .few);
     }

@@ -7,7 +7,7 @@ use native.Mathlib.Omega.{arith}
 use lib.Dec.{ltb}
 use borrow.Author.Tests.{lt-ltb, le-ltb}
 use Rattle.relations.specs.Limits.{questionNodeLimit}
-use Rattle.question.specs.Catalogue.{relationCount}
+use Rattle.catalogue.specs.Stored.{relationsOf}
 use Rattle.question.specs.Nodes.{nodeCount, nodeAt}
 use Rattle.question.specs.References.{lowest, notOnce, referencesTo}
 use Rattle.question.specs.Judgement.{isAlpha, isUnknown, lowestIllFormed, lastNode, lowestNotOnce, lowestUnknown, faultsFound, judgeTree, judgeNodes}

@@ -7,7 +7,7 @@ use lib.ListN.{length}
 use Rattle.relations.specs.Limits.{questionNodeLimit, questionNodeWords}
 use Rattle.question.specs.Nodes.{nodeCount, nodeAt, isIllFormed}
 use Rattle.question.specs.References.{referencesTo, lowest, notOnce}
-use Rattle.question.specs.Catalogue.{relationCount, columnsOf}
+use Rattle.catalogue.specs.Stored.{relationsOf, columnsOf}
 use Rattle.question.specs.Trees.{questionTree}
 use Rattle.question.specs.Scopes.{emptyScope, walk}
 use Rattle.question.specs.declared.node.Node.{Node}
@@ -70,7 +70,7 @@ module _ (words : List ℕ) where
 module _ (catalogue words : List ℕ) where
   -- 4: "unknown relation": "lowest table node"
   abbrev pub lowestUnknown : ℕ
-  lowestUnknown = lowest (λ i. isUnknown (relationCount catalogue) (nodeAt words i)) (nodeCount words)
+  lowestUnknown = lowest (λ i. isUnknown (relationsOf catalogue) (nodeAt words i)) (nodeCount words)
 
   -- 5 and 6: the lowest node over all causes, over the whole tree
   abbrev pub faultsFound : Found

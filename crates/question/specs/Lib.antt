@@ -2,7 +2,6 @@ pub mod Limits
 pub mod Nodes
 pub mod References
 pub mod Trees
-pub mod Catalogue
 pub mod Scopes
 pub mod Judgement
 pub mod Accepted

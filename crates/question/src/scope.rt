@@ -4,7 +4,7 @@ ghost use Prim.Native.Nat.{_*_, _≤_, _<_, min};
 ghost use lib.ListN.{length};
 ghost use Rattle.question.specs.Limits.{variableCount};
 ghost use Rattle.question.specs.Nodes.{VariableFits, OperandVariableFits};
-ghost use Rattle.question.specs.Catalogue.{columnsOf};
+ghost use Rattle.catalogue.specs.Stored.{columnsOf};
 ghost use Rattle.question.specs.Trees.{treeOf};
 ghost use Rattle.question.specs.Scopes.{widthIn, addWidths, emptyScope, bind, opening, inside, operandUnbound, unboundAt, operandUnfit, unfitAt, targetWidth, widthOf, lowestOf, walk};
 use crate::limits::COLUMNS;
@@ -13,6 +13,7 @@ use crate::node::Node;
 use crate::node::Operand;
 use crate::node::decode;
 use crate::references::references_of;
+use catalogue::stored::columns_of;
 
 // For each variable the width of its rows, 0 where it is not in scope; and all columns in scope.
 pub struct Scope {
@@ -273,16 +274,6 @@ fn unfit_at(node: Node, scope: Scope, first: u32, second: u32) -> bool
     }
 }
 
-fn columns_of(catalogue: &[u32], relation: u32) -> u32
-    ensures { λ r. ⌜ r ≡ columnsOf (now (catalogue .entry)) relation ⌝ }
-{
-    let at = (relation as usize) * 2;
-    if at < catalogue.len() {
-        return catalogue[at];
-    }
-    0
-}
-
 fn target_width(scope: Scope, variable: u32, attribute: u32) -> u32
     requires { ⌜ variable < variableCount ⌝ }
     ensures { λ r. ⌜ r ≡ targetWidth scope variable attribute ⌝ }
@@ -298,7 +289,7 @@ fn width_of(catalogue: &[u32], node: Node, scope: Scope, first: u32, second: u32
     ensures { λ r. ⌜ r ≡ widthOf (columnsOf (now (catalogue .entry))) node scope first second ⌝ }
 {
     match node {
-        Node::Table { relation } => columns_of(catalogue, relation),
+        Node::Table { relation } => columns_of(catalogue, relation as usize),
         Node::Alpha {
             target: _,
             binding: _,

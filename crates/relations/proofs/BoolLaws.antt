@@ -51,3 +51,12 @@ not-so-false false h = refl
 pub or-only-left : (a : Bool) → So (a || false) → So a
 or-only-left true h = refl
 or-only-left false h = h
+
+-- both parts of a disjunction that fails
+pub or-left-false : (a b : Bool) → (a || b) ≡ false → a ≡ false
+or-left-false true b e = e
+or-left-false false b e = refl
+
+pub or-right-false : (a b : Bool) → (a || b) ≡ false → b ≡ false
+or-right-false true b e = true-and-false refl e
+or-right-false false b e = e

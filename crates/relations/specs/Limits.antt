@@ -36,3 +36,13 @@ questionNodeWords = 6
 -- "at most 16,384 words in all"; also the rows of a table and the capacity
 abbrev pub wordLimit : ℕ
 wordLimit = 16384
+
+-- "What the desk holds": pairs of a catalogue, columns and rows of a stored table.
+abbrev pub cataloguePairLimit : ℕ
+cataloguePairLimit = 16
+
+abbrev pub storedColumnLimit : ℕ
+storedColumnLimit = 8
+
+abbrev pub rowLimit : ℕ
+rowLimit = 16384

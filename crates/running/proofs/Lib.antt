@@ -1,5 +1,5 @@
 -- In reading order.
-pub mod TableLaws
+pub mod LoadLaws
 pub mod StandLaws
 pub mod NodeLaws
 pub mod SizeLaws

@@ -17,7 +17,7 @@ use Rattle.relations.specs.Legality.{between, legalNode}
 use Rattle.relations.specs.PlanWords.{readNode}
 use Rattle.relations.proofs.MachineLaws.{run-keeps}
 use Rattle.relations.proofs.ValueLaws.{all-members, member-has, member-canonical}
-use Rattle.plans.specs.Stored.{relationsOf, columnsOf}
+use Rattle.catalogue.specs.Stored.{relationsOf, columnsOf}
 use Rattle.plans.specs.Judging.{judgedNode, onward, judgeNodes, judgement, nodesIn}
 use Rattle.plans.specs.declared.judging.Judgement.{Judgement}
 use Rattle.plans.specs.declared.judging.Judgement.the-variants.{Legal, Illegal}

@@ -27,7 +27,7 @@ use Rattle.values.specs.declared.rows.Value.{Value}
 use Rattle.values.specs.declared.placing.Placed.{Placed}
 use Rattle.operations.specs.Lists.{operatorNamed, triplesIn}
 use Rattle.operations.proofs.ListLaws.{triples-read}
-use Rattle.plans.specs.Stored.{relationsOf, columnsOf, storedTables}
+use Rattle.catalogue.specs.Stored.{relationsOf, columnsOf, storedTables}
 use Rattle.plans.specs.Decoding.{operationIn, operationCode, decoded}
 use Rattle.plans.specs.Judging.{legalRead, widthOf}
 use Rattle.plans.specs.declared.nodes.Operation.{Operation}

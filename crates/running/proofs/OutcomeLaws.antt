@@ -11,7 +11,7 @@ use borrow.Author.Tests.{lt-ltb, le-ltb}
 use Rattle.relations.specs.Limits.{wordLimit}
 use Rattle.relations.specs.Nodes.{Node}
 use Rattle.relations.specs.Plan.{valueWords}
-use Rattle.text.specs.Catalogue.{tablesOk}
+use Rattle.catalogue.specs.Judging.{tablesOk}
 use Rattle.values.specs.Words.{rowIn, rowsOf, wordsOf}
 use Rattle.values.specs.declared.rows.Value.{Value}
 use Rattle.values.proofs.RowsLaws.{row-inside, length-rowsAt, words-rowsAt}

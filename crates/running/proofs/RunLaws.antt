@@ -25,13 +25,13 @@ use Rattle.relations.proofs.MachineLaws.{run-length}
 use Rattle.relations.proofs.PlanNarrow.{widths-narrow}
 use Rattle.relations.proofs.PlanWidths.{widths-kept}
 use Rattle.relations.proofs.ValueLaws.{ascending-canonical}
-use Rattle.text.specs.Catalogue.{tablesOk}
+use Rattle.catalogue.specs.Judging.{tablesOk}
 use Rattle.values.specs.Words.{rowsAt, rowsOf, end}
 use Rattle.values.specs.Building.{Builds}
 use Rattle.values.specs.declared.rows.Value.{Value}
 use Rattle.values.specs.declared.placing.Placed.the-variants.{Rows as Placed·Rows}
 use Rattle.values.proofs.FillLaws.{made-length, made-rows, made-fits, made-value, made-count, made-full}
-use Rattle.plans.specs.Stored.{relationsOf, columnsOf, storedTables}
+use Rattle.catalogue.specs.Stored.{relationsOf, columnsOf, storedTables}
 use Rattle.plans.specs.Judging.{legalRead, judgeNodes, judgement, nodesIn, nodesOf}
 use Rattle.plans.specs.declared.judging.Judgement.the-variants.{Legal}
 use Rattle.plans.proofs.PlanTheorem.{judged-exactly}
@@ -41,7 +41,7 @@ use Rattle.running.specs.RunCall.{fits, passesAt, fitOf, lastPlace, plan
 use Rattle.running.specs.PlanRun.{Answered}
 use Rattle.running.specs.declared.node.Made.{Made}
 use Rattle.running.specs.declared.node.Made.the-variants.{Value as Value·made, NoRoom}
-use Rattle.running.proofs.TableLaws.{tables-wide, has-column}
+use Rattle.catalogue.proofs.TableLaws.{tables-wide, has-column}
 use Rattle.running.proofs.StandLaws.{values-many, standing-at, value-inside, value-stands, standing-more, stand-more}
 use Rattle.running.proofs.SizeLaws.{sizesFrom, sizes-all, sizes-none, sizes-next, fit-none, fit-on, fit-off, total, room-total}
 use Rattle.running.proofs.NextLaws.{Next, next-node, run-next, wide-candidates, Sized, judged-sized}

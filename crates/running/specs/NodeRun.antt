@@ -10,7 +10,7 @@ use Rattle.relations.specs.Plan.{candidates, widthOfNode, heavyNode}
 use Rattle.values.specs.Building.{Builds}
 use Rattle.values.specs.declared.placing.Placed.{Placed}
 use Rattle.values.specs.declared.placing.Placed.the-variants.{Rows as Placed·Rows, Full}
-use Rattle.plans.specs.Stored.{columnsOf, storedTables}
+use Rattle.catalogue.specs.Stored.{columnsOf, storedTables}
 use Rattle.running.specs.declared.node.Made.{Made}
 use Rattle.running.specs.declared.node.Made.the-variants.{Value, NoRoom}
 

@@ -9,9 +9,9 @@ use Rattle.relations.specs.Limits.{wordLimit}
 use Rattle.relations.specs.Values.{Rows}
 use Rattle.relations.specs.Nodes.{Node}
 use Rattle.relations.specs.Plan.{values, answer, widths, widthAt, valueWords, heavy, room}
-use Rattle.text.specs.Catalogue.{tablesOk}
+use Rattle.catalogue.specs.Judging.{tablesOk}
 use Rattle.values.specs.Words.{wordsOf}
-use Rattle.plans.specs.Stored.{columnsOf, storedTables}
+use Rattle.catalogue.specs.Stored.{columnsOf, storedTables}
 use Rattle.plans.specs.Judging.{judgement, nodesOf}
 use Rattle.plans.specs.declared.judging.Judgement.{Judgement}
 use Rattle.plans.specs.declared.judging.Judgement.the-variants.{Legal, Illegal}

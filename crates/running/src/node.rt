@@ -8,15 +8,19 @@ ghost use Rattle.relations.specs.Columns as meaning;
 ghost use Rattle.relations.specs.Nodes.{heavyOperation};
 ghost use Rattle.relations.specs.Operations.{loadCandidates, selectConstantCandidates, selectAttributeCandidates};
 ghost use Rattle.relations.specs.PlanWords.{readNode};
-ghost use Rattle.text.specs.Catalogue.{tablesOk};
+ghost use Rattle.catalogue.specs.Judging.{tablesOk};
 ghost use Rattle.values.specs.Words.{rowsOf, end};
 ghost use Rattle.values.specs.Building.{Builds};
 ghost use Rattle.operations.specs.Lists.{operatorNamed};
-ghost use Rattle.plans.specs.Stored.{relationsOf, columnsOf, storedTables};
+ghost use Rattle.catalogue.specs.Stored.{relationsOf, columnsOf, storedTables};
 ghost use Rattle.plans.specs.Decoding.{operationIn, decoded};
 ghost use Rattle.plans.specs.Judging.{legalRead};
 ghost use Rattle.running.specs.Standing.{valuesIn, valueNamed, standing, Stand};
 ghost use Rattle.running.specs.NodeRun.{widthRead, candidatesRead, weightOf, NodeRun};
+use catalogue::judging::wide;
+use catalogue::stored::columns_of;
+use catalogue::stored::rows_of;
+use catalogue::stored::start_of;
 use operations::columns::Constant;
 use operations::columns::triple_at;
 use operations::copy::load;
@@ -36,9 +40,6 @@ use plans::nodes::Decoded;
 use plans::nodes::Operation;
 use plans::nodes::PlanNode;
 use plans::nodes::decode_node;
-use plans::stored::columns_of;
-use plans::stored::rows_of;
-use plans::stored::start_of;
 use values::placing::Placed;
 use values::rows::Value;
 
@@ -84,8 +85,8 @@ fn load_relation(
     ensures { λ r. ⌜ Builds (columnsOf (now (catalogue .entry)) relation) out 0 (loadCandidates (storedTables (now (catalogue .entry)) (now (tables .entry)) relation)) (now (work .entry)) (now (work .exit)) r ⌝ }
 {
     let base = start_of(catalogue, relation);
-    let rows = rows_of(catalogue, relation);
-    let width = columns_of(catalogue, relation);
+    let rows = wide(rows_of(catalogue, relation));
+    let width = wide(columns_of(catalogue, relation));
     load(tables, work, Value { base, rows, width }, out)
 }
 

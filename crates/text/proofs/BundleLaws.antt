@@ -10,7 +10,7 @@ use lib.Seq.{sets}
 use borrow.Author.Tests.{lt-ltb, le-ltb}
 use Rattle.relations.specs.Limits.{questionNodeLimit, questionNodeWords}
 use Rattle.text.specs.Limits.{byteLimit}
-use Rattle.text.specs.Catalogue.{catalogueWords}
+use Rattle.catalogue.specs.Judging.{catalogueWords}
 use Rattle.text.specs.Reading as reads
 use Rattle.text.specs.Reading.{Next, goesOn, wrongAt, Read, nothing, Tables, nodesOf, nodesAfter, withTables, linesOf, reading}
 use Rattle.text.specs.ReadCall.{ReadOutcome, readRefused, bundleOutcome, smallBuffers, readOutcome}

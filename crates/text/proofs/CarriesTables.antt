@@ -6,7 +6,7 @@ use native.Mathlib.Omega.{arith}
 use lib.ListN.{length, drop, length-append}
 use lib.Seq.{sets}
 use Rattle.relations.specs.Limits.{wordLimit}
-use Rattle.text.specs.Catalogue.{catalogueWords}
+use Rattle.catalogue.specs.Judging.{catalogueWords}
 use Rattle.text.specs.Reading.{Next, goesOn, wrongAt, Tables, noTables, tablesThen, andTables}
 use Rattle.text.specs.Answers.{Placed, standing, PlacedStep, TablesFound}
 use Rattle.text.specs.declared.lines.Cursor.{Cursor}

@@ -1,82 +1,14 @@
--- What the tests of refusals 7 and 1 say when they pass, as facts about numbers; and that these facts make them pass. Assumes nothing.
-use Prim.Native.Nat.{ℕ, _*_, _/_, _%_, _≤_}
-use mathlib.Core.Path.{_≡_, refl, sym}
-use mathlib.Core.List.{List, [], _∷_}
+-- What the test of refusal 1 says when it passes, as facts about numbers; and that these facts make it pass. Assumes nothing.
+use Prim.Native.Nat.{ℕ, _/_, _%_, _≤_}
+use mathlib.Core.Path.{_≡_}
+use mathlib.Core.List.{List}
 use mathlib.Core.Bool.{Bool, true, _&&_}
-use native.Mathlib.Omega.{arith}
-use native.Mathlib.Nat.{mul-le-mul}
 use lib.Dec.{leb, eqb}
 use lib.ListN.{length}
 use borrow.Author.Tests.{leb-true, eqb-true, le-leb, eq-eqb}
-use Rattle.relations.specs.Limits.{wordLimit, questionNodeLimit, questionNodeWords}
-use Rattle.text.specs.Limits.{cataloguePairLimit, storedColumnLimit, rowLimit}
-use Rattle.text.specs.Catalogue.{pairOk, pairsOk, catalogueWords, catalogueOk, tablesOk}
+use Rattle.relations.specs.Limits.{questionNodeLimit, questionNodeWords}
 use Rattle.text.specs.WriteCall.{nodesOk}
-use Rattle.text.proofs.Tests.{clash, both, both-first, both-second}
-
--- Refusal 7.
-
-pub record GoodPair (columns rows : ℕ) : Type 0 where
-  pub some : 1 ≤ columns
-  pub few : columns ≤ storedColumnLimit
-  pub rows-few : rows ≤ rowLimit
-  -- before its total is judged, a table's words are few enough for every sum
-  pub words-few : columns * rows ≤ 131072
-
-pub good-pair : (columns rows : ℕ) → pairOk columns rows ≡ true → GoodPair columns rows
-good-pair columns rows ok =
-    let wide : Bool = leb 1 columns && leb columns storedColumnLimit in
-    let wide-ok : wide ≡ true = both-first wide (leb rows rowLimit) ok in
-    let few-columns : columns ≤ storedColumnLimit =
-    leb-true columns storedColumnLimit (both-second (leb 1 columns) (leb columns storedColumnLimit) wide-ok)
-    in
-    let few-rows : rows ≤ rowLimit = leb-true rows rowLimit (both-second wide (leb rows rowLimit) ok) in
-    record {
-      some = leb-true 1 columns (both-first (leb 1 columns) (leb columns storedColumnLimit) wide-ok);
-      few = few-columns;
-      rows-few = few-rows;
-      words-few = mul-le-mul {n₂ = storedColumnLimit} {m₂ = rowLimit} few-columns few-rows;
-    }
-
-pub pairs-even : (catalogue : List ℕ) → pairsOk catalogue ≡ true → 2 * (length catalogue / 2) ≡ length catalogue
-unfolding pairsOk
-pairs-even [] ok = refl
-pairs-even (columns ∷ []) ok = clash refl (sym ok)
-pairs-even (columns ∷ rows ∷ more) ok =
-    let others : 2 * (length more / 2) ≡ length more = pairs-even more (both-second (pairOk columns rows) (pairsOk more) ok) in
-    omega arith
-
-pub record GoodTables (catalogue tables : List ℕ) : Type 0 where
-  pub few : length catalogue ≤ 2 * cataloguePairLimit
-  pub pairs : pairsOk catalogue ≡ true
-  pub fits : catalogueWords catalogue ≤ wordLimit
-  pub sum : length tables ≡ catalogueWords catalogue
-
-pub good-tables : (catalogue tables : List ℕ) → tablesOk catalogue tables ≡ true → GoodTables catalogue tables
-good-tables catalogue tables ok =
-    let count : Bool = leb (length catalogue) (2 * cataloguePairLimit) in
-    let total : Bool = leb (catalogueWords catalogue) wordLimit in
-    let same : Bool = eqb (length tables) (catalogueWords catalogue) in
-    let good : catalogueOk catalogue ≡ true = both-first (catalogueOk catalogue) same ok in
-    let shaped : (count && pairsOk catalogue) ≡ true = both-first (count && pairsOk catalogue) total good in
-    record {
-      few = leb-true (length catalogue) (2 * cataloguePairLimit) (both-first count (pairsOk catalogue) shaped);
-      pairs = both-second count (pairsOk catalogue) shaped;
-      fits = leb-true (catalogueWords catalogue) wordLimit (both-second (count && pairsOk catalogue) total good);
-      sum = eqb-true (length tables) (catalogueWords catalogue) (both-second (catalogueOk catalogue) same ok);
-    }
-
-pub tables-good : (catalogue tables : List ℕ) → GoodTables catalogue tables → tablesOk catalogue tables ≡ true
-tables-good catalogue tables good =
-    let count : Bool = leb (length catalogue) (2 * cataloguePairLimit) in
-    let total : Bool = leb (catalogueWords catalogue) wordLimit in
-    both (catalogueOk catalogue) (eqb (length tables) (catalogueWords catalogue))
-    (both (count && pairsOk catalogue) total
-    (both count (pairsOk catalogue) (le-leb (length catalogue) (2 * cataloguePairLimit) (good .few)) (good .pairs))
-    (le-leb (catalogueWords catalogue) wordLimit (good .fits)))
-    (eq-eqb (length tables) (catalogueWords catalogue) (good .sum))
-
--- Refusal 1.
+use Rattle.relations.proofs.BoolLaws.{and-both, and-left, and-right}
 
 pub record GoodNodes (nodes : List ℕ) : Type 0 where
   pub whole : length nodes % questionNodeWords ≡ 0
@@ -88,17 +20,17 @@ good-nodes nodes ok =
     let multiple : Bool = eqb (length nodes % questionNodeWords) 0 in
     let one : Bool = leb 1 (length nodes / questionNodeWords) in
     let most : Bool = leb (length nodes / questionNodeWords) questionNodeLimit in
-    let first : (multiple && one) ≡ true = both-first (multiple && one) most ok in
+    let first : (multiple && one) ≡ true = and-left (multiple && one) most ok in
     record {
-      whole = eqb-true (length nodes % questionNodeWords) 0 (both-first multiple one first);
-      some = leb-true 1 (length nodes / questionNodeWords) (both-second multiple one first);
-      few = leb-true (length nodes / questionNodeWords) questionNodeLimit (both-second (multiple && one) most ok);
+      whole = eqb-true (length nodes % questionNodeWords) 0 (and-left multiple one first);
+      some = leb-true 1 (length nodes / questionNodeWords) (and-right multiple one first);
+      few = leb-true (length nodes / questionNodeWords) questionNodeLimit (and-right (multiple && one) most ok);
     }
 
 pub nodes-good : (nodes : List ℕ) → GoodNodes nodes → nodesOk nodes ≡ true
 nodes-good nodes good =
     let multiple : Bool = eqb (length nodes % questionNodeWords) 0 in
     let one : Bool = leb 1 (length nodes / questionNodeWords) in
-    both (multiple && one) (leb (length nodes / questionNodeWords) questionNodeLimit)
-    (both multiple one (eq-eqb (length nodes % questionNodeWords) 0 (good .whole)) (le-leb 1 (length nodes / questionNodeWords) (good .some)))
+    and-both (multiple && one) (leb (length nodes / questionNodeWords) questionNodeLimit)
+    (and-both multiple one (eq-eqb (length nodes % questionNodeWords) 0 (good .whole)) (le-leb 1 (length nodes / questionNodeWords) (good .some)))
     (le-leb (length nodes / questionNodeWords) questionNodeLimit (good .few))

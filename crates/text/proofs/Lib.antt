@@ -1,8 +1,6 @@
 -- Tests and judgements
-pub mod Tests
 pub mod Words32
 pub mod Judgements
-pub mod CatalogueLaws
 -- Reading and writing undo one another
 pub mod Numbers
 pub mod ReadingLaws

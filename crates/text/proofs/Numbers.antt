@@ -12,18 +12,18 @@ use Rattle.text.specs.Limits.{greatestNumber}
 use Rattle.text.specs.Marks.{zeroDigit, digit, separator}
 use Rattle.text.specs.Writing.{digits, decimal}
 use Rattle.text.specs.Reading.{Number, value, noNumber, moreDigits, number, endedBy, numberThen}
-use Rattle.text.proofs.Tests.{both, both-first, both-second}
+use Rattle.relations.proofs.BoolLaws.{and-both, and-left, and-right}
 
 -- Digits.
 
 pub digit-of : (d : ℕ) → d < 10 → digit (zeroDigit + d) ≡ true
-digit-of d small = both (leb zeroDigit (zeroDigit + d)) (leb (zeroDigit + d) 57) (le-leb zeroDigit (zeroDigit + d) (omega arith)) (le-leb (zeroDigit + d) 57 (omega arith))
+digit-of d small = and-both (leb zeroDigit (zeroDigit + d)) (leb (zeroDigit + d) 57) (le-leb zeroDigit (zeroDigit + d) (omega arith)) (le-leb (zeroDigit + d) 57 (omega arith))
 
 digit-from : (byte : ℕ) → digit byte ≡ true → zeroDigit ≤ byte
-digit-from byte e = leb-true _ _ (both-first (leb zeroDigit byte) (leb byte 57) e)
+digit-from byte e = leb-true _ _ (and-left (leb zeroDigit byte) (leb byte 57) e)
 
 digit-to : (byte : ℕ) → digit byte ≡ true → byte ≤ 57
-digit-to byte e = leb-true _ _ (both-second (leb zeroDigit byte) (leb byte 57) e)
+digit-to byte e = leb-true _ _ (and-right (leb zeroDigit byte) (leb byte 57) e)
 
 -- a number below ten is its one digit, however many more are allowed
 pub digits-one : (k n : ℕ) → n < 10 → digits k n ≡ (zeroDigit + n) ∷ []

@@ -10,16 +10,17 @@ use lib.Dec.{leb, ltb, eqb}
 use lib.ListN.{length, take, drop, length-append, length-drop}
 use lib.Seq.{take-at, drop-at, take-append-le, drop-append-le}
 use borrow.Author.Tests.{ltb-false, leb-true, eqb-true}
-use Rattle.relations.specs.Limits.{wordLimit, questionNodeLimit, questionNodeWords}
-use Rattle.text.specs.Limits.{cataloguePairLimit, byteLimit}
-use Rattle.text.specs.Catalogue.{pairOk, pairsOk, catalogueWords}
+use Rattle.relations.specs.Limits.{cataloguePairLimit, wordLimit, questionNodeLimit, questionNodeWords}
+use Rattle.text.specs.Limits.{byteLimit}
+use Rattle.catalogue.specs.Judging.{pairOk, pairsOk, catalogueWords}
 use Rattle.text.specs.Marks.{lineFeed, space, separator, plainLine, shortLine, relationKey, rowKey, nodeKey}
 use Rattle.text.specs.Writing.{decimal, numbersText, lineText, linesText, tablesText, modeText, bundleText}
 use Rattle.text.specs.Reading.{Number, value, noNumber, numberThen, Next, goesOn, wrongAt, Read, nothing, wordsThen, orWrong, numbers, begins, keyedLine, keyedLines, Relation, relation, noRelation, withRows, withColumns, relationOf, Tables, noTables, rowsOf, tableOf, tablesThen, andTables, tablesOf, unlessEnded, nodesOf, noBundle, nodesAfter, withTables, linesOf, reading}
 use Rattle.text.specs.RoundTrip.{Words32, BundleAsText}
-use Rattle.text.proofs.Tests.{clash, both, both-first, both-second}
+use Rattle.relations.proofs.BoolLaws.{true-and-false, and-both, and-left, and-right}
 use Rattle.text.proofs.Words32.{words32-append}
-use Rattle.text.proofs.Judgements.{tables-good, nodes-good}
+use Rattle.catalogue.proofs.Judgements.{tables-good}
+use Rattle.text.proofs.Judgements.{nodes-good}
 use Rattle.text.proofs.Numbers.{NumberAsText, numberThen-text}
 
 pub no-next {ℓ} : {C : Type ℓ} {line after : ℕ} {rest : List ℕ} → wrongAt line ≡ goesOn after rest → C
@@ -69,10 +70,10 @@ numbers-length count line bytes after rest e = numbers-text count line bytes aft
 pub begins-text : (key bytes : List ℕ) → begins key bytes ≡ true → bytes ≡ key ++ drop (length key) bytes
 unfolding begins
 begins-text [] bytes e = refl
-begins-text (k ∷ key) [] e = clash refl (sym e)
+begins-text (k ∷ key) [] e = true-and-false refl (sym e)
 begins-text (k ∷ key) (byte ∷ bytes) e =
-    let byte-is : byte ≡ k = eqb-true byte k (both-first (eqb byte k) (begins key bytes) e) in
-    let others : bytes ≡ key ++ drop (length key) bytes = begins-text key bytes (both-second (eqb byte k) (begins key bytes) e) in
+    let byte-is : byte ≡ k = eqb-true byte k (and-left (eqb byte k) (begins key bytes) e) in
+    let others : bytes ≡ key ++ drop (length key) bytes = begins-text key bytes (and-right (eqb byte k) (begins key bytes) e) in
     λ i. byte-is i ∷ others i
 
 pub keyedLine-text : (key : List ℕ) (count line : ℕ) (bytes : List ℕ) (after : ℕ) (rest : List ℕ)
@@ -208,8 +209,8 @@ relationOf-text total bytes columns rows rest e = first (numberThen space bytes)
         let built : RelationAsText total bytes c r after =
         record {
           text = two-numbers-text bytes c behind r after (t .text) (u .text);
-          ok = both-first (pairOk c r) (leb (total + c * r) wordLimit) g;
-          fits = leb-true (total + c * r) wordLimit (both-second (pairOk c r) (leb (total + c * r) wordLimit) g);
+          ok = and-left (pairOk c r) (leb (total + c * r) wordLimit) g;
+          fits = leb-true (total + c * r) wordLimit (and-right (pairOk c r) (leb (total + c * r) wordLimit) g);
         }
         in
         rw (columns-is, rows-is, rest-is) at built
@@ -309,7 +310,7 @@ one-more-read count total bytes first behind others rest next t ts =
           ∙ sym (append-assoc head (tablesText more (others .tables)) rest)
           ∙ ap (λ (front : List ℕ). front ++ rest) (sym (tablesText-cons columns rows more (first .tables) (others .tables) (t .many)))
           ∙ ap (λ (front : List ℕ). tablesText (front ++ more) (first .tables ++ others .tables) ++ rest) (sym (t .pair));
-      ok = rw (t .pair) (both (pairOk columns rows) (pairsOk more) (t .ok) (ts .ok));
+      ok = rw (t .pair) (and-both (pairOk columns rows) (pairsOk more) (t .ok) (ts .ok));
       few = omega (arith, length-append (first .catalogue) more, ts .few);
       many = length-append (first .tables) (others .tables) ∙ omega (arith, t .many, ts .many);
       fits = λ h. omega (arith, ts .fits (omega (arith, t .fits)));

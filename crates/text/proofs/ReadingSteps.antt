@@ -11,9 +11,9 @@ use lib.Seq.{drop-cons, drop-drop}
 use borrow.Author.Tests.{leb-true}
 use Rattle.relations.specs.Limits.{questionNodeWords}
 use Rattle.text.specs.Limits.{greatestNumber}
-use Rattle.text.specs.Catalogue.{catalogueWords}
+use Rattle.catalogue.specs.Judging.{catalogueWords}
 use Rattle.text.specs.Marks.{zeroDigit, digit, separator, relationKey, nodeKey}
-use Rattle.text.proofs.Tests.{both-first, both-second}
+use Rattle.relations.proofs.BoolLaws.{and-left, and-right}
 use Rattle.text.specs.Reading.{Number, value, noNumber, moreDigits, number, endedBy, numberThen, begins, nothing, goesOn, wrongAt, orWrong, numbers, andThen, keyedLine, keyedLines, Read, tableOf, andTables, noTables, tablesOf, unlessEnded, nodesOf}
 
 -- the byte at a position, and the bytes behind it
@@ -55,7 +55,7 @@ unfolding number
 number-done text i h = rw (drop-of-length-le text h)
 
 pub digit-bounds : (b : ℕ) → digit b ≡ true → (zeroDigit ≤ b) × (b ≤ 57)
-digit-bounds b e = (leb-true 48 b (both-first (leb 48 b) (leb b 57) e), leb-true b 57 (both-second (leb 48 b) (leb b 57) e))
+digit-bounds b e = (leb-true 48 b (and-left (leb 48 b) (leb b 57) e), leb-true b 57 (and-right (leb 48 b) (leb b 57) e))
 
 pub ended-step : (end n : ℕ) (text : List ℕ) (i : ℕ) → i < length text
     → endedBy end (value n (drop i text)) ≡ cond (eqb (getD text i 0) end) (value n (drop (i + 1) text)) noNumber
@@ -91,7 +91,7 @@ pub begins-room : (key bytes : List ℕ) → begins key bytes ≡ true → lengt
 unfolding begins
 begins-room [] bytes e = omega arith
 begins-room (k ∷ key) [] e = absurd (false≢true e)
-begins-room (k ∷ key) (byte ∷ bytes) e = let h : length key ≤ length bytes = begins-room key bytes (both-second (eqb byte k) (begins key bytes) e) in omega arith
+begins-room (k ∷ key) (byte ∷ bytes) e = let h : length key ≤ length bytes = begins-room key bytes (and-right (eqb byte k) (begins key bytes) e) in omega arith
 
 -- a line whose key stands there goes on behind the key
 pub line-begun : (key text : List ℕ) (count line at : ℕ) → begins key (drop at text) ≡ true → keyedLine key count line (drop at text) ≡ numbers count line (drop (at + length key) text)

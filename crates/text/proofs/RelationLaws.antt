@@ -8,7 +8,7 @@ use lib.Dec.{leb}
 use lib.ListN.{length, drop}
 use lib.Seq.{drop-drop}
 use Rattle.relations.specs.Limits.{wordLimit}
-use Rattle.text.specs.Catalogue.{pairOk}
+use Rattle.catalogue.specs.Judging.{pairOk}
 use Rattle.text.specs.Marks.{lineFeed, space, relationKey}
 use Rattle.text.specs.Reading.{value, noNumber, numberThen, Relation, relation, noRelation, withRows, withColumns, relationOf, rowsOf, tableOf}
 

@@ -6,8 +6,7 @@ use mathlib.Core.List.{List}
 use mathlib.Core.Bool.{Bool, true, false, cond}
 use native.Mathlib.Omega.{arith}
 use lib.ListN.{length}
-use Rattle.relations.specs.Limits.{wordLimit, questionNodeLimit, questionNodeWords}
-use Rattle.text.specs.Limits.{cataloguePairLimit}
+use Rattle.relations.specs.Limits.{cataloguePairLimit, wordLimit, questionNodeLimit, questionNodeWords}
 use Rattle.text.specs.Reading.{Next, goesOn, wrongAt, reading}
 use Rattle.text.specs.ReadCall.{ReadNumbers, ReadOutcome, readRefused, bundleOutcome, smallBuffers, readNumbers, readOutcome}
 use Rattle.text.specs.WriteCall.{WriteOutcome, writeNumbers, writeOutcome}
@@ -15,7 +14,8 @@ use Rattle.text.specs.declared.bundle.Reading.{Reading}
 use Rattle.text.specs.declared.bundle.Reading.the-variants.{Bundle}
 use Rattle.text.specs.declared.writing.Writing.{Writing}
 use Rattle.text.specs.declared.writing.Writing.the-variants.{Bytes}
-use Rattle.text.proofs.Judgements.{GoodTables, good-tables, GoodNodes, good-nodes}
+use Rattle.catalogue.proofs.Judgements.{GoodTables, good-tables}
+use Rattle.text.proofs.Judgements.{GoodNodes, good-nodes}
 use Rattle.text.proofs.ReadingLaws.{reading-text}
 use Rattle.text.proofs.RoundTrip.{write-accepts, write-accepted}
 

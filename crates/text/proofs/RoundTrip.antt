@@ -8,16 +8,17 @@ use lib.Dec.{leb, ltb}
 use lib.ListN.{length, take, drop}
 use lib.Seq.{sets, sets-eq, take-at}
 use borrow.Author.Tests.{leb-true, le-leb, ltb-false}
-use Rattle.relations.specs.Limits.{wordLimit, questionNodeLimit, questionNodeWords}
-use Rattle.text.specs.Limits.{cataloguePairLimit, byteLimit}
-use Rattle.text.specs.Catalogue.{tablesOk}
+use Rattle.relations.specs.Limits.{cataloguePairLimit, wordLimit, questionNodeLimit, questionNodeWords}
+use Rattle.text.specs.Limits.{byteLimit}
+use Rattle.catalogue.specs.Judging.{tablesOk}
 use Rattle.text.specs.Writing.{bundleText}
 use Rattle.text.specs.Reading.{Bundle, Next, goesOn, wrongAt, reading}
 use Rattle.text.specs.ReadCall.{readRefused, bundleOutcome, smallBuffers, readOutcome}
 use Rattle.text.specs.WriteCall.{WriteOutcome, writeRefusal, nodesOk, textFits, writeOutcome}
 use Rattle.text.specs.RoundTrip.{Words32, BundleAsText, bundleOf, wrote, foundBundle, writeBack, readBack, RoundTrip, OneOutcome}
-use Rattle.text.proofs.Tests.{both, both-first, both-second, neither-first, neither-second}
-use Rattle.text.proofs.Judgements.{pairs-even, GoodTables, good-tables, GoodNodes, good-nodes}
+use Rattle.relations.proofs.BoolLaws.{and-both, and-left, and-right, or-left-false, or-right-false}
+use Rattle.catalogue.proofs.Judgements.{pairs-even, GoodTables, good-tables}
+use Rattle.text.proofs.Judgements.{GoodNodes, good-nodes}
 use Rattle.text.proofs.ReadingLaws.{reading-text}
 use Rattle.text.proofs.WritingLaws.{reading-of-text}
 
@@ -35,7 +36,7 @@ unfolding writeOutcome
 write-accepts mode catalogue tables nodes buffer tables-ok nodes-ok short room =
     let bytes : List ℕ = bundleText mode catalogue tables nodes in
     let fits : textFits bytes buffer ≡ true =
-    both (leb (length bytes) byteLimit) (leb (length bytes) (length buffer)) (le-leb (length bytes) byteLimit short)
+    and-both (leb (length bytes) byteLimit) (leb (length bytes) (length buffer)) (le-leb (length bytes) byteLimit short)
     (le-leb (length bytes) (length buffer) room)
     in
     rw (tables-ok, nodes-ok, fits)
@@ -67,8 +68,8 @@ write-accepted mode catalogue tables nodes buffer e =
         record {
           tables-ok = t;
           nodes-ok = n;
-          short = leb-true (length bytes) byteLimit (both-first short room f);
-          room = leb-true (length bytes) (length buffer) (both-second short room f);
+          short = leb-true (length bytes) byteLimit (and-left short room f);
+          room = leb-true (length bytes) (length buffer) (and-right short room f);
         }
     go true true false t n f e = absurd (omega arith)
     go true false fits t n f e = absurd (omega arith)
@@ -88,11 +89,11 @@ written-back text bundle rest catalogue tables question buffer line is large roo
     let noPairs : Bool = ltb (length catalogue) (2 * cataloguePairLimit) in
     let noWords : Bool = ltb (length tables) wordLimit in
     let noNodes : Bool = ltb (length question) (questionNodeWords * questionNodeLimit) in
-    let first : (noPairs || noWords) ≡ false = neither-first (noPairs || noWords) noNodes large in
-    let pairs-room : 2 * cataloguePairLimit ≤ length catalogue = ltb-false (length catalogue) (2 * cataloguePairLimit) (neither-first noPairs noWords first) in
-    let words-room : wordLimit ≤ length tables = ltb-false (length tables) wordLimit (neither-second noPairs noWords first) in
+    let first : (noPairs || noWords) ≡ false = or-left-false (noPairs || noWords) noNodes large in
+    let pairs-room : 2 * cataloguePairLimit ≤ length catalogue = ltb-false (length catalogue) (2 * cataloguePairLimit) (or-left-false noPairs noWords first) in
+    let words-room : wordLimit ≤ length tables = ltb-false (length tables) wordLimit (or-right-false noPairs noWords first) in
     let nodes-room : questionNodeWords * questionNodeLimit ≤ length question =
-    ltb-false (length question) (questionNodeWords * questionNodeLimit) (neither-second (noPairs || noWords) noNodes large)
+    ltb-false (length question) (questionNodeWords * questionNodeLimit) (or-right-false (noPairs || noWords) noNodes large)
     in
     let same : bundleText (bundle .mode) cs ts ns ≡ text = is .text-is in
     rw (

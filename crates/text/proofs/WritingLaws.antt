@@ -10,17 +10,18 @@ use lib.Dec.{leb, eqb}
 use lib.ListN.{length, take, drop, take-append-drop, length-drop}
 use lib.Seq.{drop-append-seam, length-take-le, take-all}
 use borrow.Author.Tests.{le-ltb, le-leb, eq-eqb}
-use Rattle.relations.specs.Limits.{wordLimit, questionNodeLimit, questionNodeWords}
-use Rattle.text.specs.Limits.{cataloguePairLimit, byteLimit}
-use Rattle.text.specs.Catalogue.{pairOk, pairsOk, catalogueWords, tablesOk}
+use Rattle.relations.specs.Limits.{cataloguePairLimit, wordLimit, questionNodeLimit, questionNodeWords}
+use Rattle.text.specs.Limits.{byteLimit}
+use Rattle.catalogue.specs.Judging.{pairOk, pairsOk, catalogueWords, tablesOk}
 use Rattle.text.specs.Marks.{lineFeed, space, separator, plainLine, shortLine, relationKey, rowKey, nodeKey}
 use Rattle.text.specs.Writing.{decimal, numbersText, lineText, linesText, tablesText, modeText, bundleText}
 use Rattle.text.specs.Reading.{Number, value, numberThen, goesOn, wrongAt, Read, nothing, andThen, orWrong, numbers, begins, keyedLine, keyedLines, Relation, relation, noRelation, withRows, withColumns, relationOf, Tables, rowsOf, tableOf, andTables, tablesOf, unlessEnded, nodesOf, withTables, linesOf, reading}
 use Rattle.text.specs.WriteCall.{nodesOk}
 use Rattle.text.specs.RoundTrip.{Words32, tableLines, bundleOf}
-use Rattle.text.proofs.Tests.{clash, both, both-first, both-second}
+use Rattle.relations.proofs.BoolLaws.{true-and-false, and-both, and-left, and-right}
 use Rattle.text.proofs.Words32.{words32-take, words32-drop}
-use Rattle.text.proofs.Judgements.{GoodPair, good-pair, GoodTables, good-tables, GoodNodes, good-nodes}
+use Rattle.catalogue.proofs.Judgements.{GoodPair, good-pair, GoodTables, good-tables}
+use Rattle.text.proofs.Judgements.{GoodNodes, good-nodes}
 use Rattle.text.proofs.Numbers.{numberThen-of-decimal, separator-no-digit}
 use Rattle.text.proofs.ReadingLaws.{two-numbers-text, tablesText-cons}
 
@@ -50,7 +51,7 @@ numbers-of-text (n ∷ ns) line rest h =
 pub begins-key : (key rest : List ℕ) → begins key (key ++ rest) ≡ true
 unfolding begins
 begins-key [] rest = refl
-begins-key (k ∷ key) rest = both (eqb k k) (begins key (key ++ rest)) (eq-eqb k k refl) (begins-key key rest)
+begins-key (k ∷ key) rest = and-both (eqb k k) (begins key (key ++ rest)) (eq-eqb k k refl) (begins-key key rest)
 
 pub keyedLine-of-text : (key : List ℕ) (count line : ℕ) (words rest : List ℕ) → length words ≡ count → Words32 words
     → keyedLine key count line (lineText key words ++ rest) ≡ readOf words (line + 1) rest
@@ -99,7 +100,7 @@ relationOf-of-text total columns rows rest ok fits =
     ∙ ap (λ (first : Number). withColumns total first) (numberThen-of-decimal space columns behind refl (omega arith))
     ∙ ap (λ (second : Number). withRows total columns second) (numberThen-of-decimal lineFeed rows rest refl (omega arith))
     ∙ ap (λ (good : Bool). cond good (relation columns rows rest) noRelation)
-    (both (pairOk columns rows) (leb (total + columns * rows) wordLimit) ok (le-leb (total + columns * rows) wordLimit fits))
+    (and-both (pairOk columns rows) (leb (total + columns * rows) wordLimit) ok (le-leb (total + columns * rows) wordLimit fits))
 
 abbrev pub tablesAt : (catalogue tables : List ℕ) (after : ℕ) (rest : List ℕ) → Tables
 tablesAt catalogue tables after rest = record { catalogue = catalogue; tables = tables; next = goesOn after rest }
@@ -166,15 +167,15 @@ tablesOf-of-text count total line [] tables rest few ok fits many h ends =
     tablesOf-none count total line rest ends
     ∙ ap (λ (after : ℕ). tablesAt [] [] after rest) same
     ∙ ap (λ (words : List ℕ). tablesAt [] words (line + 0) rest) (sym none)
-tablesOf-of-text count total line (columns ∷ []) tables rest few ok fits many h ends = clash refl (sym ok)
+tablesOf-of-text count total line (columns ∷ []) tables rest few ok fits many h ends = true-and-false refl (sym ok)
 tablesOf-of-text zero total line (columns ∷ rows ∷ more) tables rest few ok fits many h ends = absurd (omega arith)
 tablesOf-of-text (suc count) total line (columns ∷ rows ∷ more) tables rest few ok fits many h ends =
     let words : ℕ = columns * rows in
     let others : List ℕ = drop words tables in
-    let others-ok : pairsOk more ≡ true = both-second (pairOk columns rows) (pairsOk more) ok in
+    let others-ok : pairsOk more ≡ true = and-right (pairOk columns rows) (pairsOk more) ok in
     let left : length others ≡ catalogueWords more = length-drop words tables ∙ omega arith in
     let lines : line + 1 + rows + tableLines more ≡ line + (1 + rows + tableLines more) = omega arith in
-    tablesOf-one-more count total line columns rows more tables rest (omega arith) (both-first (pairOk columns rows) (pairsOk more) ok) (omega arith) h
+    tablesOf-one-more count total line columns rows more tables rest (omega arith) (and-left (pairOk columns rows) (pairsOk more) ok) (omega arith) h
     ∙ ap (λ (found : Tables). withTable columns rows (take words tables) found)
     (tablesOf-of-text count (total + words) (line + 1 + rows) more others rest (omega arith) others-ok (omega arith) left
     (words32-drop words tables h) ends)

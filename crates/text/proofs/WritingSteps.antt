@@ -12,13 +12,13 @@ use lib.Seq.{drop-cons, drop-drop, length-take-le}
 use borrow.Author.Tests.{lt-ltb}
 use Rattle.relations.specs.Limits.{questionNodeWords, questionNodeLimit}
 use Rattle.text.specs.Marks.{zeroDigit, separator, plainLine, shortLine, relationKey, rowKey, nodeKey}
-use Rattle.text.specs.Catalogue.{pairOk, pairsOk, catalogueWords, tablesOk}
+use Rattle.catalogue.specs.Judging.{pairOk, pairsOk, catalogueWords, tablesOk}
 use Rattle.text.specs.Writing.{digits, decimal, numbersText, linesText, tablesText, modeText, bundleText}
 use Rattle.text.specs.Put.{furthest}
-use Rattle.text.proofs.Tests.{both-first, both-second}
-use Rattle.text.proofs.Judgements.{good-pair, GoodTables, good-tables}
+use Rattle.relations.proofs.BoolLaws.{and-left, and-right}
+use Rattle.catalogue.proofs.Judgements.{good-pair, GoodTables, good-tables}
 use Rattle.text.proofs.Numbers.{decimal-step}
-use Rattle.text.proofs.CatalogueLaws.{drop-pair, pairs-good, pairs-first, pair-whole, words-pair}
+use Rattle.catalogue.proofs.PairLaws.{drop-pair, pairs-good, pairs-first, pair-whole, words-pair}
 
 pub decimal-last : (n : ℕ) → 10 ≤ n → n < 4294967296 → decimal n ≡ decimal (n / 10) ++ ((zeroDigit + n % 10) ∷ [])
 decimal-last n ten h =
@@ -117,8 +117,8 @@ length-tables (columns ∷ rows ∷ more) tables h =
       arith,
       length-numbers (columns ∷ rows ∷ []),
       length-lines rowKey columns rows tables,
-      rows-words columns rows (good-pair columns rows (both-first _ (pairsOk more) h) .some),
-      length-tables more (drop (columns * rows) tables) (both-second (pairOk columns rows) _ h),
+      rows-words columns rows (good-pair columns rows (and-left _ (pairsOk more) h) .some),
+      length-tables more (drop (columns * rows) tables) (and-right (pairOk columns rows) _ h),
     ))
 
 length-mode : (mode : ℕ) → length (modeText mode) ≡ 11

@@ -4,9 +4,8 @@ use mathlib.Core.Path.{_≡_}
 use mathlib.Core.List.{List}
 use lib.ListN.{length, drop}
 use lib.Seq.{sets}
-use Rattle.relations.specs.Limits.{wordLimit, questionNodeWords}
-use Rattle.text.specs.Limits.{storedColumnLimit, rowLimit}
-use Rattle.text.specs.Catalogue.{catalogueWords}
+use Rattle.relations.specs.Limits.{storedColumnLimit, rowLimit, wordLimit, questionNodeWords}
+use Rattle.catalogue.specs.Judging.{catalogueWords}
 use Rattle.text.specs.Reading as reads
 use Rattle.text.specs.Reading.{value, noNumber, relation, noRelation, Next, goesOn, wrongAt, Read, Tables}
 use Rattle.text.specs.declared.lines.Cursor.{Cursor}

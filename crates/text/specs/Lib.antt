@@ -1,5 +1,4 @@
 pub mod Limits
-pub mod Catalogue
 pub mod Marks
 pub mod Writing
 pub mod Reading

@@ -5,8 +5,7 @@ use mathlib.Core.Bool.{Bool, cond, _||_}
 use lib.ListN.{length}
 use lib.Dec.{ltb}
 use lib.Seq.{sets}
-use Rattle.relations.specs.Limits.{wordLimit, questionNodeLimit, questionNodeWords}
-use Rattle.text.specs.Limits.{cataloguePairLimit}
+use Rattle.relations.specs.Limits.{cataloguePairLimit, wordLimit, questionNodeLimit, questionNodeWords}
 use Rattle.text.specs.Reading.{Next, goesOn, wrongAt, reading}
 use Rattle.text.specs.Reading as reads
 use Rattle.text.specs.declared.bundle.Reading.{Reading}

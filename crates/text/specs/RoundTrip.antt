@@ -9,7 +9,7 @@ use lib.Dec.{eqb}
 use lib.Seq.{sets}
 use Rattle.relations.specs.Limits.{questionNodeWords}
 use Rattle.text.specs.Limits.{byteLimit, greatestNumber}
-use Rattle.text.specs.Catalogue.{tablesOk}
+use Rattle.catalogue.specs.Judging.{tablesOk}
 use Rattle.text.specs.Writing.{bundleText}
 use Rattle.text.specs.Reading.{Bundle, goesOn, reading}
 use Rattle.text.specs.ReadCall.{ReadOutcome, smallBuffers, readOutcome}

@@ -7,7 +7,7 @@ use lib.Dec.{leb, ltb, eqb}
 use lib.Seq.{sets}
 use Rattle.relations.specs.Limits.{questionNodeLimit, questionNodeWords}
 use Rattle.text.specs.Limits.{byteLimit}
-use Rattle.text.specs.Catalogue.{tablesOk}
+use Rattle.catalogue.specs.Judging.{tablesOk}
 use Rattle.text.specs.Writing.{bundleText}
 use Rattle.text.specs.declared.writing.Writing.{Writing}
 use Rattle.text.specs.declared.writing.Writing.the-variants.{Bytes, WrongTables, WrongNodes, SmallBuffer}

@@ -3,19 +3,14 @@ ghost use mathlib.Core.Path.{_≡_};
 ghost use mathlib.Core.Bool.{true};
 ghost use Prim.Native.Nat.{_+_, _≤_, _<_};
 ghost use lib.ListN.{length, drop};
-ghost use Rattle.relations.specs.Limits.{wordLimit, questionNodeLimit};
-ghost use Rattle.text.specs.Limits.{cataloguePairLimit};
+ghost use Rattle.relations.specs.Limits.{cataloguePairLimit, wordLimit, questionNodeLimit};
 ghost use Rattle.text.specs.Marks.{relationKey};
 ghost use Rattle.text.specs.Reading.{relationOf, begins, tableOf, tablesOf, nodesOf, withTables, linesOf};
 ghost use Rattle.text.specs.Answers.{Placed, RelationRead, TablesFound, NodesFound, linesAnswer, BundleFound};
 ghost use Rattle.text.specs.ReadCall.{readNumbers, readOutcome};
-use crate::catalogue::pair_ok;
-use crate::catalogue::wide;
 use crate::limits::BYTES;
 use crate::limits::NODE_WORDS;
 use crate::limits::NODES;
-use crate::limits::PAIRS;
-use crate::limits::WORDS;
 use crate::lines::Cursor;
 use crate::lines::Number;
 use crate::lines::Step;
@@ -24,6 +19,10 @@ use crate::lines::keep;
 use crate::lines::number_then;
 use crate::lines::read_line;
 use crate::lines::read_lines;
+use catalogue::judging::pair_ok;
+use catalogue::judging::wide;
+use catalogue::limits::PAIRS;
+use catalogue::limits::WORDS;
 
 // What a relation line says, and the position behind it.
 pub enum Relation {

@@ -1,6 +1,5 @@
-// Bundle text: the catalogue, the rules for numbers and lines, and a bundle read and written.
+// Bundle text: the rules for numbers and lines, and a bundle read and written.
 pub mod bundle;
-pub mod catalogue;
 pub mod limits;
 pub mod lines;
 pub mod writing;

@@ -4,16 +4,16 @@ ghost use mathlib.Core.Bool.{true};
 ghost use Prim.Native.Nat.{_+_, _*_, _/_, _≤_};
 ghost use lib.ListN.{length, set, take, drop};
 ghost use Rattle.relations.specs.Limits.{questionNodeWords, questionNodeLimit};
-ghost use Rattle.text.specs.Catalogue.{pairsOk, catalogueWords, tablesOk};
+ghost use Rattle.catalogue.specs.Judging.{pairsOk, catalogueWords, tablesOk};
 ghost use Rattle.text.specs.Writing.{decimal, numbersText, linesText, tablesText, modeText, bundleText};
 ghost use Rattle.text.specs.Put.{Put, furthest};
 ghost use Rattle.text.specs.WriteCall.{writeNumbers, writeOutcome};
-use crate::catalogue::tables_ok;
-use crate::catalogue::wide;
 use crate::limits::BYTES;
 use crate::limits::NODE_WORDS;
 use crate::limits::NODES;
 use crate::lines::separator_behind;
+use catalogue::judging::tables_ok;
+use catalogue::judging::wide;
 
 // What writing a bundle answers: its bytes; or refusal 7, 1 or 13.
 pub enum Writing {

@@ -13,7 +13,7 @@ use Rattle.running.proofs.run.Lts as lts
 use Rattle.plans.proofs.judging.judge_plan.Reads as judge-plan-reads
 use Rattle.running.proofs.capacity_of.Reads as capacity-of-reads
 use Rattle.running.proofs.run_legal.Reads as run-legal-reads
-use Rattle.text.proofs.catalogue.tables_ok.Reads as tables-ok-reads
+use Rattle.catalogue.proofs.judging.tables_ok.Reads as tables-ok-reads
 
 -- src/lib.rt:125:9
 tables-ok-requires : tie.Need-tables-ok-requires

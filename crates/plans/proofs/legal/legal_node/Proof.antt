@@ -4,7 +4,7 @@ use mathlib.Core.Path.{sym}
 use native.Mathlib.Omega.{arith}
 use borrow.Author.Needs.{needs}
 use Rattle.plans.specs.declared.nodes.Operation.the-variants.{Project, Join, Semijoin, Antijoin, Divide}
-use Rattle.plans.specs.Stored.{relationsOf}
+use Rattle.catalogue.specs.Stored.{relationsOf}
 use Rattle.plans.proofs.LegalLaws.{count-within, legal-load, legal-project, legal-select-constant, legal-select-attribute, legal-join, legal-semijoin, legal-antijoin, legal-divide, legal-unite, legal-intersect, legal-subtract}
 use Rattle.plans.proofs.DecodeLaws.{Stands, stands}
 use Rattle.plans.proofs.legal.legal_node.Statement.{statement}
@@ -17,7 +17,7 @@ use Rattle.plans.proofs.legal.legal_triples.Reads as legal-triples-read
 use Rattle.plans.proofs.legal.narrow.Reads as narrow-reads
 use Rattle.plans.proofs.legal.width_at.Reads as width-at-reads
 use Rattle.plans.proofs.nodes.within.Reads as within-reads
-use Rattle.plans.proofs.stored.relations_of.Reads as relations-of-reads
+use Rattle.catalogue.proofs.stored.relations_of.Reads as relations-of-reads
 
 -- the node stands for what its words read as
 stood : (s : lts.Start (width-at-reads.Asked, width-at-reads.Learnt, relations-of-reads.Asked, relations-of-reads.Learnt, within-reads.Asked, within-reads.Learnt, legal-triples-reads.Asked, legal-triples-reads.Learnt, narrow-reads.Asked, narrow-reads.Learnt, legal-division-reads.Asked, legal-division-reads.Learnt, legal-sides-reads.Asked, legal-sides-reads.Learnt) reads.Pre reads.Post) → Stands (s .args .words .now) (s .args .node)

@@ -1,6 +1,7 @@
 -- `plans::legal::width_of` meets its contract: each arm is the row of `widthBy` for its operation. A join's sum is within the column limit, so it is no overflow.
 -- Assumes nothing.
 use Prim.Native.Nat.{_+_}
+use mathlib.Core.Path.{_∙_}
 use native.Mathlib.Omega.{arith}
 use borrow.Author.Tests.{leb-true}
 use borrow.Author.Needs.{needs}
@@ -17,6 +18,9 @@ enum-told c = search needs
 
 columns-of-requires : tie.Need-columns-of-requires
 columns-of-requires c κs = search needs
+
+wide-requires : tie.Need-wide-requires
+wide-requires c κs = search needs
 
 enum-told-2 : tie.Need-enum-told-2
 enum-told-2 c = search needs
@@ -55,7 +59,7 @@ enum-told-11 : tie.Need-enum-told-11
 enum-told-11 c = search needs
 
 returns : tie.Need-returns
-returns c = rw (c .before .enum-told .given .1) (c .columns-of .ensures)
+returns c = rw (c .before .before .enum-told .given .1) (c .wide .ensures ∙ c .before .columns-of .ensures)
 
 returns-2 : tie.Need-returns-2
 returns-2 c = search needs
@@ -97,6 +101,7 @@ width-of-spec =
     width-at-requires
     enum-told
     columns-of-requires
+    wide-requires
     enum-told-2
     enum-told-3
     enum-told-4

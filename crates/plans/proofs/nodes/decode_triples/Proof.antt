@@ -15,7 +15,7 @@ use Rattle.plans.proofs.nodes.decode_triples.Lts as lts
 use Rattle.plans.proofs.nodes.head.Reads as head-reads
 use Rattle.plans.proofs.nodes.shape_fits.Reads as shape-fits-reads
 use Rattle.plans.proofs.nodes.within.Reads as within-reads
-use Rattle.plans.proofs.stored.wide.Reads as wide-reads
+use Rattle.catalogue.proofs.judging.wide.Reads as wide-reads
 
 shape-fits-requires : tie.Need-shape-fits-requires
 shape-fits-requires c κs = search needs

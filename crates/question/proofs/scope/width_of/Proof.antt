@@ -6,6 +6,9 @@ use Rattle.question.proofs.scope.width_of.Tie as tie
 enum-known-node : tie.Need-enum-known-node
 enum-known-node c = search needs
 
+cast-columns-of : tie.Need-cast-columns-of
+cast-columns-of c = search needs
+
 columns-of-requires : tie.Need-columns-of-requires
 columns-of-requires c κs = search needs
 
@@ -101,6 +104,7 @@ width-of-spec =
     tie.close
     (tie.spec
     enum-known-node
+    cast-columns-of
     columns-of-requires
     enum-told
     enum-known-node-2

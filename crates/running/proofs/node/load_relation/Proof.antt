@@ -1,41 +1,41 @@
-use native.Mathlib.Omega.{arith}
-use Rattle.running.proofs.TableLaws.{has-column, stored-inside, start-few, loaded}
-use native.Mathlib.Omega.{arith}
+-- `running::node::load_relation` meets its contract: the relation's words stand in the tables, since refusal 7 is past. Assumes nothing.
+use mathlib.Core.Path.{_≡_, _∙_}
 use borrow.Author.Needs.{needs}
+use Rattle.catalogue.specs.Stored.{columnsOf, rowsOf}
+use Rattle.catalogue.proofs.TableLaws.{has-column, stored-inside, start-few}
+use Rattle.running.proofs.LoadLaws.{loaded}
 use Rattle.running.proofs.node.load_relation.Statement.{statement}
 use Rattle.running.proofs.node.load_relation.Tie as tie
-use Rattle.running.proofs.node.load_relation.Reads as reads
-use Rattle.running.proofs.node.load_relation.Lts as lts
-use Rattle.operations.proofs.copy.load.Reads as load-reads
-use Rattle.plans.proofs.stored.columns_of.Reads as columns-of-reads
-use Rattle.plans.proofs.stored.rows_of.Reads as rows-of-reads
-use Rattle.plans.proofs.stored.start_of.Reads as start-of-reads
 
--- src/node.rt:67:9
 start-of-requires : tie.Need-start-of-requires
 start-of-requires c κs = let s = c .before .before .before in start-few (s .args .catalogue .now) (s .args .tables .now) (s .pre .0) (s .args .relation) (s .pre .1)
 
--- src/node.rt:68:9
 rows-of-requires : tie.Need-rows-of-requires
 rows-of-requires c κs = search needs
 
--- src/node.rt:69:9
+wide-requires : tie.Need-wide-requires
+wide-requires c κs = search needs
+
 columns-of-requires : tie.Need-columns-of-requires
 columns-of-requires c κs = search needs
 
--- src/node.rt:70:5
-load-requires : tie.Need-load-requires
-load-requires c κs = let s = c .before .before .before .before .before .before .before in
-    (rw (c .before .columns-of .ensures) (has-column (s .args .catalogue .now) (s .args .tables .now) (s .pre .0) (s .args .relation) (s .pre .1) .0), rw (c .before .columns-of .ensures, c .before .before .rows-of .ensures, c .before .before .before .start-of .ensures) (stored-inside (s .args .catalogue .now) (s .args .tables .now) (s .pre .0) (s .args .relation) (s .pre .1)), s .pre .2)
+wide-requires-2 : tie.Need-wide-requires-2
+wide-requires-2 c κs = search needs
 
--- src/node.rt:63:1
+load-requires : tie.Need-load-requires
+load-requires c κs =
+    let s = c .before .before .before .before .before .before .before .before .before in
+    let width : c .before .wide2 .result ≡ columnsOf (s .args .catalogue .now) (s .args .relation) = c .before .wide2 .ensures ∙ c .before .before .columns-of .ensures in
+    let rows : c .before .before .before .wide .result ≡ rowsOf (s .args .catalogue .now) (s .args .relation) = c .before .before .before .wide .ensures ∙ c .before .before .before .before .rows-of .ensures in
+    (rw width (has-column (s .args .catalogue .now) (s .args .tables .now) (s .pre .0) (s .args .relation) (s .pre .1) .0), rw (width, rows, c .before .before .before .before .before .start-of .ensures) (stored-inside (s .args .catalogue .now) (s .args .tables .now) (s .pre .0) (s .args .relation) (s .pre .1)), s .pre .2)
+
 same-length : tie.Need-same-length
 same-length c = search needs
 
--- src/node.rt:63:1
 returns : tie.Need-returns
-returns c = let s = c .before .before .before .before .before .before .before .before .before .before in
-    loaded (s .args .catalogue .now) (s .args .tables .now) (s .pre .0) (s .args .relation) (c .before .before .before .before .before .before .start-of .ensures) (c .before .before .before .before .before .rows-of .ensures) (c .before .before .before .before .columns-of .ensures) (c .before .before .load .ensures)
+returns c =
+    let s = c .before .before .before .before .before .before .before .before .before .before .before .before in
+    loaded (s .args .catalogue .now) (s .args .tables .now) (s .args .relation) (c .before .before .before .before .before .before .before .before .start-of .ensures) (c .before .before .before .before .before .before .wide .ensures ∙ c .before .before .before .before .before .before .before .rows-of .ensures) (c .before .before .before .before .wide2 .ensures ∙ c .before .before .before .before .before .columns-of .ensures) (c .before .before .load .ensures)
 
 pub load-relation-spec : {M : Type 1} → statement M
 load-relation-spec =
@@ -43,7 +43,9 @@ load-relation-spec =
     (tie.spec
     start-of-requires
     rows-of-requires
+    wide-requires
     columns-of-requires
+    wide-requires-2
     load-requires
     same-length
     returns)

@@ -9,7 +9,7 @@ use Rattle.values.specs.Words.{rowsOf}
 use Rattle.values.specs.Building.{Builds}
 use Rattle.values.specs.declared.rows.Value.{Value}
 use Rattle.values.specs.declared.placing.Placed.{Placed}
-use Rattle.plans.specs.Stored.{relationsOf, columnsOf, storedTables}
+use Rattle.catalogue.specs.Stored.{relationsOf, columnsOf, storedTables}
 use Rattle.plans.specs.declared.nodes.Operation.{Operation}
 use Rattle.plans.specs.declared.nodes.Operation.the-variants.{Load, Project, SelectConstant, SelectAttribute, Join, Semijoin, Antijoin, Divide, Unite, Intersect, Subtract}
 use Rattle.plans.proofs.DecodeLaws.{Stands, stands}

@@ -1,5 +1,5 @@
 use Rattle.relations.specs.PlanWords.{readNode}
-use Rattle.plans.specs.Stored.{relationsOf, columnsOf}
+use Rattle.catalogue.specs.Stored.{relationsOf, columnsOf}
 use Rattle.running.proofs.NodeLaws.{width-read, weight-read, builds-as, no-node}
 use mathlib.Core.Path.{_≡_, sym, _∙_}
 use Rattle.plans.proofs.DecodeLaws.{stands}

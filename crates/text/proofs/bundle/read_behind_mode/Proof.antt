@@ -2,7 +2,7 @@
 -- Assumes nothing.
 use Rattle.text.specs.declared.lines.Step.the-variants.{Next as Onward}
 use Rattle.text.proofs.ReadingLaws.{length-tables}
-use Rattle.text.specs.Limits.{cataloguePairLimit}
+use Rattle.relations.specs.Limits.{cataloguePairLimit}
 use lib.ListN.{drop}
 use mathlib.Core.Path.{ap, _∙_}
 use Rattle.text.proofs.BundleLaws.{wrong-tables, wrong-nodes, bundle-found}

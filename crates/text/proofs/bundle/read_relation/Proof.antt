@@ -1,6 +1,6 @@
 -- `text::bundle::read_relation` meets its contract. Two numbers with their bytes behind them, and then the tests of the definition, in its order.
 -- Assumes nothing.
-use Rattle.text.proofs.Judgements.{good-pair}
+use Rattle.catalogue.proofs.Judgements.{good-pair}
 use Rattle.text.proofs.RelationLaws.{relation-found, no-rows, no-columns}
 use Rattle.text.proofs.Answered.{number-found, number-missing, value-as}
 use Rattle.relations.specs.Limits.{wordLimit}

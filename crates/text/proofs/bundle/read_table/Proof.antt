@@ -2,7 +2,7 @@
 -- Assumes nothing.
 use Rattle.text.proofs.RelationLaws.{table-of}
 use Rattle.text.proofs.Answered.{relation-read, relation-missing}
-use Rattle.text.specs.Catalogue.{catalogueWords}
+use Rattle.catalogue.specs.Judging.{catalogueWords}
 use native.Mathlib.Numerals.{add-one}
 use mathlib.Core.Path.{refl, _∙_}
 use native.Mathlib.Omega.{arith}

@@ -6,9 +6,8 @@ use Rattle.text.proofs.ReadingLaws.{TableAsText, tableOf-text}
 use Rattle.text.proofs.ReadingSteps.{tables-step, tables-done}
 use Rattle.text.specs.Answers.{standing, PlacedStep}
 use Rattle.text.specs.Reading.{tableOf, tablesOf}
-use Rattle.text.specs.Catalogue.{catalogueWords}
-use Rattle.relations.specs.Limits.{wordLimit}
-use Rattle.text.specs.Limits.{cataloguePairLimit}
+use Rattle.catalogue.specs.Judging.{catalogueWords}
+use Rattle.relations.specs.Limits.{cataloguePairLimit, wordLimit}
 use lib.ListN.{length, drop}
 use mathlib.Core.Path.{_≡_, refl, sym, ap, _∙_}
 use Prim.Native.Nat.{ℕ, _≤_, _-_, _+_}

@@ -12,7 +12,7 @@ use Rattle.text.specs.Marks.{nodeKey}
 use Rattle.text.specs.Writing.{linesText, tablesText, modeText, bundleText}
 use Rattle.text.specs.Put.{furthest}
 use Rattle.text.proofs.Stores.{StillToPut, put-start, put-on, put-fits, put-last}
-use Rattle.text.proofs.Judgements.{good-tables}
+use Rattle.catalogue.proofs.Judgements.{good-tables}
 use Rattle.text.proofs.WritingSteps.{bundle-parts, bundle-fits}
 use Rattle.text.proofs.writing.put_bundle.Statement.{statement}
 use Rattle.text.proofs.writing.put_bundle.Tie as tie

@@ -8,17 +8,17 @@ use mathlib.Core.List.{List, [], _++_}
 use native.Mathlib.Omega.{arith}
 use lib.ListN.{length, take, drop, drop-of-length-le}
 use Rattle.text.specs.Marks.{relationKey, rowKey}
-use Rattle.text.specs.Catalogue.{pairsOk, catalogueWords}
+use Rattle.catalogue.specs.Judging.{pairsOk, catalogueWords}
 use Rattle.text.specs.Writing.{numbersText, linesText, tablesText}
 use Rattle.text.specs.Put.{furthest}
 use Rattle.text.proofs.Stores.{StillToPut, put-start, put-on, put-fits, put-end}
-use Rattle.text.proofs.CatalogueLaws.{pair-whole}
+use Rattle.catalogue.proofs.PairLaws.{pair-whole}
 use Rattle.text.proofs.WritingSteps.{TableTurn, table-turn}
 use Rattle.text.proofs.writing.put_tables.Statement.{statement}
 use Rattle.text.proofs.writing.put_tables.Tie as tie
 use Rattle.text.proofs.writing.put_tables.Reads as reads
 use Rattle.text.proofs.writing.put_tables.Lts as lts
-use Rattle.text.proofs.catalogue.wide.Reads as wide-reads
+use Rattle.catalogue.proofs.judging.wide.Reads as wide-reads
 use Rattle.text.proofs.writing.put_bytes.Reads as put-bytes-reads
 use Rattle.text.proofs.writing.put_lines.Reads as put-lines-reads
 use Rattle.text.proofs.writing.put_numbers.Reads as put-numbers-reads

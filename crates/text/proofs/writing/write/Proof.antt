@@ -9,14 +9,14 @@ use borrow.Author.Tests.{not-true, not-false, eq-eqb, ne-eqb, le-leb, lt-leb}
 use lib.ListN.{length}
 use Rattle.relations.specs.Limits.{questionNodeWords, questionNodeLimit}
 use Rattle.text.specs.Limits.{byteLimit}
-use Rattle.text.specs.Catalogue.{tablesOk}
+use Rattle.catalogue.specs.Judging.{tablesOk}
 use Rattle.text.specs.Writing.{bundleText}
 use Rattle.text.specs.WriteCall.{nodesOk, writeOutcome}
 use Rattle.text.proofs.writing.write.Statement.{statement}
 use Rattle.text.proofs.writing.write.Tie as tie
 use Rattle.text.proofs.writing.write.Reads as reads
 use Rattle.text.proofs.writing.write.Lts as lts
-use Rattle.text.proofs.catalogue.tables_ok.Reads as tables-ok-reads
+use Rattle.catalogue.proofs.judging.tables_ok.Reads as tables-ok-reads
 use Rattle.text.proofs.writing.count_bytes.Reads as count-bytes-reads
 use Rattle.text.proofs.writing.put_bundle.Reads as put-bundle-reads
 

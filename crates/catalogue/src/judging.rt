@@ -1,6 +1,6 @@
 // The catalogue: pairs of columns and rows, and the words of the tables that they describe.
 ghost use mathlib.Core.Path.{_≡_};
-ghost use Rattle.text.specs.Catalogue.{pairOk, tablesOk, judged};
+ghost use Rattle.catalogue.specs.Judging.{pairOk, tablesOk, judged};
 use crate::limits::PAIRS;
 use crate::limits::ROWS;
 use crate::limits::STORED_COLUMNS;

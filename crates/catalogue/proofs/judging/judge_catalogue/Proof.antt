@@ -1,4 +1,4 @@
--- `text::catalogue::judge_catalogue` meets its contract. The loop's invariant: the catalogue's pairs are ok if those from `at` on are,
+-- `catalogue::judging::judge_catalogue` meets its contract. The loop's invariant: the catalogue's pairs are ok if those from `at` on are,
 -- and its words are `words` and those of the pairs from `at` on. A pair that is ok has at most 131,072 words, so `words` is at most 65,536 for each word passed.
 -- Each return is the case of `judged` that the tests before it decide. The measure is what is left of the catalogue. Assumes nothing.
 use Prim.Native.Nat.{_≤_, _-_, _+_, _*_}
@@ -8,17 +8,16 @@ use mathlib.Core.List.{_∷_}
 use native.Mathlib.Omega.{arith}
 use borrow.Author.Tests.{le-leb, lt-leb}
 use lib.ListN.{length, drop}
-use Rattle.relations.specs.Limits.{wordLimit}
-use Rattle.text.specs.Limits.{cataloguePairLimit}
-use Rattle.text.specs.Catalogue.{pairOk, pairsOk, catalogueWords}
-use Rattle.text.proofs.Judgements.{good-pair}
-use Rattle.text.proofs.CatalogueLaws.{drop-pair, pairs-good, pairs-bad, pairs-odd, pairs-end, words-pair, words-end}
-use Rattle.text.proofs.catalogue.judge_catalogue.Statement.{statement}
-use Rattle.text.proofs.catalogue.judge_catalogue.Tie as tie
-use Rattle.text.proofs.catalogue.judge_catalogue.Reads as reads
-use Rattle.text.proofs.catalogue.judge_catalogue.Lts as lts
-use Rattle.text.proofs.catalogue.pair_ok.Reads as pair-ok-reads
-use Rattle.text.proofs.catalogue.wide.Reads as wide-reads
+use Rattle.relations.specs.Limits.{cataloguePairLimit, wordLimit}
+use Rattle.catalogue.specs.Judging.{pairOk, pairsOk, catalogueWords}
+use Rattle.catalogue.proofs.Judgements.{good-pair}
+use Rattle.catalogue.proofs.PairLaws.{drop-pair, pairs-good, pairs-bad, pairs-odd, pairs-end, words-pair, words-end}
+use Rattle.catalogue.proofs.judging.judge_catalogue.Statement.{statement}
+use Rattle.catalogue.proofs.judging.judge_catalogue.Tie as tie
+use Rattle.catalogue.proofs.judging.judge_catalogue.Reads as reads
+use Rattle.catalogue.proofs.judging.judge_catalogue.Lts as lts
+use Rattle.catalogue.proofs.judging.pair_ok.Reads as pair-ok-reads
+use Rattle.catalogue.proofs.judging.wide.Reads as wide-reads
 
 abbrev Inv-loop : tie.InvT-loop
 Inv-loop catalogue words₀ at₀ words at =

@@ -10,7 +10,7 @@ use lib.ListN.{getD, length, take, drop, length-drop}
 use lib.Seq.{drop-drop, length-take-le}
 use borrow.Author.Tests.{lt-ltb, ltb-true}
 use Rattle.relations.specs.Values.{Wide}
-use Rattle.plans.specs.Stored.{relationsOf, pairWord, columnsOf, rowsOf, startOf, rowsIn, storedTables}
+use Rattle.catalogue.specs.Stored.{relationsOf, pairWord, columnsOf, rowsOf, startOf, rowsIn, storedTables}
 
 -- Where the words start.
 

@@ -4,10 +4,9 @@ use mathlib.Core.List.{List, [], _∷_}
 use mathlib.Core.Bool.{Bool, true, false, cond, _&&_}
 use lib.ListN.{length}
 use lib.Dec.{leb, eqb}
-use Rattle.relations.specs.Limits.{wordLimit}
-use Rattle.text.specs.Limits.{cataloguePairLimit, storedColumnLimit, rowLimit}
-use Rattle.text.specs.declared.catalogue.Judged.{Judged}
-use Rattle.text.specs.declared.catalogue.Judged.the-variants.{Words, Wrong}
+use Rattle.relations.specs.Limits.{cataloguePairLimit, storedColumnLimit, rowLimit, wordLimit}
+use Rattle.catalogue.specs.declared.judging.Judged.{Judged}
+use Rattle.catalogue.specs.declared.judging.Judged.the-variants.{Words, Wrong}
 
 -- "pairs (columns 1 to 8, rows 0 to 16,384)"
 abbrev pub pairOk : ℕ → ℕ → Bool

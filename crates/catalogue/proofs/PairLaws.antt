@@ -8,9 +8,9 @@ use native.Mathlib.Numerals.{add-one}
 use lib.Dec.{eqb}
 use lib.ListN.{length, getD, drop, length-drop, drop-of-length-le}
 use lib.Seq.{drop-cons}
-use Rattle.text.specs.Catalogue.{pairOk, pairsOk, catalogueWords, catalogueOk, tablesOk, judged}
-use Rattle.text.proofs.Tests.{both-first}
-use Rattle.text.specs.declared.catalogue.Judged.the-variants.{Words, Wrong}
+use Rattle.catalogue.specs.Judging.{pairOk, pairsOk, catalogueWords, catalogueOk, tablesOk, judged}
+use Rattle.relations.proofs.BoolLaws.{and-left}
+use Rattle.catalogue.specs.declared.judging.Judged.the-variants.{Words, Wrong}
 
 -- A pair at the front of what is left.
 pub drop-pair : (l : List ℕ) (at columns rows : ℕ) → at + 1 < length l → columns ≡ getD l at 0 → rows ≡ getD l (at + 1) 0 → drop at l ≡ columns ∷ rows ∷ drop (at + 2) l
@@ -29,7 +29,7 @@ module _ (columns rows : ℕ) (l more : List ℕ) (e : l ≡ columns ∷ rows �
 
   pub pairs-first : pairsOk l ≡ true → pairOk columns rows ≡ true
   unfolding pairsOk
-  pairs-first h = both-first _ (pairsOk more) (sym (ap pairsOk e) ∙ h)
+  pairs-first h = and-left _ (pairsOk more) (sym (ap pairsOk e) ∙ h)
 
   pub words-pair : catalogueWords l ≡ columns * rows + catalogueWords more
   unfolding catalogueWords

@@ -1,10 +1,10 @@
--- `text::catalogue::tables_ok` meets its contract: by what the catalogue is judged, the tables' length is compared, or they are wrong.
+-- `catalogue::judging::tables_ok` meets its contract: by what the catalogue is judged, the tables' length is compared, or they are wrong.
 -- Assumes nothing.
 use mathlib.Core.Path.{sym, _∙_}
 use borrow.Author.Needs.{needs}
-use Rattle.text.proofs.CatalogueLaws.{tables-judged, tables-wrong}
-use Rattle.text.proofs.catalogue.tables_ok.Statement.{statement}
-use Rattle.text.proofs.catalogue.tables_ok.Tie as tie
+use Rattle.catalogue.proofs.PairLaws.{tables-judged, tables-wrong}
+use Rattle.catalogue.proofs.judging.tables_ok.Statement.{statement}
+use Rattle.catalogue.proofs.judging.tables_ok.Tie as tie
 
 judge-catalogue-requires : tie.Need-judge-catalogue-requires
 judge-catalogue-requires c κs = search needs

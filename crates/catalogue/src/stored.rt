@@ -2,13 +2,8 @@
 ghost use mathlib.Core.Path.{_≡_};
 ghost use Prim.Native.Nat.{_≤_};
 ghost use Rattle.relations.specs.Limits.{wordLimit};
-ghost use Rattle.plans.specs.Stored.{relationsOf, columnsOf, rowsOf, startOf};
-
-pub fn wide(word: u32) -> usize
-    ensures { λ r. ⌜ r ≡ word ⌝ }
-{
-    word as usize
-}
+ghost use Rattle.catalogue.specs.Stored.{relationsOf, columnsOf, rowsOf, startOf};
+use crate::judging::wide;
 
 pub fn relations_of(catalogue: &[u32]) -> usize
     ensures { λ r. ⌜ r ≡ relationsOf (now (catalogue .entry)) ⌝ }
@@ -17,22 +12,22 @@ pub fn relations_of(catalogue: &[u32]) -> usize
 }
 
 // 0 for an unknown relation.
-pub fn columns_of(catalogue: &[u32], relation: usize) -> usize
+pub fn columns_of(catalogue: &[u32], relation: usize) -> u32
     ensures { λ r. ⌜ r ≡ columnsOf (now (catalogue .entry)) relation ⌝ }
 {
     if relation < catalogue.len() / 2 {
-        wide(catalogue[2 * relation])
+        catalogue[2 * relation]
     } else {
         0
     }
 }
 
 // 0 for an unknown relation.
-pub fn rows_of(catalogue: &[u32], relation: usize) -> usize
+pub fn rows_of(catalogue: &[u32], relation: usize) -> u32
     ensures { λ r. ⌜ r ≡ rowsOf (now (catalogue .entry)) relation ⌝ }
 {
     if relation < catalogue.len() / 2 {
-        wide(catalogue[2 * relation + 1])
+        catalogue[2 * relation + 1]
     } else {
         0
     }
@@ -46,7 +41,7 @@ pub fn start_of(catalogue: &[u32], relation: usize) -> usize
     let mut start = 0;
     let mut passed = 0;
     while passed < relation {
-        start += columns_of(catalogue, passed) * rows_of(catalogue, passed);
+        start += wide(columns_of(catalogue, passed)) * wide(rows_of(catalogue, passed));
         passed += 1;
     }
     start

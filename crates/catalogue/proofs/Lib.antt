@@ -1,0 +1,4 @@
+pub mod Judgements
+pub mod PairLaws
+pub mod StoredLaws
+pub mod TableLaws
