@@ -1,16 +1,16 @@
 -- The tables that refusal 7 leaves: each relation has a column, and its words stand in the tables. Assumes nothing.
 use mathlib.Core.Path.{_≡_, refl, ap, _∙_}
-use mathlib.Core.Bool.{true, false≢true}
+use mathlib.Core.Bool.{Bool, true, _&&_, false≢true}
 use mathlib.Core.List.{List, [], _∷_}
 use Prim.Native.Nat.{ℕ, zero, suc, _+_, _*_, _/_, _≤_, _<_}
 use native.Mathlib.Omega.{arith}
-use lib.Dec.{leb·suc-suc}
+use lib.Dec.{leb, leb·suc-suc}
 use lib.ListN.{length}
 use borrow.Author.Tests.{lt-ltb}
-use Rattle.relations.specs.Limits.{wordLimit, storedColumnLimit}
+use Rattle.relations.specs.Limits.{cataloguePairLimit, wordLimit, storedColumnLimit}
 use Rattle.relations.specs.Values.{Wide}
 use Rattle.relations.proofs.BoolLaws.{and-left, and-right}
-use Rattle.catalogue.specs.Judging.{pairOk, pairsOk, catalogueWords, tablesOk}
+use Rattle.catalogue.specs.Judging.{pairOk, pairsOk, catalogueWords, catalogueOk, tablesOk}
 use Rattle.catalogue.specs.Stored.{relationsOf, columnsOf, rowsOf, startOf, storedTables}
 use Rattle.catalogue.proofs.Judgements.{GoodPair, good-pair, GoodTables, good-tables}
 use Rattle.catalogue.proofs.StoredLaws.{start-pair, start-room, stored-wide}
@@ -27,7 +27,7 @@ start-words (columns ∷ rows ∷ more) h =
     rw (half (length more))
     (start-pair columns rows more (relationsOf more) ∙ ap (λ (n : ℕ). columns * rows + n) (start-words more (and-right (pairOk columns rows) (pairsOk more) h)))
 
-pub columns-some : (catalogue : List ℕ) (relation : ℕ) → pairsOk catalogue ≡ true → relation < relationsOf catalogue → (1 ≤ columnsOf catalogue relation) × (columnsOf catalogue relation ≤ storedColumnLimit)
+columns-some : (catalogue : List ℕ) (relation : ℕ) → pairsOk catalogue ≡ true → relation < relationsOf catalogue → (1 ≤ columnsOf catalogue relation) × (columnsOf catalogue relation ≤ storedColumnLimit)
 unfolding pairsOk
 columns-some [] relation h k = absurd (omega arith)
 columns-some (columns ∷ []) relation h k = absurd (false≢true h)
@@ -37,6 +37,13 @@ columns-some (columns ∷ rows ∷ more) zero h k =
 columns-some (columns ∷ rows ∷ more) (suc relation) h k =
     let two : 2 * suc relation ≡ suc (suc (2 * relation)) = omega arith in
     rw (half (length more), two, leb·suc-suc (suc relation) (length more / 2)) (columns-some more relation (and-right (pairOk columns rows) (pairsOk more) h) (omega (arith, half (length more))))
+
+-- translation looks at the catalogue alone
+pub known-columns : (catalogue : List ℕ) → catalogueOk catalogue ≡ true → (relation : ℕ) → relation < relationsOf catalogue → 1 ≤ columnsOf catalogue relation
+known-columns catalogue ok relation known =
+    let count : Bool = leb (length catalogue) (2 * cataloguePairLimit) in
+    let shaped : (count && pairsOk catalogue) ≡ true = and-left (count && pairsOk catalogue) (leb (catalogueWords catalogue) wordLimit) ok in
+    columns-some catalogue relation (and-right count (pairsOk catalogue) shaped) known .0
 
 module _ (catalogue tables : List ℕ) (ok : tablesOk catalogue tables ≡ true) where
   good : GoodTables catalogue tables

@@ -10,7 +10,7 @@ use lib.Dec.{eqb}
 use lib.ListN.{length, take, drop, length-append, length-drop, take-append-drop}
 use lib.Seq.{length-take-le, take-at, drop-at}
 use borrow.Author.Tests.{eqb-true, eq-eqb}
-use Rattle.relations.specs.Limits.{columnLimit, tripleLimit, pairLimit, planNodeLimit, planNodeWords}
+use Rattle.relations.specs.Limits.{planNodeLimit, planNodeWords}
 use Rattle.relations.specs.Lists.{flat}
 use Rattle.relations.specs.Nodes as nodes
 use Rattle.relations.specs.Nodes.{load, project, selectConstant, selectAttribute, join, semijoin, antijoin, divide, unite, intersect, subtract}
@@ -18,30 +18,13 @@ use Rattle.relations.specs.Plan.{widthOfNode}
 use Rattle.relations.specs.Legality.{between, legalNode, legalNodes, legalPlan}
 use Rattle.relations.specs.PlanWords.{nodeWords, countFits, readNode}
 use Rattle.relations.proofs.BoolLaws.{and-left, and-right, and-both}
-use Rattle.relations.proofs.LegalityLaws.{LegalFacts, legal-facts, between-so}
+use Rattle.relations.proofs.LegalityLaws.{legal-count}
 use Rattle.relations.proofs.PlanWordsOnly.{words-and-back}
 use Rattle.catalogue.specs.Stored.{relationsOf, columnsOf}
 use Rattle.plans.specs.Judging.{judgedNode, onward, judgeNodes, judgement, nodesIn, nodesOf, JudgedExactly}
 use Rattle.plans.specs.declared.judging.Width.the-variants.{Of, Illegal as NoWidth}
 use Rattle.plans.specs.declared.judging.Judgement.{Judgement}
 use Rattle.plans.specs.declared.judging.Judgement.the-variants.{Legal, Illegal}
-
--- a legal node's count is within its operation's bounds
-legal-count : (relations : ℕ) (made : List ℕ) (node : nodes.Node) → So (legalNode relations made node) → So (countFits node)
-legal-count relations made node h = go node (legal-facts relations made node h)
-  where
-    go : (node : nodes.Node) → LegalFacts relations made node → So (countFits node)
-    go (load relation) f = refl
-    go (project left attributes) f = between-so 1 columnLimit (length attributes) (f .1)
-    go (selectConstant left a operator c) f = refl
-    go (selectAttribute left a operator b) f = refl
-    go (join left right triples) f = between-so 0 tripleLimit (length triples) (omega arith, f .0 .2)
-    go (semijoin left right triples) f = between-so 0 tripleLimit (length triples) (omega arith, f .2)
-    go (antijoin left right triples) f = between-so 0 tripleLimit (length triples) (omega arith, f .2)
-    go (divide left right pairs) f = between-so 1 pairLimit (length pairs) (f .2)
-    go (unite left right) f = refl
-    go (intersect left right) f = refl
-    go (subtract left right) f = refl
 
 illegal-legal {ℓ} : {C : Type ℓ} {place count : ℕ} → Illegal place ≡ Legal count → C
 illegal-legal e = let z : _≡_ {A = ℕ} 0 1 = cc in absurd (omega arith)

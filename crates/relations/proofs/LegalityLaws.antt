@@ -1,8 +1,9 @@
 -- Legality read as facts and made from facts.
-use mathlib.Core.Path.{_≡_}
+use mathlib.Core.Path.{_≡_, refl}
 use mathlib.Core.Bool.{Bool, _&&_, So}
 use mathlib.Core.List.{List, [], _∷_, _++_}
 use Prim.Native.Nat.{ℕ, _+_, _≤_, _<_}
+use native.Mathlib.Omega.{arith}
 use lib.Dec.{ltb, leb, eqb}
 use borrow.Author.Tests.{ltb-true, leb-true, eqb-true, lt-ltb, le-leb, eq-eqb}
 use lib.ListN.{length}
@@ -12,6 +13,7 @@ use Rattle.relations.specs.Columns.{Attribute, Triple, Pair, leftNumbers
 use Rattle.relations.specs.Nodes.{Node, load, project, selectConstant, selectAttribute, join, semijoin, antijoin, divide, unite, intersect, subtract}
 use Rattle.relations.specs.Machine.{run}
 use Rattle.relations.specs.Plan.{widthAt, widthOfNode}
+use Rattle.relations.specs.PlanWords.{countFits}
 use Rattle.relations.specs.Legality.{between, inside, tripleInside, pairInside, distinct, lower, legalTriples, legalSides, legalNode, legalNodes}
 use Rattle.relations.proofs.BoolLaws.{and-left, and-right, and-both}
 use Rattle.relations.proofs.ListLaws.{all-mono, all-of, of-all}
@@ -162,3 +164,20 @@ legal-append columns relations made [] ys h k = k
 legal-append columns relations made (x ∷ xs) ys h k =
     let after : List ℕ = made ++ (widthOfNode columns made x ∷ []) in
     and-both (legalNode relations made x) (legalNodes columns relations after (xs ++ ys)) (and-left (legalNode relations made x) (legalNodes columns relations after xs) h) (legal-append columns relations after xs ys (and-right (legalNode relations made x) (legalNodes columns relations after xs) h) k)
+
+-- a legal node's count is within its operation's bounds
+pub legal-count : (relations : ℕ) (made : List ℕ) (node : Node) → So (legalNode relations made node) → So (countFits node)
+legal-count relations made node h = go node (legal-facts relations made node h)
+  where
+    go : (node : Node) → LegalFacts relations made node → So (countFits node)
+    go (load relation) f = refl
+    go (project left attributes) f = between-so 1 columnLimit (length attributes) (f .1)
+    go (selectConstant left a operator c) f = refl
+    go (selectAttribute left a operator b) f = refl
+    go (join left right triples) f = between-so 0 tripleLimit (length triples) (omega arith, f .0 .2)
+    go (semijoin left right triples) f = between-so 0 tripleLimit (length triples) (omega arith, f .2)
+    go (antijoin left right triples) f = between-so 0 tripleLimit (length triples) (omega arith, f .2)
+    go (divide left right pairs) f = between-so 1 pairLimit (length pairs) (f .2)
+    go (unite left right) f = refl
+    go (intersect left right) f = refl
+    go (subtract left right) f = refl

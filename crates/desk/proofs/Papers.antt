@@ -1,0 +1,23 @@
+-- P1 to P10, computed.
+use mathlib.Core.Path.{refl}
+use Rattle.relations.specs.Machine.{run}
+use Rattle.calculus.specs.Form.{widthOfRange}
+use Rattle.calculus.specs.Translation.{translateRange}
+use Rattle.catalogue.specs.Judging.{pairsOk, catalogueWords}
+use Rattle.values.specs.Words.{wordsOf}
+use Rattle.question.specs.Nodes.{kindNamed, usedWords, spelled, nodeAt}
+use Rattle.question.specs.References.{referencesTo, seen, firstFrom}
+use Rattle.question.specs.Trees.{treesBelow, treeOf, reading}
+use Rattle.question.specs.Scopes.{addWidths, walk}
+use Rattle.question.specs.Judgement.{judgeTree, judgeNodes, judged}
+use Rattle.catalogue.specs.Stored.{startOf, rowsIn}
+use Rattle.plans.specs.Judging.{judgeNodes as judgePlan, nodesIn}
+use Rattle.translation.specs.TranslateCall.{translateOutcome}
+use Rattle.running.specs.RunCall.{fitOf, runOutcome}
+use Rattle.desk.specs.AnswerCall.{answerOutcome}
+use Rattle.desk.specs.Papers.{PapersHold}
+
+-- each line in the table's order
+pub papers-hold : PapersHold
+unfolding answerOutcome translateOutcome runOutcome pairsOk catalogueWords judged judgeNodes judgeTree nodeAt kindNamed usedWords spelled referencesTo seen firstFrom treesBelow treeOf reading walk addWidths translateRange widthOfRange judgePlan nodesIn startOf rowsIn run fitOf wordsOf
+papers-hold = (record { numbers = refl; rows = refl }, (record { numbers = refl; rows = refl }, (record { numbers = refl; rows = refl }, (record { numbers = refl; rows = refl }, (record { numbers = refl; rows = refl }, (record { numbers = refl; rows = refl }, (record { numbers = refl; rows = refl }, (record { numbers = refl; rows = refl }, (record { numbers = refl; rows = refl }, (record { numbers = refl; rows = refl }, tt))))))))))

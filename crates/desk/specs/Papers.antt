@@ -1,0 +1,95 @@
+-- Document 01, "Examples; P marks those to prove": P1 to P10 as one table. Proved in proofs/Papers, by computing `answerOutcome`.
+use Prim.Native.Nat.{ℕ}
+use mathlib.Core.Path.{_≡_}
+use mathlib.Core.List.{List, [], _∷_, _++_}
+use lib.ListN.{length, take, replicate}
+use Rattle.relations.specs.Limits.{wordLimit}
+use Rattle.relations.specs.Lists.{All}
+use Rattle.translation.specs.TranslateCall.{planBufferWords}
+use Rattle.running.specs.RunCall.{RunNumbers, runRefusal}
+use Rattle.desk.specs.AnswerCall.{AnswerOutcome, answerOutcome}
+
+-- The bundle's tables; P3 has no ban days.
+
+abbrev pub banDays : List ℕ
+banDays = 11 ∷ 12 ∷ []
+
+abbrev pub paperCatalogue : (days : List ℕ) → List ℕ
+paperCatalogue days = 2 ∷ 5 ∷ 1 ∷ length days ∷ 2 ∷ 4 ∷ []
+
+abbrev pub paperTables : (days : List ℕ) → List ℕ
+paperTables days = (4 ∷ 11 ∷ 4 ∷ 12 ∷ 7 ∷ 11 ∷ 9 ∷ 12 ∷ 9 ∷ 11 ∷ []) ++ days ++ (4 ∷ 1 ∷ 7 ∷ 1 ∷ 9 ∷ 2 ∷ 13 ∷ 2 ∷ [])
+
+-- The bundle's question: node 0 is the target (P9 changes its attribute, P10 its variable), node 1 a table (P8 changes its relation).
+
+abbrev pub paperQuestion : (variable attribute relation : ℕ) → List ℕ
+paperQuestion variable attribute relation =
+    3 ∷ variable ∷ attribute ∷ 0 ∷ 0 ∷ 0 ∷
+    1 ∷ relation ∷ 0 ∷ 0 ∷ 0 ∷ 0 ∷
+    4 ∷ 20 ∷ 2 ∷ 0 ∷ 0 ∷ 0 ∷
+    1 ∷ 1 ∷ 0 ∷ 0 ∷ 0 ∷ 0 ∷
+    1 ∷ 0 ∷ 0 ∷ 0 ∷ 0 ∷ 0 ∷
+    9 ∷ 22 ∷ 1 ∷ 1 ∷ 20 ∷ 1 ∷
+    9 ∷ 22 ∷ 2 ∷ 1 ∷ 21 ∷ 1 ∷
+    10 ∷ 6 ∷ 7 ∷ 0 ∷ 0 ∷ 0 ∷
+    13 ∷ 22 ∷ 5 ∷ 8 ∷ 0 ∷ 0 ∷
+    14 ∷ 21 ∷ 4 ∷ 9 ∷ 0 ∷ 0 ∷
+    2 ∷ 1 ∷ 3 ∷ 10 ∷ 0 ∷ 0 ∷ []
+
+abbrev pub bundleQuestion : List ℕ
+bundleQuestion = paperQuestion 20 1 2
+
+-- A line: the call (its buffers hold zeros), the numbers that it gives, and the words at the output's front.
+pub record Paper : Type 0 where
+  pub mode : ℕ
+  pub days : List ℕ
+  pub question : List ℕ
+  pub workWords : ℕ
+  pub outputWords : ℕ
+  pub numbers : RunNumbers
+  pub rows : List ℕ
+
+abbrev pub callOf : Paper → AnswerOutcome
+callOf p =
+    answerOutcome (paperCatalogue (p .days)) (paperTables (p .days)) (p .question) (p .mode)
+    (replicate planBufferWords 0) (replicate (p .workWords) 0) (replicate (p .outputWords) 0)
+
+pub record Holds (p : Paper) : Type 0 where
+  pub numbers : callOf p .numbers ≡ p .numbers
+  pub rows : take (length (p .rows)) (callOf p .output) ≡ p .rows
+
+abbrev pub passes : (mode : ℕ) (days : List ℕ) (workWords outputWords nodes heavy room : ℕ) (answer : List ℕ) → Paper
+passes mode days workWords outputWords nodes heavy room answer =
+    record {
+      mode = mode;
+      days = days;
+      question = bundleQuestion;
+      workWords = workWords;
+      outputWords = outputWords;
+      numbers = record { status = 0; place = 0; nodes = nodes; heavy = heavy; room = room; width = 1; rows = length answer };
+      rows = answer;
+    }
+
+abbrev pub isRefused : (question : List ℕ) (workWords outputWords status place : ℕ) → Paper
+isRefused question workWords outputWords status place =
+    record { mode = 1; days = banDays; question = question; workWords = workWords; outputWords = outputWords; numbers = runRefusal status place; rows = [] }
+
+-- "P1 the bundle above. P2 mode=plain: nodes 12, heavy 4, room 353, same rows. P3 no ban days, short: room 47, rows 4 7 9 13."
+-- "P4 work of 32 words passes, P5 31 gives 10 at node 7. P6 output of 2 words passes, P7 1 gives 11 at node 7."
+-- "P8 relation 3 in node 1 gives 4 at 1. P9 attribute 3 of u gives 6 at 0. P10 variable 21 in node 0 gives 5 at 0."
+abbrev pub papers : List Paper
+papers =
+    passes 1 banDays wordLimit wordLimit 8 2 32 (4 ∷ 9 ∷ [])
+    ∷ passes 0 banDays wordLimit wordLimit 12 4 353 (4 ∷ 9 ∷ [])
+    ∷ passes 1 [] wordLimit wordLimit 8 2 47 (4 ∷ 7 ∷ 9 ∷ 13 ∷ [])
+    ∷ passes 1 banDays 32 wordLimit 8 2 32 (4 ∷ 9 ∷ [])
+    ∷ isRefused bundleQuestion 31 wordLimit 10 7
+    ∷ passes 1 banDays wordLimit 2 8 2 32 (4 ∷ 9 ∷ [])
+    ∷ isRefused bundleQuestion wordLimit 1 11 7
+    ∷ isRefused (paperQuestion 20 1 3) wordLimit wordLimit 4 1
+    ∷ isRefused (paperQuestion 20 3 2) wordLimit wordLimit 6 0
+    ∷ isRefused (paperQuestion 21 1 2) wordLimit wordLimit 5 0
+    ∷ []
+
+abbrev pub PapersHold : Type 0
+PapersHold = All Holds papers

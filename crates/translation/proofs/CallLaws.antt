@@ -1,0 +1,132 @@
+-- An accepted question: what translating it asks for, and that what it leaves is the outcome named. Assumes nothing.
+use Prim.Native.Nat.{ℕ, _+_, _*_, _/_, _≤_, _<_}
+use mathlib.Core.Path.{_≡_, refl, sym, ap, ap₂, _∙_}
+use mathlib.Core.Bool.{Bool, true, false, cond, not, So}
+use mathlib.Core.List.{List, []}
+use native.Mathlib.Omega.{arith}
+use lib.Dec.{ltb}
+use lib.ListN.{length}
+use lib.Seq.{sets, length-sets}
+use borrow.Author.Tests.{lt-ltb, le-ltb}
+use Rattle.relations.specs.Limits.{planNodeLimit, planNodeWords, questionNodeWords}
+use Rattle.relations.specs.Lists.{flat}
+use Rattle.relations.specs.Nodes.{Node}
+use Rattle.relations.specs.Plan.{heavy}
+use Rattle.relations.specs.Legality.{between, legalNodes}
+use Rattle.relations.specs.PlanWords.{nodeWords}
+use Rattle.relations.proofs.BoolLaws.{and-right}
+use Rattle.calculus.specs.Claims.{TranslationRight}
+use Rattle.calculus.specs.Question.{rangeNodes}
+use Rattle.calculus.proofs.Theorems.{translation-right}
+use Rattle.catalogue.specs.Judging.{catalogueWords, catalogueOk, judged as judgedCatalogue}
+use Rattle.catalogue.specs.declared.judging.Judged.the-variants.{Words, Wrong}
+use Rattle.catalogue.specs.Stored.{relationsOf, columnsOf}
+use Rattle.catalogue.proofs.TableLaws.{known-columns}
+use Rattle.question.specs.Accepted.{QuestionRight}
+use Rattle.question.specs.Nodes.{nodeCount}
+use Rattle.question.specs.Judgement.{countOk, judgeCount, judged}
+use Rattle.question.specs.Trees.{questionOf}
+use Rattle.question.specs.declared.judgement.Judgement.{Judgement}
+use Rattle.question.specs.declared.judgement.Judgement.the-variants.{Accepted, Refused}
+use Rattle.question.proofs.Accepted.{accepted-right, accepted-passed}
+use Rattle.question.proofs.Counts.{counted}
+use Rattle.translation.specs.TranslateCall.{TranslateOutcome, planOf, planBufferWords, unwritten, written, judgedOutcome, behindCatalogue, isShort, translateOutcome}
+use Rattle.translation.specs.HeavyCount.{heavyIn}
+use Rattle.translation.specs.Written.{Room, Written}
+use Rattle.translation.specs.Translating.{Names, RangeReady, RangeDone}
+use Rattle.translation.specs.declared.translate.Made.{Made}
+use Rattle.translation.proofs.HeavyLaws.{heavy-written}
+
+module _ (catalogue question : List ℕ) (ok : catalogueOk catalogue ≡ true) (accepted : judged catalogue question ≡ Accepted) where
+  right : QuestionRight catalogue question
+  right = accepted-right catalogue question (known-columns catalogue ok) accepted
+
+  translated : TranslationRight (columnsOf catalogue) (relationsOf catalogue) (questionOf question)
+  translated = translation-right (columnsOf catalogue) (relationsOf catalogue) (questionOf question) (right .good)
+
+  pub last-named : Names question (nodeCount question)
+  last-named =
+      let count = counted question (accepted-passed catalogue question accepted .count) in
+      (count .some, omega arith)
+
+  pub few-nodes : nodeCount question ≤ 64
+  few-nodes = omega (arith, right .whole, right .few)
+
+  module _ (plan : List ℕ) (long : planBufferWords ≤ length plan) where
+    pub question-ready : RangeReady catalogue plan (questionOf question) 0
+    question-ready =
+        record {
+          good = right .good;
+          stored = known-columns catalogue ok;
+          room = record { nodes = omega (arith, right .few); buffer = long };
+        }
+
+    module _ (mode : ℕ) (after : List ℕ) (made : Made) (done : RangeDone catalogue (isShort mode) plan (questionOf question) 0 after made) where
+      abbrev nodes : List Node
+      nodes = planOf catalogue question mode
+
+      counted-nodes : made .count ≡ length nodes
+      counted-nodes = omega (arith, done .written .counted)
+
+      pub plan-fits : (made .count ≤ planNodeLimit) × (made .count * planNodeWords ≤ length after)
+      plan-fits =
+          let few : made .count ≤ planNodeLimit = omega (arith, counted-nodes, translated .small (isShort mode), right .few) in
+          (few, omega (arith, few, long, ap length (done .written .words), length-sets plan 0 (flat nodeWords nodes)))
+
+      pub accepted-written : (heavies : ℕ) → heavies ≡ heavyIn (made .count) after
+          → record { numbers = record { status = 0; place = 0; nodes = made .count; heavy = heavies }; plan = after } ≡ written catalogue question mode plan
+      accepted-written heavies e =
+          let legal : So (legalNodes (columnsOf catalogue) (relationsOf catalogue) [] nodes) = and-right (between 1 planNodeLimit (length nodes)) (legalNodes (columnsOf catalogue) (relationsOf catalogue) [] nodes) (translated .legal (isShort mode) (right .few)) in
+          let room : length (flat nodeWords nodes) ≤ length plan = omega (arith, done .written .whole, counted-nodes, plan-fits .0, long) in
+          let heavy-is : heavies ≡ heavy nodes = e ∙ ap₂ heavyIn counted-nodes (done .written .words) ∙ heavy-written (columnsOf catalogue) (relationsOf catalogue) plan nodes room legal in
+          rw (counted-nodes, heavy-is, done .written .words)
+
+-- Each return is the case of the definition that the tests before it decide.
+
+module _ (catalogue question : List ℕ) (mode : ℕ) (plan : List ℕ) where
+  pub count-refused : {status place : ℕ} → Refused status place ≡ judgeCount question → unwritten catalogue question mode plan status place ≡ behindCatalogue catalogue question mode plan
+  count-refused {status} {place} e = go (countOk question) e
+    where
+      go : (good : Bool) → Refused status place ≡ cond good Accepted (Refused 1 0)
+          → unwritten catalogue question mode plan status place ≡ cond (not good) (unwritten catalogue question mode plan 1 0) (cond (ltb (length plan) planBufferWords) (unwritten catalogue question mode plan 8 0) (judgedOutcome catalogue question mode plan (judged catalogue question)))
+      go true h = let never : _≡_ {A = ℕ} 0 1 = cc in absurd (omega arith)
+      go false h = let one : status ≡ 1 = cc in let first : place ≡ 0 = cc in rw (one, first)
+
+  module _ (counted : Accepted ≡ judgeCount question) where
+    count-good : countOk question ≡ true
+    count-good = go (countOk question) counted
+      where
+        go : (good : Bool) → Accepted ≡ cond good Accepted (Refused 1 0) → good ≡ true
+        go true h = refl
+        go false h = let never : _≡_ {A = ℕ} 0 1 = cc in absurd (omega arith)
+
+    pub plan-short : length plan < planBufferWords → unwritten catalogue question mode plan 8 0 ≡ behindCatalogue catalogue question mode plan
+    plan-short h = rw (count-good, lt-ltb (length plan) planBufferWords h)
+
+    pub question-judged : planBufferWords ≤ length plan → (judgement : Judgement) → judgement ≡ judged catalogue question → judgedOutcome catalogue question mode plan judgement ≡ behindCatalogue catalogue question mode plan
+    question-judged h judgement e = rw (count-good, le-ltb (length plan) planBufferWords h) (ap (judgedOutcome catalogue question mode plan) e)
+
+-- Refusal 7.
+
+pub catalogue-good : (catalogue : List ℕ) {words : ℕ} → Words words ≡ judgedCatalogue catalogue → catalogueOk catalogue ≡ true
+catalogue-good catalogue {words} e = go (catalogueOk catalogue) e
+  where
+    go : (good : Bool) → Words words ≡ cond good (Words (catalogueWords catalogue)) Wrong → good ≡ true
+    go true h = refl
+    go false h = let never : _≡_ {A = ℕ} 0 1 = cc in absurd (omega arith)
+
+catalogue-wrong : (catalogue : List ℕ) → Wrong ≡ judgedCatalogue catalogue → catalogueOk catalogue ≡ false
+catalogue-wrong catalogue e = go (catalogueOk catalogue) e
+  where
+    go : (good : Bool) → Wrong ≡ cond good (Words (catalogueWords catalogue)) Wrong → good ≡ false
+    go true h = let never : _≡_ {A = ℕ} 0 1 = cc in absurd (omega arith)
+    go false h = refl
+
+module _ (catalogue question : List ℕ) (mode : ℕ) (plan : List ℕ) where
+  pub wrong-refused : Wrong ≡ judgedCatalogue catalogue → unwritten catalogue question mode plan 7 0 ≡ translateOutcome catalogue question mode plan
+  unfolding translateOutcome
+  wrong-refused e = rw (catalogue-wrong catalogue e)
+
+  pub good-translated : {words : ℕ} {outcome : TranslateOutcome} → Words words ≡ judgedCatalogue catalogue → outcome ≡ behindCatalogue catalogue question mode plan → outcome ≡ translateOutcome catalogue question mode plan
+  unfolding translateOutcome
+  good-translated e g = rw (catalogue-good catalogue e) g
