@@ -6,4 +6,3 @@ pub mod TestLaws
 pub mod CopyLaws
 pub mod MadeLaws
 pub mod JoinLaws
-pub mod DivisionLaws

@@ -2,4 +2,3 @@
 pub mod Lists
 pub mod Tests
 pub mod Joins
-pub mod Divisions

@@ -1,7 +1,6 @@
 // The table operations over values in the work area. Each offers its candidate rows to `values::placing::place_row`.
 pub mod columns;
 pub mod copy;
-pub mod divide;
 pub mod join;
 pub mod keep;
 pub mod made;

@@ -23,7 +23,7 @@ use Rattle.running.proofs.node.make_value.Tie as tie
 use Rattle.running.proofs.node.make_value.Reads as reads
 use Rattle.running.proofs.node.make_value.Lts as lts
 use Rattle.operations.proofs.copy.unite.Reads as unite-reads
-use Rattle.operations.proofs.divide.divide.Reads as divide-reads
+use Rattle.division.proofs.divide.divide.Reads as divide-reads
 use Rattle.operations.proofs.join.join.Reads as join-reads
 use Rattle.operations.proofs.keep.antijoin.Reads as antijoin-reads
 use Rattle.operations.proofs.keep.intersect.Reads as intersect-reads

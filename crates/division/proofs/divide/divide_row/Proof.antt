@@ -1,6 +1,6 @@
-use Rattle.operations.proofs.DivisionLaws.{quotient-same, quotient-yes, quotient-no}
+use Rattle.division.proofs.DivisionLaws.{quotient-same, quotient-yes, quotient-no}
 use Rattle.operations.proofs.FillSteps.{builds-by, builds-again}
-use Rattle.operations.specs.Divisions.{kept, divides, quotient}
+use Rattle.division.specs.Divisions.{kept, divides, quotient}
 use Rattle.values.proofs.FillLaws.{filled-still}
 use Rattle.values.specs.Words.{rowIn, rowsOf}
 use Rattle.relations.proofs.RowLaws.{sameRow-equal}
@@ -18,13 +18,13 @@ use mathlib.Core.Bool.{_&&_, So}
 use mathlib.Core.Path.{_≡_, sym, ap, _∙_}
 use borrow.Author.Needs.{needs}
 use native.Mathlib.Omega.{arith}
-use Rattle.operations.proofs.divide.divide_row.Statement.{statement}
-use Rattle.operations.proofs.divide.divide_row.Tie as tie
-use Rattle.operations.proofs.divide.divide_row.Reads as reads
-use Rattle.operations.proofs.divide.divide_row.Lts as lts
-use Rattle.operations.proofs.divide.divides.Reads as divides-reads
-use Rattle.operations.proofs.divide.repeats.Reads as repeats-reads
+use Rattle.division.proofs.divide.divide_row.Statement.{statement}
+use Rattle.division.proofs.divide.divide_row.Tie as tie
+use Rattle.division.proofs.divide.divide_row.Reads as reads
+use Rattle.division.proofs.divide.divide_row.Lts as lts
+use Rattle.division.proofs.divide.divides.Reads as divides-reads
+use Rattle.division.proofs.divide.repeats.Reads as repeats-reads
 use Rattle.operations.proofs.project.place_picked.Reads as place-picked-reads
 use Rattle.values.proofs.rows.row.Reads as row-reads
 
 -- src/divide.rt:154:8

@@ -1,5 +1,5 @@
-use Rattle.operations.proofs.DivisionLaws.{column-in, column-out, column-written}
-use Rattle.operations.specs.Divisions.{columnsLeft}
+use Rattle.division.proofs.DivisionLaws.{column-in, column-out, column-written}
+use Rattle.division.specs.Divisions.{columnsLeft}
 use Rattle.relations.specs.PlanWords.{readPairs}
 use Rattle.relations.specs.Columns.{leftNumbers}
 use lib.ListN.{length, take, length-set}
@@ -8,11 +8,11 @@ use mathlib.Core.List.{_++_, append-nil}
 use mathlib.Core.Path.{_≡_, refl, sym, ap, _∙_}
 use borrow.Author.Needs.{needs}
 use native.Mathlib.Omega.{arith}
-use Rattle.operations.proofs.divide.remaining_columns.Statement.{statement}
-use Rattle.operations.proofs.divide.remaining_columns.Tie as tie
-use Rattle.operations.proofs.divide.remaining_columns.Reads as reads
-use Rattle.operations.proofs.divide.remaining_columns.Lts as lts
-use Rattle.operations.proofs.divide.is_listed.Reads as is-listed-reads
+use Rattle.division.proofs.divide.remaining_columns.Statement.{statement}
+use Rattle.division.proofs.divide.remaining_columns.Tie as tie
+use Rattle.division.proofs.divide.remaining_columns.Reads as reads
+use Rattle.division.proofs.divide.remaining_columns.Lts as lts
+use Rattle.division.proofs.divide.is_listed.Reads as is-listed-reads
 
 abbrev Inv-loop : tie.InvT-loop
 Inv-loop list count width columns₀ number₀ left₀ kept₀ columns number left kept =

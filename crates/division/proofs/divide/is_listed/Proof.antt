@@ -1,4 +1,4 @@
-use Rattle.operations.proofs.DivisionLaws.{listed-step}
+use Rattle.division.proofs.DivisionLaws.{listed-step}
 use Rattle.relations.specs.PlanWords.{readPairs}
 use Rattle.relations.specs.Columns.{Pair, listed, leftNumbers}
 use borrow.Author.Tests.{eq-eqb, ne-eqb}
@@ -7,11 +7,11 @@ use Prim.Native.Nat.{_+_, _*_, _≤_, _-_}
 use mathlib.Core.Path.{_≡_, refl, sym, ap, _∙_}
 use borrow.Author.Needs.{needs}
 use native.Mathlib.Omega.{arith}
-use Rattle.operations.proofs.divide.is_listed.Statement.{statement}
-use Rattle.operations.proofs.divide.is_listed.Tie as tie
-use Rattle.operations.proofs.divide.is_listed.Reads as reads
-use Rattle.operations.proofs.divide.is_listed.Lts as lts
+use Rattle.division.proofs.divide.is_listed.Statement.{statement}
+use Rattle.division.proofs.divide.is_listed.Tie as tie
+use Rattle.division.proofs.divide.is_listed.Reads as reads
+use Rattle.division.proofs.divide.is_listed.Lts as lts
 use Rattle.operations.proofs.columns.pair_at.Reads as pair-at-reads
 
 abbrev Inv-loop : tie.InvT-loop
 Inv-loop list count number at₀ more₀ at more =

@@ -1,6 +1,6 @@
-use Rattle.operations.proofs.DivisionLaws.{divide-quotient, left-count, pairs-count}
+use Rattle.division.proofs.DivisionLaws.{divide-quotient, left-count, pairs-count}
 use Rattle.operations.proofs.FillSteps.{builds-by, builds-wide}
-use Rattle.operations.specs.Divisions.{quotient}
+use Rattle.division.specs.Divisions.{quotient}
 use Rattle.values.proofs.RowsLaws.{rowsAt-wide}
 use Rattle.values.specs.Words.{rowsOf}
 use Rattle.relations.specs.PlanWords.{readPairs}
@@ -12,12 +12,12 @@ use mathlib.Core.Path.{_≡_, sym, ap, _∙_}
 use native.Mathlib.Omega.{arith}
 use native.Mathlib.Omega.{arith}
 use borrow.Author.Needs.{needs}
-use Rattle.operations.proofs.divide.divide.Statement.{statement}
-use Rattle.operations.proofs.divide.divide.Tie as tie
-use Rattle.operations.proofs.divide.divide.Reads as reads
-use Rattle.operations.proofs.divide.divide.Lts as lts
-use Rattle.operations.proofs.divide.divide_by.Reads as divide-by-reads
-use Rattle.operations.proofs.divide.remaining_columns.Reads as remaining-columns-reads
+use Rattle.division.proofs.divide.divide.Statement.{statement}
+use Rattle.division.proofs.divide.divide.Tie as tie
+use Rattle.division.proofs.divide.divide.Reads as reads
+use Rattle.division.proofs.divide.divide.Lts as lts
+use Rattle.division.proofs.divide.divide_by.Reads as divide-by-reads
+use Rattle.division.proofs.divide.remaining_columns.Reads as remaining-columns-reads
 
 -- src/divide.rt:196:59
 slice-aggregate-remaining-columns : tie.Need-slice-aggregate-remaining-columns

@@ -1,5 +1,5 @@
 use Rattle.operations.proofs.RowSteps.{any-step, no-rows}
-use Rattle.operations.specs.Divisions.{partner}
+use Rattle.division.specs.Divisions.{partner}
 use Rattle.values.proofs.RowsLaws.{times-step}
 use Rattle.values.specs.Words.{rowIn, rowsAt}
 use Rattle.relations.specs.PlanWords.{readPairs}
@@ -10,11 +10,11 @@ use mathlib.Core.Bool.{true, false}
 use mathlib.Core.Path.{_≡_, refl, sym, ap, _∙_}
 use borrow.Author.Needs.{needs}
 use native.Mathlib.Omega.{arith}
-use Rattle.operations.proofs.divide.has_partner.Statement.{statement}
-use Rattle.operations.proofs.divide.has_partner.Tie as tie
-use Rattle.operations.proofs.divide.has_partner.Reads as reads
-use Rattle.operations.proofs.divide.has_partner.Lts as lts
-use Rattle.operations.proofs.divide.is_partner.Reads as is-partner-reads
+use Rattle.division.proofs.divide.has_partner.Statement.{statement}
+use Rattle.division.proofs.divide.has_partner.Tie as tie
+use Rattle.division.proofs.divide.has_partner.Reads as reads
+use Rattle.division.proofs.divide.has_partner.Lts as lts
+use Rattle.division.proofs.divide.is_partner.Reads as is-partner-reads
 use Rattle.values.proofs.rows.row.Reads as row-reads
 
 abbrev Inv-loop : tie.InvT-loop

@@ -1,7 +1,7 @@
-use Rattle.operations.proofs.DivisionLaws.{quotient-step, quotient-now}
+use Rattle.division.proofs.DivisionLaws.{quotient-step, quotient-now}
 use Rattle.operations.proofs.FillSteps.{builds-by, builds-there, builds-made, there-by}
 use Rattle.operations.proofs.RowSteps.{no-rows}
-use Rattle.operations.specs.Divisions.{quotient}
+use Rattle.division.specs.Divisions.{quotient}
 use Rattle.values.proofs.FillLaws.{Filled, filled-none, filled-on, filled-off, filled-end}
 use Rattle.values.proofs.RowsLaws.{times-step}
 use Rattle.values.specs.Words.{rowIn, rowsAt, rowsOf}
@@ -15,11 +15,11 @@ use mathlib.Core.Bool.{So}
 use mathlib.Core.Path.{_≡_, sym, ap, _∙_}
 use borrow.Author.Needs.{needs}
 use native.Mathlib.Omega.{arith}
-use Rattle.operations.proofs.divide.divide_by.Statement.{statement}
-use Rattle.operations.proofs.divide.divide_by.Tie as tie
-use Rattle.operations.proofs.divide.divide_by.Reads as reads
-use Rattle.operations.proofs.divide.divide_by.Lts as lts
-use Rattle.operations.proofs.divide.divide_row.Reads as divide-row-reads
+use Rattle.division.proofs.divide.divide_by.Statement.{statement}
+use Rattle.division.proofs.divide.divide_by.Tie as tie
+use Rattle.division.proofs.divide.divide_by.Reads as reads
+use Rattle.division.proofs.divide.divide_by.Lts as lts
+use Rattle.division.proofs.divide.divide_row.Reads as divide-row-reads
 
 abbrev Inv-loop : tie.InvT-loop
 Inv-loop columns list count work₀ left right out width last₀ at₀ more₀ made₀ work last at more made =

@@ -1,12 +1,12 @@
 use mathlib.Core.Path.{sym, _∙_}
 use native.Mathlib.Omega.{arith}
 use borrow.Author.Needs.{needs}
-use Rattle.operations.proofs.divide.is_partner.Statement.{statement}
-use Rattle.operations.proofs.divide.is_partner.Tie as tie
-use Rattle.operations.proofs.divide.is_partner.Reads as reads
-use Rattle.operations.proofs.divide.is_partner.Lts as lts
+use Rattle.division.proofs.divide.is_partner.Statement.{statement}
+use Rattle.division.proofs.divide.is_partner.Tie as tie
+use Rattle.division.proofs.divide.is_partner.Reads as reads
+use Rattle.division.proofs.divide.is_partner.Lts as lts
 use Rattle.operations.proofs.columns.equal_on.Reads as equal-on-reads
-use Rattle.operations.proofs.divide.same_columns.Reads as same-columns-reads
+use Rattle.division.proofs.divide.same_columns.Reads as same-columns-reads
 
 -- src/divide.rt:82:8
 same-columns-requires : tie.Need-same-columns-requires

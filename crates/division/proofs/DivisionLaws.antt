@@ -22,11 +22,11 @@ use Rattle.relations.proofs.WidthLaws.{columns-left}
 use Rattle.values.specs.Words.{rowIn, rowsAt, rowsOf, end}
 use Rattle.values.specs.declared.rows.Value.{Value}
 use Rattle.values.proofs.FillLaws.{Filled, filled-rows}
 use Rattle.operations.proofs.RowSteps.{filter-step}
 use Rattle.operations.proofs.FillSteps.{filled-row}
 use Rattle.operations.proofs.MadeLaws.{map-append}
 use Rattle.operations.specs.Lists.{firstPair}
-use Rattle.operations.specs.Divisions.{columnsLeft, kept, partner, divides, quotient}
+use Rattle.division.specs.Divisions.{columnsLeft, kept, partner, divides, quotient}
 
 -- a turn of the loop over the pairs
 pub listed-step : (list : List ℕ) (at more number : ℕ) → 0 < more

@@ -1,5 +1,5 @@
-use Rattle.operations.proofs.DivisionLaws.{same-step}
-use Rattle.operations.specs.Divisions.{kept}
+use Rattle.division.proofs.DivisionLaws.{same-step}
+use Rattle.division.specs.Divisions.{kept}
 use Rattle.relations.specs.Rows.{sameRow}
 use borrow.Author.Tests.{eq-eqb, ne-eqb}
 use lib.Dec.{eqb}
@@ -8,11 +8,11 @@ use Prim.Native.Nat.{_+_, _≤_, _-_}
 use mathlib.Core.Path.{_≡_, refl, sym, ap, ap₂, _∙_}
 use borrow.Author.Needs.{needs}
 use native.Mathlib.Omega.{arith}
-use Rattle.operations.proofs.divide.same_columns.Statement.{statement}
-use Rattle.operations.proofs.divide.same_columns.Tie as tie
-use Rattle.operations.proofs.divide.same_columns.Reads as reads
-use Rattle.operations.proofs.divide.same_columns.Lts as lts
+use Rattle.division.proofs.divide.same_columns.Statement.{statement}
+use Rattle.division.proofs.divide.same_columns.Tie as tie
+use Rattle.division.proofs.divide.same_columns.Reads as reads
+use Rattle.division.proofs.divide.same_columns.Lts as lts
 use Rattle.operations.proofs.columns.column_of.Reads as column-of-reads
 
 abbrev Inv-loop : tie.InvT-loop
 Inv-loop columns a b i₀ i = (i ≤ length columns) × (sameRow (kept columns a) (kept columns b) ≡ sameRow (kept (drop i columns) a) (kept (drop i columns) b))
