@@ -11,7 +11,7 @@ use Rattle.relations.specs.Lists.{flat}
 use Rattle.relations.specs.PlanWords.{nodeWords}
 use Rattle.catalogue.specs.Judging.{catalogueOk, tablesOk}
 use Rattle.question.specs.Judgement.{judged}
-use Rattle.question.specs.declared.judgement.Judgement.the-variants.{Accepted, Refused}
+use Rattle.question.specs.declared.judgement.Judgement.the-variants.{Accepted}
 use Rattle.translation.specs.TranslateCall.{planBufferWords, isShort, planOf, unwritten, written, translateOutcome}
 use Rattle.running.specs.RunCall.{cleared, answered}
 use Rattle.desk.specs.AnswerCall.{AnswerOutcome, planRan, translatedOutcome, answerOutcome}
@@ -20,8 +20,8 @@ use Rattle.desk.specs.Demands.{refusedRun, refusedAnswer, NoneGiven, Ans
 use Rattle.desk.proofs.PlansRight.{catalogue-ok, plans-right}
 use Rattle.desk.proofs.PlanWritten.{words-judged}
 use Rattle.desk.proofs.AnswerLaws.{written-ran}
-use Rattle.desk.proofs.LineLaws.{none-answered, outcome-of, outcome-behind, not-refused, answered-exactly}
-use Rattle.desk.proofs.TranslateTable.{judged-lines, translate-table, translate-demand}
+use Rattle.desk.proofs.LineLaws.{outcome-of, outcome-behind, not-refused, answered-exactly}
+use Rattle.desk.proofs.TranslateTable.{accepted-by-lines, translate-table, translate-demand}
 use Rattle.desk.proofs.RunTable.{ran-lines, run-demand}
 
 module _ (catalogue tables question : List ℕ) (mode : ℕ) (plan work output : List ℕ) where
@@ -41,7 +41,7 @@ module _ (catalogue tables question : List ℕ) (mode : ℕ) (plan work output :
     tables-good = not-false (tablesOk catalogue tables) (none .0)
 
     accepted : judged catalogue question ≡ Accepted
-    accepted = judged-lines catalogue question ∙ none-answered (wrongCount question ∷ questionLines question catalogue) Refused Accepted (none .1 .0, none .1 .1 .1)
+    accepted = accepted-by-lines catalogue question (none .1 .0, none .1 .1 .1)
 
     long : planBufferWords ≤ length plan
     long = ltb-false (length plan) planBufferWords (none .1 .1 .0)

@@ -8,4 +8,5 @@ pub mod RoomLaws
 pub mod TranslateTable
 pub mod RunTable
 pub mod Demand1
+pub mod CallLaws
 pub mod Papers

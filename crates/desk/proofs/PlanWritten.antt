@@ -5,16 +5,17 @@ use mathlib.Core.Bool.{Bool, true, false, cond, So, _&&_}
 use mathlib.Core.List.{List, []}
 use native.Mathlib.Omega.{arith}
 use native.Mathlib.Nat.{div-add-mod'}
-use lib.Dec.{eqb, leb}
+use lib.Dec.{eqb}
 use lib.ListN.{length, take}
 use lib.Seq.{sets}
-use borrow.Author.Tests.{eqb-true, leb-true}
+use borrow.Author.Tests.{eqb-true}
 use Rattle.relations.specs.Limits.{planNodeLimit, planNodeWords}
 use Rattle.relations.specs.Lists.{flat}
 use Rattle.relations.specs.Nodes.{Node}
 use Rattle.relations.specs.Legality.{between, legalNodes, legalPlan}
 use Rattle.relations.specs.PlanWords.{nodeWords}
-use Rattle.relations.proofs.BoolLaws.{and-left, and-right}
+use Rattle.relations.proofs.BoolLaws.{and-left}
+use Rattle.relations.proofs.LegalityLaws.{so-between}
 use Rattle.values.proofs.WordLaws.{part-sets}
 use Rattle.catalogue.specs.Stored.{relationsOf, columnsOf}
 use Rattle.plans.specs.Judging.{judgeNodes, judgement, nodesOf}
@@ -44,12 +45,10 @@ module _ (catalogue : List ℕ) (nodes : List Node) (legal : So (legalPlan (colu
   words-many : length (flat nodeWords nodes) ≡ length nodes * planNodeWords
   words-many = legal-size catalogue (flat nodeWords nodes) (length nodes) words-judged
 
-  nodes-few : length nodes ≤ planNodeLimit
-  nodes-few =
-      leb-true (length nodes) planNodeLimit
-      (and-right (leb 1 (length nodes)) (leb (length nodes) planNodeLimit) (and-left (between 1 planNodeLimit (length nodes)) (legalNodes (columnsOf catalogue) (relationsOf catalogue) [] nodes) legal))
+  pub nodes-between : (1 ≤ length nodes) × (length nodes ≤ planNodeLimit)
+  nodes-between = so-between 1 planNodeLimit (length nodes) (and-left (between 1 planNodeLimit (length nodes)) (legalNodes (columnsOf catalogue) (relationsOf catalogue) [] nodes) legal)
 
   pub words-front : (plan : List ℕ) → planBufferWords ≤ length plan → take (length nodes * planNodeWords) (sets plan 0 (flat nodeWords nodes)) ≡ flat nodeWords nodes
   words-front plan long =
       ap (λ (n : ℕ). take n (sets plan 0 (flat nodeWords nodes))) (sym words-many)
-      ∙ part-sets plan 0 (flat nodeWords nodes) (omega (arith, words-many, nodes-few))
+      ∙ part-sets plan 0 (flat nodeWords nodes) (omega (arith, words-many, nodes-between .1))

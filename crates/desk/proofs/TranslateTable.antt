@@ -8,8 +8,8 @@ use Rattle.question.specs.Judgement.{countOk, isAlpha, lastNode, judgeTree, jud
 use Rattle.question.specs.declared.judgement.Judgement.the-variants.{Accepted, Refused}
 use Rattle.translation.specs.TranslateCall.{TranslateOutcome, unwritten, written, judgedOutcome as judgedTranslation, translateOutcome}
 use Rattle.desk.specs.Refusals.{outcomeBy, wrongCount, wrongCatalogue, shortPlan, questionLines, translateLines}
-use Rattle.desk.specs.Demands.{TranslateDemand}
-use Rattle.desk.proofs.LineLaws.{turned, outcome-of, outcome-behind, answered-exactly}
+use Rattle.desk.specs.Demands.{NoneGiven, TranslateDemand}
+use Rattle.desk.proofs.LineLaws.{turned, none-answered, outcome-of, outcome-behind, answered-exactly}
 
 -- A question's judgement is its lines'.
 module _ (catalogue question : List ℕ) where
@@ -20,6 +20,9 @@ module _ (catalogue question : List ℕ) where
   pub judged-lines : judged catalogue question ≡ outcomeBy (wrongCount question ∷ questionLines question catalogue) Refused Accepted
   unfolding judged
   judged-lines = turned (countOk question) (judgeNodes catalogue question) (Refused 1 0) ∙ ap (cond (not (countOk question)) (Refused 1 0)) nodes-lines
+
+  pub accepted-by-lines : NoneGiven (wrongCount question ∷ questionLines question catalogue) → judged catalogue question ≡ Accepted
+  accepted-by-lines none = judged-lines ∙ none-answered (wrongCount question ∷ questionLines question catalogue) Refused Accepted none
 
 module _ (catalogue question : List ℕ) (mode : ℕ) (plan : List ℕ) where
   pub translate-table : translateOutcome catalogue question mode plan ≡ outcomeBy (translateLines catalogue question plan) (unwritten catalogue question mode plan) (written catalogue question mode plan)

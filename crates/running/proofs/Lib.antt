@@ -6,3 +6,4 @@ pub mod SizeLaws
 pub mod NextLaws
 pub mod RunLaws
 pub mod OutcomeLaws
+pub mod RunBounds

@@ -81,7 +81,7 @@ heavy-next node nodes = go (heavyNode node)
     go true = omega arith
     go false = omega arith
 
-heavy-few : (nodes : List Node) → heavyOf nodes ≤ length nodes
+pub heavy-few : (nodes : List Node) → heavyOf nodes ≤ length nodes
 heavy-few [] = omega arith
 heavy-few (node ∷ nodes) = let rest : heavyOf nodes ≤ length nodes = heavy-few nodes in rw (heavy-next node nodes) (go (heavyNode node) rest)
   where
@@ -105,7 +105,7 @@ module _ (catalogue tables plan : List ℕ) (nodes : ℕ) (ok : tablesOk catalog
   pub nodes-many : length whole ≡ nodes
   nodes-many = judged-exactly catalogue .sound plan nodes judged .2
 
-  narrow-at : (place : ℕ) → place < nodes → (1 ≤ widthAt (widths columns whole) place) × (widthAt (widths columns whole) place ≤ columnLimit)
+  pub narrow-at : (place : ℕ) → place < nodes → (1 ≤ widthAt (widths columns whole) place) × (widthAt (widths columns whole) place ≤ columnLimit)
   narrow-at place h = widths-narrow columns (relationsOf catalogue) (λ relation k. let c = has-column catalogue tables ok relation k in (c .0, omega (arith, c .1))) whole legal-plan .narrow place (omega (arith, nodes-many))
 
   wide-at : (place : ℕ) → Wide (widthAt (widths columns whole) place) (valueAt (values stored whole) place)

@@ -1,5 +1,6 @@
 -- In reading order.
 pub mod RunCall
+pub mod RunBounds
 pub mod PlanRun
 pub mod Standing
 pub mod NodeRun
