@@ -1,35 +1,32 @@
+-- `listing::put_line` meets its contract: the key, the digits and the line feed are put one behind another, and they are the line.
+-- Assumes nothing.
 use native.Mathlib.Omega.{arith}
 use borrow.Author.Needs.{needs}
+use Rattle.text.specs.Writing.{numbersText}
+use Rattle.listing.proofs.Joins.{put-then}
+use Rattle.listing.proofs.Lengths.{line-parts}
 use Rattle.listing.proofs.put_line.Statement.{statement}
 use Rattle.listing.proofs.put_line.Tie as tie
-use Rattle.listing.proofs.put_line.Reads as reads
-use Rattle.listing.proofs.put_line.Lts as lts
-use Rattle.text.proofs.writing.put_bytes.Reads as put-bytes-reads
-use Rattle.text.proofs.writing.put_number.Reads as put-number-reads
 
--- src/lib.rt:18:9
 put-bytes-requires : tie.Need-put-bytes-requires
-put-bytes-requires c κs = ?
+put-bytes-requires c κs = omega (arith, line-parts (c .before .before .before .args .key .now) (c .before .before .before .args .number), c .before .before .before .pre)
 
--- src/lib.rt:19:9
 put-number-requires : tie.Need-put-number-requires
-put-number-requires c κs = ?
+put-number-requires c κs = omega (arith, line-parts (c .before .before .before .before .before .before .before .args .key .now) (c .before .before .before .before .before .before .before .args .number), c .before .before .before .before .before .before .before .pre, c .before .before .before .put-bytes .ensures .end-at)
 
--- src/lib.rt:20:26
 slice-aggregate-put-bytes : tie.Need-slice-aggregate-put-bytes
 slice-aggregate-put-bytes c = search needs
 
--- src/lib.rt:20:5
 put-bytes-requires-2 : tie.Need-put-bytes-requires-2
-put-bytes-requires-2 c κs = ?
+put-bytes-requires-2 c κs =
+    omega (arith, line-parts (c .before .before .before .before .before .before .before .before .before .before .before .before .args .key .now) (c .before .before .before .before .before .before .before .before .before .before .before .before .args .number), c .before .before .before .before .before .before .before .before .before .before .before .before .pre, c .before .before .before .before .before .before .before .before .put-bytes .ensures .end-at, c .before .before .before .before .put-number .ensures .end-at)
 
--- src/lib.rt:14:1
 same-length : tie.Need-same-length
 same-length c = search needs
 
--- src/lib.rt:14:1
 returns : tie.Need-returns
-returns c = ?
+unfolding numbersText
+returns c = put-then (c .before .before .before .before .before .before .before .before .before .before .before .put-bytes .ensures) (put-then (c .before .before .before .before .before .before .before .put-number .ensures) (c .before .before .put-bytes2 .ensures))
 
 pub put-line-spec : {M : Type 1} → statement M
 put-line-spec =

@@ -1,40 +1,41 @@
+-- `listing::put_listing` meets its contract: the head and the rows' lines are put one behind another, and they are the listing. Its rows are within the
+-- limit of words, so every position is within reach (`rows-reach`). Assumes nothing.
+use Prim.Native.Nat.{_*_, _≤_}
+use mathlib.Core.Path.{sym}
 use native.Mathlib.Omega.{arith}
 use borrow.Author.Needs.{needs}
+use Rattle.relations.specs.Limits.{wordLimit}
+use Rattle.listing.specs.Listing.{listingText}
+use Rattle.listing.proofs.Joins.{put-then}
+use Rattle.listing.proofs.Lengths.{rows-reach}
 use Rattle.listing.proofs.put_listing.Statement.{statement}
 use Rattle.listing.proofs.put_listing.Tie as tie
-use Rattle.listing.proofs.put_listing.Reads as reads
-use Rattle.listing.proofs.put_listing.Lts as lts
-use Rattle.catalogue.proofs.judging.wide.Reads as wide-reads
-use Rattle.listing.proofs.put_head.Reads as put-head-reads
-use Rattle.text.proofs.writing.put_lines.Reads as put-lines-reads
 
--- src/lib.rt:48:9
 put-head-requires : tie.Need-put-head-requires
 put-head-requires c κs = search needs
 
--- src/lib.rt:49:31
 slice-aggregate-put-lines : tie.Need-slice-aggregate-put-lines
 slice-aggregate-put-lines c = search needs
 
--- src/lib.rt:49:40
 wide-requires : tie.Need-wide-requires
 wide-requires c κs = search needs
 
--- src/lib.rt:49:53
 wide-requires-2 : tie.Need-wide-requires-2
 wide-requires-2 c κs = search needs
 
--- src/lib.rt:49:5
 put-lines-requires : tie.Need-put-lines-requires
-put-lines-requires c κs = ?
+put-lines-requires c κs =
+    let start = c .before .before .before .before .before .before .before .before .before .before in
+    let few : start .args .width * start .args .rows ≤ wordLimit = omega (arith, start .pre .1, start .pre .2) in
+    rw (c .before .wide .ensures, c .wide2 .ensures)
+    (start .pre .1, rows-reach (start .args .nodes) (start .args .heavy) (start .args .room) (start .args .width) (start .args .rows) (start .args .words .now) (start .pre .0) few (c .before .before .before .before .before .before .put-head .ensures))
 
--- src/lib.rt:36:1
 same-length : tie.Need-same-length
 same-length c = search needs
 
--- src/lib.rt:36:1
 returns : tie.Need-returns
-returns c = ?
+unfolding listingText
+returns c = put-then (c .before .before .before .before .before .before .before .before .before .put-head .ensures) (rw (c .before .before .before .before .wide .ensures, c .before .before .before .wide2 .ensures) at (c .before .before .put-lines .ensures))
 
 pub put-listing-spec : {M : Type 1} → statement M
 put-listing-spec =

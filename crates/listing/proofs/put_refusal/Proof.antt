@@ -1,34 +1,30 @@
+-- `listing::put_refusal` meets its contract: the two lines are put one behind another, and they are the refusal's text. Assumes nothing.
 use native.Mathlib.Omega.{arith}
 use borrow.Author.Needs.{needs}
+use Rattle.listing.specs.Listing.{statusKey, placeKey, refusalText}
+use Rattle.listing.proofs.Joins.{put-then}
+use Rattle.listing.proofs.Lengths.{line-length, line-ends}
 use Rattle.listing.proofs.put_refusal.Statement.{statement}
 use Rattle.listing.proofs.put_refusal.Tie as tie
-use Rattle.listing.proofs.put_refusal.Reads as reads
-use Rattle.listing.proofs.put_refusal.Lts as lts
-use Rattle.listing.proofs.put_line.Reads as put-line-reads
 
--- src/lib.rt:56:38
 slice-aggregate-put-line : tie.Need-slice-aggregate-put-line
 slice-aggregate-put-line c = search needs
 
--- src/lib.rt:56:9
 put-line-requires : tie.Need-put-line-requires
-put-line-requires c κs = ?
+put-line-requires c κs = omega (arith, line-length statusKey (c .before .before .before .args .status))
 
--- src/lib.rt:57:30
 slice-aggregate-put-line-2 : tie.Need-slice-aggregate-put-line-2
 slice-aggregate-put-line-2 c = search needs
 
--- src/lib.rt:57:5
 put-line-requires-2 : tie.Need-put-line-requires-2
-put-line-requires-2 c κs = ?
+put-line-requires-2 c κs = omega (arith, line-length placeKey (c .before .before .before .before .before .before .before .before .args .place), line-ends statusKey (c .before .before .before .before .before .before .before .before .args .status) (c .before .before .before .before .put-line .ensures))
 
--- src/lib.rt:53:1
 same-length : tie.Need-same-length
 same-length c = search needs
 
--- src/lib.rt:53:1
 returns : tie.Need-returns
-returns c = ?
+unfolding refusalText
+returns c = put-then (c .before .before .before .before .before .before .before .put-line .ensures) (c .before .before .put-line2 .ensures)
 
 pub put-refusal-spec : {M : Type 1} → statement M
 put-refusal-spec =
