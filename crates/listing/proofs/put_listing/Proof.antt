@@ -1,7 +1,6 @@
 -- `listing::put_listing` meets its contract: the head and the rows' lines are put one behind another, and they are the listing. Its rows are within the
 -- limit of words, so every position is within reach (`rows-reach`). Assumes nothing.
 use Prim.Native.Nat.{_*_, _≤_}
-use mathlib.Core.Path.{sym}
 use native.Mathlib.Omega.{arith}
 use borrow.Author.Needs.{needs}
 use Rattle.relations.specs.Limits.{wordLimit}
@@ -28,7 +27,7 @@ put-lines-requires c κs =
     let start = c .before .before .before .before .before .before .before .before .before .before in
     let few : start .args .width * start .args .rows ≤ wordLimit = omega (arith, start .pre .1, start .pre .2) in
     rw (c .before .wide .ensures, c .wide2 .ensures)
-    (start .pre .1, rows-reach (start .args .nodes) (start .args .heavy) (start .args .room) (start .args .width) (start .args .rows) (start .args .words .now) (start .pre .0) few (c .before .before .before .before .before .before .put-head .ensures))
+    (omega (arith, start .pre .1), rows-reach (start .args .nodes) (start .args .heavy) (start .args .room) (start .args .width) (start .args .rows) (start .args .words .now) (start .pre .0) few (c .before .before .before .before .before .before .put-head .ensures))
 
 same-length : tie.Need-same-length
 same-length c = search needs
