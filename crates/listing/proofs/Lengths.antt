@@ -9,7 +9,7 @@ use Rattle.text.specs.Marks.{rowKey}
 use Rattle.text.specs.Writing.{decimal, numbersText, linesText}
 use Rattle.text.specs.Put.{Put, furthest}
 use Rattle.text.proofs.WritingSteps.{length-numbers, length-lines, rows-words}
-use Rattle.listing.specs.Listing.{statusKey, placeKey, nodesKey, heavyKey, roomKey, widthKey, rowsKey, numberLine, headText, listingText, refusalText, listingBytes}
+use Rattle.listing.specs.Listing.{statusKey, placeKey, nodesKey, heavyKey, roomKey, widthKey, rowsKey, numberLine, headText, listingText, refusalText, listingBytes, refusalBytes}
 
 -- a line of one number is its key, the digits and a line feed
 pub line-parts : (key : List ℕ) (number : ℕ) → length (numberLine key number) ≡ length key + (length (decimal number) + 1)
@@ -36,7 +36,7 @@ head-length nodes heavy room width rows =
       length-numbers (rows ∷ []),
     ))
 
-pub refusal-length : (status place : ℕ) → length (refusalText status place) ≤ listingBytes
+pub refusal-length : (status place : ℕ) → length (refusalText status place) ≤ refusalBytes
 unfolding refusalText
 refusal-length status place = simp length-append (omega (arith, length-numbers (status ∷ []), length-numbers (place ∷ [])))
 
@@ -58,10 +58,10 @@ pub rows-reach : (nodes heavy room width rows : ℕ) (words : List ℕ) {before 
 rows-reach nodes heavy room width rows words some few p =
     omega (arith, p .end-at, head-length nodes heavy room width rows, length-lines rowKey width rows words, rows-words width rows some)
 
--- For a program that prints what was put into a buffer of `listingBytes` bytes: it ends within them.
+-- For a program that prints what was put into a buffer of that many bytes: it ends within them.
 pub listing-ends : (nodes heavy room width rows : ℕ) (words : List ℕ) {before after : List ℕ} {end : ℕ} → 1 ≤ width → width * rows ≤ wordLimit
     → Put 0 (listingText nodes heavy room width rows words) before after end → end ≤ listingBytes
 listing-ends nodes heavy room width rows words some few p = omega (arith, p .end-at, listing-length nodes heavy room width rows words some few)
 
-pub refusal-ends : (status place : ℕ) {before after : List ℕ} {end : ℕ} → Put 0 (refusalText status place) before after end → end ≤ listingBytes
+pub refusal-ends : (status place : ℕ) {before after : List ℕ} {end : ℕ} → Put 0 (refusalText status place) before after end → end ≤ refusalBytes
 refusal-ends status place p = omega (arith, p .end-at, refusal-length status place)

@@ -49,6 +49,9 @@ unfoldable pub refusalText : (status place : ℕ) → List ℕ
 refusalText status place = numberLine statusKey status ++ numberLine placeKey place
 
 -- The bytes of a buffer that holds every listing: 16,384 words make at most as many rows, each word of at most ten digits and the byte behind
--- them, each row with `row=` before it.
+-- them, each row with `row=` before it. And of one that holds every refusal.
 abbrev pub listingBytes : ℕ
 listingBytes = 262144
+
+abbrev pub refusalBytes : ℕ
+refusalBytes = 35
