@@ -93,18 +93,18 @@ length-digits (suc more) n = go (ltb n 10) (length-digits more (n / 10)) where
   go true h = omega arith
   go false h = simp length-append (omega arith)
 
-length-numbers : (ns : List ℕ) → length (numbersText ns) ≤ 11 * length ns
+pub length-numbers : (ns : List ℕ) → length (numbersText ns) ≤ 11 * length ns
 unfolding numbersText
 length-numbers [] = omega arith
 length-numbers (n ∷ ns) = simp length-append (omega (arith, length-digits 9 n, length-numbers ns))
 
-length-lines : (key : List ℕ) (width count : ℕ) (words : List ℕ) → length (linesText key width count words) ≤ length key * count + 11 * (width * count)
+pub length-lines : (key : List ℕ) (width count : ℕ) (words : List ℕ) → length (linesText key width count words) ≤ length key * count + 11 * (width * count)
 unfolding linesText
 length-lines key width zero words = omega arith
 length-lines key width (suc count) words =
     simp length-append (omega (arith, length-numbers (take width words), length-take width words, length-lines key width count (drop width words), mul-suc (length key) count, mul-suc width count))
 
-rows-words : (columns rows : ℕ) → 1 ≤ columns → rows ≤ columns * rows
+pub rows-words : (columns rows : ℕ) → 1 ≤ columns → rows ≤ columns * rows
 rows-words columns zero h = omega arith
 rows-words columns (suc rows) h = omega (arith, mul-suc columns rows, rows-words columns rows h)
 

@@ -1,0 +1,57 @@
+-- Document 01, "Bundle text and the program": the listing that `desk` prints. Assumes nothing.
+use Prim.Native.Nat.{ℕ}
+use mathlib.Core.List.{List, [], _∷_, _++_}
+use Rattle.text.specs.Marks.{rowKey}
+use Rattle.text.specs.Writing.{lineText, linesText}
+
+-- status=, place=, nodes=, heavy=, room=, width= and rows=
+abbrev pub statusKey : List ℕ
+statusKey = 115 ∷ 116 ∷ 97 ∷ 116 ∷ 117 ∷ 115 ∷ 61 ∷ []
+
+abbrev pub placeKey : List ℕ
+placeKey = 112 ∷ 108 ∷ 97 ∷ 99 ∷ 101 ∷ 61 ∷ []
+
+abbrev pub nodesKey : List ℕ
+nodesKey = 110 ∷ 111 ∷ 100 ∷ 101 ∷ 115 ∷ 61 ∷ []
+
+abbrev pub heavyKey : List ℕ
+heavyKey = 104 ∷ 101 ∷ 97 ∷ 118 ∷ 121 ∷ 61 ∷ []
+
+abbrev pub roomKey : List ℕ
+roomKey = 114 ∷ 111 ∷ 111 ∷ 109 ∷ 61 ∷ []
+
+abbrev pub widthKey : List ℕ
+widthKey = 119 ∷ 105 ∷ 100 ∷ 116 ∷ 104 ∷ 61 ∷ []
+
+abbrev pub rowsKey : List ℕ
+rowsKey = 114 ∷ 111 ∷ 119 ∷ 115 ∷ 61 ∷ []
+
+-- a line of one number
+abbrev pub numberLine : (key : List ℕ) (number : ℕ) → List ℕ
+numberLine key number = lineText key (number ∷ [])
+
+-- "status, plan nodes, heavy operations, room, answer columns, answer rows"
+unfoldable pub headText : (nodes heavy room width rows : ℕ) → List ℕ
+headText nodes heavy room width rows =
+    numberLine statusKey 0
+    ++ numberLine nodesKey nodes
+    ++ numberLine heavyKey heavy
+    ++ numberLine roomKey room
+    ++ numberLine widthKey width
+    ++ numberLine rowsKey rows
+
+-- and then the rows, whose words stand one row after another
+unfoldable pub listingText : (nodes heavy room width rows : ℕ) (words : List ℕ) → List ℕ
+listingText nodes heavy room width rows words = headText nodes heavy room width rows ++ linesText rowKey width rows words
+
+-- "A refusal prints status= and place= only."
+unfoldable pub refusalText : (status place : ℕ) → List ℕ
+refusalText status place = numberLine statusKey status ++ numberLine placeKey place
+
+-- The bytes of a buffer that holds every listing: 16,384 words make at most as many rows, each word of at most ten digits and the byte behind
+-- them, each row with `row=` before it. And of one that holds every refusal.
+abbrev pub listingBytes : ℕ
+listingBytes = 262144
+
+abbrev pub refusalBytes : ℕ
+refusalBytes = 35
