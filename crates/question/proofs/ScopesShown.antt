@@ -18,7 +18,7 @@ use Rattle.calculus.specs.Scope.{ScopeEntry, entry, extend, columnsIn}
 use Rattle.calculus.specs.Form.{NotInScope}
 use Rattle.calculus.proofs.ScopeLaws.{columns-extend}
 use Rattle.question.specs.Limits.{variableCount}
-use Rattle.question.specs.Scopes.{widthIn, emptyScope, addWidths, bind}
+use Rattle.question.specs.Scopes.{widthIn, emptyScope, addWidths, boundWidth, bind}
 use Rattle.question.specs.declared.scope.Scope.{Scope}
 
 abbrev HasWidth : ScopeEntry → Type 0
@@ -57,11 +57,11 @@ unfolding addWidths
 shows-bind {scope} {s} v w shows small new some fit =
     record {
       shown = λ u h. go u h (true-or-false (eqb u v));
-      room = length-set (scope .widths) v w ∙ shows .room;
+      room = length-set (scope .widths) v (boundWidth w) ∙ shows .room;
       all-columns = omega (arith, columns-extend s v w, shows .all-columns);
       have-widths = all-append HasWidth s (entry v w ∷ []) (shows .have-widths) (some, tt);
     }
   where
-    go : (u : ℕ) → u < variableCount → (eqb u v ≡ true) ⊎ (eqb u v ≡ false) → getD (set (scope .widths) v w) u 0 ≡ calculus.widthIn (extend s v w) u
-    go u h (inl e) = rw (width-extend s v w u new, e, eqb-true u v e) (getD-set-same (scope .widths) v w 0 (omega (arith, shows .room)))
-    go u h (inr e) = rw (width-extend s v w u new, e) (getD-set-other (scope .widths) v u w 0 (eqb-false u v e) ∙ shows .shown u h)
+    go : (u : ℕ) → u < variableCount → (eqb u v ≡ true) ⊎ (eqb u v ≡ false) → getD (set (scope .widths) v (boundWidth w)) u 0 ≡ calculus.widthIn (extend s v w) u
+    go u h (inl e) = rw (width-extend s v w u new, e, eqb-true u v e) (getD-set-same (scope .widths) v (boundWidth w) 0 (omega (arith, shows .room)) ∙ omega (arith, some))
+    go u h (inr e) = rw (width-extend s v w u new, e) (getD-set-other (scope .widths) v u (boundWidth w) 0 (eqb-false u v e) ∙ shows .shown u h)

@@ -1,5 +1,5 @@
 -- Document 01, refusals 5 and 6: scopes, widths, and the faults that a walk over the tree finds. Assumes nothing.
-use Prim.Native.Nat.{ℕ, suc, _+_, min}
+use Prim.Native.Nat.{ℕ, suc, _+_, min, max}
 use mathlib.Core.List.{List}
 use mathlib.Core.Bool.{Bool, true, false, cond, not, _||_}
 use lib.Dec.{ltb, eqb}
@@ -15,7 +15,7 @@ use Rattle.question.specs.declared.node.Node.the-variants.{Table, Alpha,
 use Rattle.question.specs.declared.scope.Scope.{Scope}
 use Rattle.question.specs.declared.scope.Found.{Found}
 
--- A scope has for each variable the width of its rows, 0 where it is not in scope: no range of a good catalogue is without columns.
+-- A scope has for each variable the width of its rows, 0 where it is not in scope.
 abbrev pub widthIn : Scope → ℕ → ℕ
 widthIn scope variable = getD (scope .widths) variable 0
 
@@ -26,9 +26,14 @@ emptyScope = record { widths = replicate variableCount 0; columns = 0 }
 unfoldable pub addWidths : ℕ → ℕ → ℕ
 addWidths a b = min (suc columnLimit) (a + b)
 
+-- A bound variable is in scope, also where its range has no columns: only a fault makes such a range (a whole row of a variable
+-- that is not in scope, say), and no fault makes another.
+abbrev pub boundWidth : ℕ → ℕ
+boundWidth width = max 1 width
+
 -- "each binding's variable and columns join those bound before it"
 abbrev pub bind : Scope → ℕ → ℕ → Scope
-bind scope variable width = record { widths = set (scope .widths) variable width; columns = addWidths (scope .columns) width }
+bind scope variable width = record { widths = set (scope .widths) variable (boundWidth width); columns = addWidths (scope .columns) width }
 
 -- "A range sees no variable of its surroundings": an alpha's bindings begin with no variable in scope
 abbrev pub opening : Node → Scope → Scope

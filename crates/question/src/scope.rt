@@ -6,7 +6,7 @@ ghost use Rattle.question.specs.Limits.{variableCount};
 ghost use Rattle.question.specs.Nodes.{VariableFits, OperandVariableFits};
 ghost use Rattle.catalogue.specs.Stored.{columnsOf};
 ghost use Rattle.question.specs.Trees.{treeOf};
-ghost use Rattle.question.specs.Scopes.{widthIn, addWidths, emptyScope, bind, opening, inside, operandUnbound, unboundAt, operandUnfit, unfitAt, targetWidth, widthOf, lowestOf, walk};
+ghost use Rattle.question.specs.Scopes.{widthIn, addWidths, emptyScope, boundWidth, bind, opening, inside, operandUnbound, unboundAt, operandUnfit, unfitAt, targetWidth, widthOf, lowestOf, walk};
 use crate::limits::COLUMNS;
 use crate::limits::NODES;
 use crate::node::Node;
@@ -62,12 +62,22 @@ pub fn empty() -> Scope
     }
 }
 
+// A bound variable is in scope, also where its range is faulty and has no columns.
+fn bound_width(width: u32) -> u32
+    ensures { λ r. ⌜ r ≡ boundWidth width ⌝ }
+{
+    if width == 0 {
+        return 1;
+    }
+    width
+}
+
 fn bind(scope: Scope, variable: u32, width: u32) -> Scope
     requires { ⌜ variable < variableCount ⌝ }
     ensures { λ r. ⌜ r ≡ bind scope variable width ⌝ }
 {
     let mut bound = scope;
-    bound.widths[variable as usize] = width;
+    bound.widths[variable as usize] = bound_width(width);
     bound.columns = add_widths(scope.columns, width);
     bound
 }
