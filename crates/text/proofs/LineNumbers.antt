@@ -53,7 +53,7 @@ keyedLines-line key width (suc more) line bytes =
     omega (
       arith,
       then-line more (first .words) (first .next) (λ after rest. keyedLines key width more after rest) (keyedLine-line key width line bytes)
-      (λ after rest. keyedLines-line key width more after rest),
+          (λ after rest. keyedLines-line key width more after rest),
     )
 
 -- a table has at most so many rows
@@ -114,7 +114,7 @@ nodes-line (suc more) line bytes =
     omega (
       arith,
       then-line more (first .words) (first .next) (λ after rest. unlessEnded after rest (nodesOf more after rest)) (keyedLine-line nodeKey questionNodeWords line bytes)
-      (λ after rest. unended-line after more rest (nodesOf more after rest) (nodes-line more after rest)),
+          (λ after rest. unended-line after more rest (nodesOf more after rest) (nodes-line more after rest)),
     )
 
 -- the lines of 16 tables of 16,384 rows, of 64 nodes and of the mode
