@@ -2,6 +2,7 @@
 pub mod PlansRight
 pub mod PlanWritten
 pub mod AnswerLaws
+pub mod AnswerSize
 pub mod Demand3
 pub mod LineLaws
 pub mod RoomLaws

@@ -1,7 +1,5 @@
 // `desk`: reads a bundle from standard input, answers its question, and prints the answer's listing, or the refusal.
-ghost use Prim.Native.Nat.{_*_, _≤_};
-ghost use lib.ListN.{length};
-ghost use Rattle.relations.specs.Limits.{wordLimit};
+ghost use Rattle.listing.specs.Listing.{Listable};
 use desk::Answered;
 use libc::STDIN_FILENO;
 use libc::STDOUT_FILENO;
@@ -15,7 +13,7 @@ fn print_refusal(status: u32, place: u32) {
 
 // The buffer holds the longest listing: 16,384 rows of one word of ten digits.
 fn print_listing(nodes: u32, heavy: u32, room: u32, width: u32, rows: u32, words: &[u32])
-    requires { ⌜ (1 ≤ width) × (width * rows ≤ length (now words)) × (length (now words) ≤ wordLimit) ⌝ }
+    requires { ⌜ Listable width rows (now words) ⌝ }
 {
     let mut text = [0u8; 262144];
     let bytes = listing::put_listing(nodes, heavy, room, width, rows, words, &mut text);

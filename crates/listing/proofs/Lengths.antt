@@ -1,7 +1,7 @@
 -- How long a listing can be, and where a writer of one ends. Assumes nothing.
 use Prim.Native.Nat.{ℕ, _+_, _*_, _≤_}
 use mathlib.Core.Path.{_≡_}
-use mathlib.Core.List.{List, [], _∷_, _++_, append-assoc}
+use mathlib.Core.List.{List, [], _∷_}
 use native.Mathlib.Omega.{arith}
 use lib.ListN.{length, length-append}
 use Rattle.relations.specs.Limits.{wordLimit}
@@ -9,7 +9,7 @@ use Rattle.text.specs.Marks.{rowKey}
 use Rattle.text.specs.Writing.{decimal, numbersText, linesText}
 use Rattle.text.specs.Put.{Put, furthest}
 use Rattle.text.proofs.WritingSteps.{length-numbers, length-lines, rows-words}
-use Rattle.listing.specs.Listing.{statusKey, placeKey, nodesKey, heavyKey, roomKey, widthKey, rowsKey, numberLine, headText, listingText, refusalText, listingBytes, refusalBytes}
+use Rattle.listing.specs.Listing.{statusKey, placeKey, nodesKey, heavyKey, roomKey, widthKey, rowsKey, numberLine, headText, listingText, Listable, refusalText, listingBytes, refusalBytes}
 
 -- a line of one number is its key, the digits and a line feed
 pub line-parts : (key : List ℕ) (number : ℕ) → length (numberLine key number) ≡ length key + (length (decimal number) + 1)
@@ -36,32 +36,31 @@ head-length nodes heavy room width rows =
       length-numbers (rows ∷ []),
     ))
 
-pub refusal-length : (status place : ℕ) → length (refusalText status place) ≤ refusalBytes
-unfolding refusalText
-refusal-length status place = simp length-append (omega (arith, length-numbers (status ∷ []), length-numbers (place ∷ [])))
+-- no more rows than words
+rows-few : {width rows : ℕ} {words : List ℕ} → Listable width rows words → (rows ≤ wordLimit) × (width * rows ≤ wordLimit)
+rows-few {width} {rows} h = (omega (arith, rows-words width rows (h .some), h .there, h .few), omega (arith, h .there, h .few))
 
-pub listing-length : (nodes heavy room width rows : ℕ) (words : List ℕ) → 1 ≤ width → width * rows ≤ wordLimit
-    → length (listingText nodes heavy room width rows words) ≤ listingBytes
-unfolding listingText
-listing-length nodes heavy room width rows words some few =
-    omega (
-      arith,
-      length-append (headText nodes heavy room width rows) (linesText rowKey width rows words),
-      head-length nodes heavy room width rows,
-      length-lines rowKey width rows words,
-      rows-words width rows some,
-    )
+rows-length : (width rows : ℕ) (words : List ℕ) → Listable width rows words → length (linesText rowKey width rows words) ≤ 245760
+rows-length width rows words h = omega (arith, length-lines rowKey width rows words, rows-few h .0, rows-few h .1)
 
 -- behind the head the rows' lines are within reach of every position
-pub rows-reach : (nodes heavy room width rows : ℕ) (words : List ℕ) {before after : List ℕ} {end : ℕ} → 1 ≤ width → width * rows ≤ wordLimit
+pub rows-reach : (nodes heavy room width rows : ℕ) (words : List ℕ) {before after : List ℕ} {end : ℕ} → Listable width rows words
     → Put 0 (headText nodes heavy room width rows) before after end → end + length (linesText rowKey width rows words) ≤ furthest
-rows-reach nodes heavy room width rows words some few p =
-    omega (arith, p .end-at, head-length nodes heavy room width rows, length-lines rowKey width rows words, rows-words width rows some)
+rows-reach nodes heavy room width rows words h p = omega (arith, p .end-at, head-length nodes heavy room width rows, rows-length width rows words h)
 
 -- For a program that prints what was put into a buffer of that many bytes: it ends within them.
-pub listing-ends : (nodes heavy room width rows : ℕ) (words : List ℕ) {before after : List ℕ} {end : ℕ} → 1 ≤ width → width * rows ≤ wordLimit
+pub listing-ends : (nodes heavy room width rows : ℕ) (words : List ℕ) {before after : List ℕ} {end : ℕ} → Listable width rows words
     → Put 0 (listingText nodes heavy room width rows words) before after end → end ≤ listingBytes
-listing-ends nodes heavy room width rows words some few p = omega (arith, p .end-at, listing-length nodes heavy room width rows words some few)
+unfolding listingText
+listing-ends nodes heavy room width rows words h p =
+    omega (
+      arith,
+      p .end-at,
+      length-append (headText nodes heavy room width rows) (linesText rowKey width rows words),
+      head-length nodes heavy room width rows,
+      rows-length width rows words h,
+    )
 
 pub refusal-ends : (status place : ℕ) {before after : List ℕ} {end : ℕ} → Put 0 (refusalText status place) before after end → end ≤ refusalBytes
-refusal-ends status place p = omega (arith, p .end-at, refusal-length status place)
+unfolding refusalText
+refusal-ends status place p = omega (arith, p .end-at, length-append (numberLine statusKey status) (numberLine placeKey place), line-length statusKey status, line-length placeKey place)

@@ -1,6 +1,8 @@
 -- Document 01, "Bundle text and the program": the listing that `desk` prints. Assumes nothing.
-use Prim.Native.Nat.{ℕ}
+use Prim.Native.Nat.{ℕ, _*_, _≤_}
 use mathlib.Core.List.{List, [], _∷_, _++_}
+use lib.ListN.{length}
+use Rattle.relations.specs.Limits.{wordLimit}
 use Rattle.text.specs.Marks.{rowKey}
 use Rattle.text.specs.Writing.{lineText, linesText}
 
@@ -44,12 +46,18 @@ headText nodes heavy room width rows =
 unfoldable pub listingText : (nodes heavy room width rows : ℕ) (words : List ℕ) → List ℕ
 listingText nodes heavy room width rows words = headText nodes heavy room width rows ++ linesText rowKey width rows words
 
+-- Which answers a listing can be asked for, and every answer of the desk is one: it has a column at least, its words are there, and they are within the
+-- limit. So there are no more rows than words, and the text stays short.
+pub record Listable (width rows : ℕ) (words : List ℕ) : Type 0 where
+  pub some : 1 ≤ width
+  pub there : width * rows ≤ length words
+  pub few : length words ≤ wordLimit
+
 -- "A refusal prints status= and place= only."
 unfoldable pub refusalText : (status place : ℕ) → List ℕ
 refusalText status place = numberLine statusKey status ++ numberLine placeKey place
 
--- The bytes of a buffer that holds every listing: 16,384 words make at most as many rows, each word of at most ten digits and the byte behind
--- them, each row with `row=` before it. And of one that holds every refusal.
+-- The bytes of a buffer that holds every listing, of 16,384 rows of one word of ten digits at most; and of one that holds every refusal.
 abbrev pub listingBytes : ℕ
 listingBytes = 262144
 

@@ -1,9 +1,8 @@
 // The listing that `desk` prints: an answer's numbers and rows, or a refusal.
-ghost use Prim.Native.Nat.{_+_, _*_, _≤_};
+ghost use Prim.Native.Nat.{_+_, _≤_};
 ghost use lib.ListN.{length};
-ghost use Rattle.relations.specs.Limits.{wordLimit};
 ghost use Rattle.text.specs.Put.{Put, furthest};
-ghost use Rattle.listing.specs.Listing.{numberLine, headText, listingText, refusalText};
+ghost use Rattle.listing.specs.Listing.{numberLine, headText, listingText, Listable, refusalText};
 use catalogue::judging::wide;
 use text::writing::put_bytes;
 use text::writing::put_lines;
@@ -32,7 +31,7 @@ fn put_head(text: &mut [u8], nodes: u32, heavy: u32, room: u32, width: u32, rows
     put_line(text, rows_at, b"rows=", rows)
 }
 
-// An answer. Its rows have a column at least, so there are no more of them than words, and the text stays short.
+// An answer: its numbers and its rows.
 pub fn put_listing(
     nodes: u32,
     heavy: u32,
@@ -42,14 +41,14 @@ pub fn put_listing(
     words: &[u32],
     text: &mut [u8],
 ) -> usize
-    requires { ⌜ (1 ≤ width) × (width * rows ≤ length (now words)) × (length (now words) ≤ wordLimit) ⌝ }
+    requires { ⌜ Listable width rows (now words) ⌝ }
     ensures { λ r. ⌜ Put 0 (listingText nodes heavy room width rows (now (words .entry))) (now (text .entry)) (now (text .exit)) r ⌝ }
 {
     let words_at = put_head(text, nodes, heavy, room, width, rows);
     put_lines(text, words_at, b"row=", wide(width), wide(rows), words, 0)
 }
 
-// A refusal.
+// A refusal: its status and its place.
 pub fn put_refusal(status: u32, place: u32, text: &mut [u8]) -> usize
     ensures { λ r. ⌜ Put 0 (refusalText status place) (now (text .entry)) (now (text .exit)) r ⌝ }
 {

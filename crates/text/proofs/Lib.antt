@@ -7,6 +7,7 @@ pub mod ReadingLaws
 pub mod WritingLaws
 pub mod RoundTrip
 pub mod Rooms
+pub mod LineNumbers
 -- What the code's loops carry
 pub mod Stores
 pub mod ReadingSteps

@@ -51,6 +51,14 @@ pub put-last : {at : ℕ} {bytes before : List ℕ} {next : ℕ} {rest now after
     → StillToPut at bytes before next rest now → Put next rest now after end → Put at bytes before after end
 put-last s p = record { end-at = omega (arith, s .ends, p .end-at); stored = p .stored ∙ sym (s .stores) }
 
+-- two writers, one behind the other, put the first one's bytes and then the second one's
+pub put-then : {at between end : ℕ} {first second before middle after : List ℕ}
+    → Put at first before middle between → Put between second middle after end → Put at (first ++ second) before after end
+put-then {at} {first = first} {second = second} {before = before} p q = record {
+  end-at = omega (arith, p .end-at, q .end-at, length-append first second);
+  stored = q .stored ∙ rw (p .stored, p .end-at) (sym (sets-append before at first second));
+}
+
 -- lines of one width: the words of those that are left
 pub times-step : (width left : ℕ) → 0 < left → width * left ≡ width * (left - 1) + width
 times-step width zero h = absurd (omega arith)

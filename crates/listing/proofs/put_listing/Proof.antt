@@ -1,11 +1,9 @@
 -- `listing::put_listing` meets its contract: the head and the rows' lines are put one behind another, and they are the listing. Its rows are within the
 -- limit of words, so every position is within reach (`rows-reach`). Assumes nothing.
-use Prim.Native.Nat.{_*_, _≤_}
 use native.Mathlib.Omega.{arith}
 use borrow.Author.Needs.{needs}
-use Rattle.relations.specs.Limits.{wordLimit}
 use Rattle.listing.specs.Listing.{listingText}
-use Rattle.listing.proofs.Joins.{put-then}
+use Rattle.text.proofs.Stores.{put-then}
 use Rattle.listing.proofs.Lengths.{rows-reach}
 use Rattle.listing.proofs.put_listing.Statement.{statement}
 use Rattle.listing.proofs.put_listing.Tie as tie
@@ -25,9 +23,8 @@ wide-requires-2 c κs = search needs
 put-lines-requires : tie.Need-put-lines-requires
 put-lines-requires c κs =
     let start = c .before .before .before .before .before .before .before .before .before .before in
-    let few : start .args .width * start .args .rows ≤ wordLimit = omega (arith, start .pre .1, start .pre .2) in
     rw (c .before .wide .ensures, c .wide2 .ensures)
-    (omega (arith, start .pre .1), rows-reach (start .args .nodes) (start .args .heavy) (start .args .room) (start .args .width) (start .args .rows) (start .args .words .now) (start .pre .0) few (c .before .before .before .before .before .before .put-head .ensures))
+    (omega (arith, start .pre .there), rows-reach (start .args .nodes) (start .args .heavy) (start .args .room) (start .args .width) (start .args .rows) (start .args .words .now) (start .pre) (c .before .before .before .before .before .before .put-head .ensures))
 
 same-length : tie.Need-same-length
 same-length c = search needs
