@@ -75,11 +75,11 @@ mul-words c = search needs
 
 -- src/lib.rt:87:46
 slice-reshare-prefix-run : tie.Need-slice-reshare-prefix-run
-slice-reshare-prefix-run c = inside (c .before .before .before .before .before) (c .before .nodes .given .0 .0) (c .before .nodes .given .0 .1 .0) (c .before .nodes .given .1)
+slice-reshare-prefix-run c = omega (arith, inside (c .before .before .before .before .before) (c .before .nodes .given .0 .0) (c .before .nodes .given .0 .1 .0) (c .before .nodes .given .1))
 
 -- src/lib.rt:87:46
 slice-aggregate-run : tie.Need-slice-aggregate-run
-slice-aggregate-run c = sym (length-take-le (c .before .before .nodes .given .0 .0 * planNodeWords) (left (c .before .before .before .before .before .before)) (inside (c .before .before .before .before .before .before) (c .before .before .nodes .given .0 .0) (c .before .before .nodes .given .0 .1 .0) (c .before .before .nodes .given .1)))
+slice-aggregate-run c = sym (length-take-le _ (left (c .before .before .before .before .before .before)) (omega (arith, inside (c .before .before .before .before .before .before) (c .before .before .nodes .given .0 .0) (c .before .before .nodes .given .0 .1 .0) (c .before .before .nodes .given .1))))
 
 -- src/lib.rt:87:23
 run-requires : tie.Need-run-requires
@@ -87,7 +87,7 @@ run-requires c κs = search needs
 
 -- src/lib.rt:87:13
 answer-of-requires : tie.Need-answer-of-requires
-answer-of-requires c κs = let s = start (c .before .before .before .before .before .before .before .before .before .before .before .before .before) .args in ran-bounded (s .catalogue .now) (s .tables .now) (take (c .before .before .before .before .before .before .before .before .before .nodes .given .0 .0 * planNodeWords) (left (c .before .before .before .before .before .before .before .before .before .before .before .before .before))) (s .work .now) (s .output .now) (c .before .before .before .before .run .result) (c .before .before .before .before .run .last .1 .1 .1 .0) (c .before .before .before .before .run .last .1 .1 .1 .1 .0) (c .before .before .before .before .run .ensures)
+answer-of-requires c κs = ran-bounded _ _ _ _ _ (c .before .before .before .before .run .result) _ _ (c .before .before .before .before .run .ensures)
 
 -- src/lib.rt:89:39
 enum-told : tie.Need-enum-told

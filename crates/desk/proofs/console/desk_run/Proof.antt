@@ -17,7 +17,7 @@ run-requires c κs = search needs
 
 -- src/console.rt:104:12
 answer-of-requires : tie.Need-answer-of-requires
-answer-of-requires c κs = let s = c .before .before .before .before .before .before .before .before .before .before .before .before in ran-bounded (s .args .catalogue .now) (s .args .tables .now) (s .args .plan .now) (s .args .work .now) (s .args .output .now) (c .before .before .before .before .run .result) (c .before .before .before .before .run .last .1 .1 .1 .0) (c .before .before .before .before .run .last .1 .1 .1 .1 .0) (c .before .before .before .before .run .ensures)
+answer-of-requires c κs = ran-bounded _ _ _ _ _ (c .before .before .before .before .run .result) _ _ (c .before .before .before .before .run .ensures)
 
 -- src/console.rt:104:5
 report-requires : tie.Need-report-requires
