@@ -5,7 +5,7 @@ use mathlib.Core.Bool.{true, false, So}
 use mathlib.Core.List.{List}
 use native.Mathlib.Omega.{arith}
 use lib.ListN.{length, take}
-use lib.Seq.{sets, length-sets}
+use lib.Seq.{length-sets}
 use borrow.Author.Tests.{ne-eqb, ltb-false}
 use Rattle.relations.specs.Limits.{planNodeWords, planNodeLimit}
 use Rattle.relations.specs.Lists.{flat}

@@ -10,7 +10,7 @@ use running::run;
 use translation::call::Translated;
 use translation::call::translate;
 
-// The numbers of a call to its lent places; the status is what the caller is told at once.
+// A call's numbers to where they are lent; its status is the answer. A number that the call doesn't have is 0.
 fn report(
     answered: Answered,
     place: &mut u32,
@@ -22,6 +22,12 @@ fn report(
 ) -> u32
     ensures { λ r. ⌜ record { status = r; place = now (place .exit); nodes = now (nodes .exit); heavy = now (heavy .exit); room = now (room .exit); width = now (width .exit); rows = now (rows .exit) } ≡ answerNumbers answered ⌝ }
 {
+    *place = 0;
+    *nodes = 0;
+    *heavy = 0;
+    *room = 0;
+    *width = 0;
+    *rows = 0;
     match answered {
         Answered::Done {
             nodes: count,
@@ -30,7 +36,6 @@ fn report(
             width: columns,
             rows: listed,
         } => {
-            *place = 0;
             *nodes = count;
             *heavy = heavies;
             *room = words;
@@ -40,11 +45,6 @@ fn report(
         }
         Answered::Refused { status, place: at } => {
             *place = at;
-            *nodes = 0;
-            *heavy = 0;
-            *room = 0;
-            *width = 0;
-            *rows = 0;
             status
         }
     }
@@ -68,11 +68,11 @@ pub extern "C" fn desk_translate(
     *heavy = 0;
     match translated {
         Translated::Done {
-            nodes: count,
-            heavy: heavies,
+            nodes: written,
+            heavy: heavy_written,
         } => {
-            *nodes = count;
-            *heavy = heavies;
+            *nodes = written;
+            *heavy = heavy_written;
             0
         }
         Translated::WrongCatalogue => 7,

@@ -64,6 +64,7 @@ pub fn answer_of(ran: Ran) -> Answered
     }
 }
 
+// A question translated, and its plan run from the front of the plan buffer, where it stays.
 pub fn answer(
     catalogue: &[u32],
     tables: &[u32],
@@ -82,7 +83,7 @@ pub fn answer(
         };
     }
     match translate(catalogue, question, mode, plan) {
-        Translated::Done { nodes, heavy } => {
+        Translated::Done { nodes, heavy: _ } => {
             let words = nodes as usize * NODE_WORDS;
             answer_of(run(catalogue, tables, &plan[..words], work, output))
         }

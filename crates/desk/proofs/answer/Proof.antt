@@ -3,7 +3,7 @@ use Prim.Native.Nat.{ℕ, _*_, _≤_}
 use mathlib.Core.Path.{_≡_, sym, _∙_}
 use mathlib.Core.Bool.{true}
 use mathlib.Core.List.{List}
-use lib.ListN.{length, take}
+use lib.ListN.{length}
 use lib.Seq.{length-take-le}
 use borrow.Author.Tests.{not-true, not-false}
 use Rattle.relations.specs.Limits.{planNodeWords}
@@ -49,97 +49,74 @@ module _ (a : lts.After-translate (tables-ok-reads.Asked, tables-ok-reads.Learnt
       ≡ answerOutcome (start .args .catalogue .now) (start .args .tables .now) (start .args .question .now) (start .args .mode) (start .args .plan .now) (start .args .work .now) (start .args .output .now)
   refused status place e = answer-refused (start .args .catalogue .now) (start .args .tables .now) (start .args .question .now) (start .args .mode) (start .args .plan .now) good status place left e (start .args .work .now) (start .args .output .now)
 
--- src/lib.rt:78:9
 tables-ok-requires : tie.Need-tables-ok-requires
 tables-ok-requires c κs = search needs
 
--- src/lib.rt:79:9
 returns : tie.Need-returns
 returns c = let s = c .before .before .before .before .before .before .before .before .args in answer-tables (s .catalogue .now) (s .tables .now) (s .question .now) (s .mode) (s .plan .now) (s .work .now) (s .output .now) (sym (c .before .tables-ok .ensures) ∙ not-true _ (c .if1 .taken))
 
--- src/lib.rt:84:11
 translate-requires : tie.Need-translate-requires
 translate-requires c κs = search needs
 
--- src/lib.rt:85:28
 enum-known-nodes : tie.Need-enum-known-nodes
 enum-known-nodes c = search needs
 
--- src/lib.rt:86:25
 cast-words : tie.Need-cast-words
 cast-words c = search needs
 
--- src/lib.rt:86:25
 mul-words : tie.Need-mul-words
 mul-words c = search needs
 
--- src/lib.rt:87:46
 slice-reshare-prefix-run : tie.Need-slice-reshare-prefix-run
-slice-reshare-prefix-run c = inside (c .before .before .before .before .before) (c .before .nodes .given .0 .0) (c .before .nodes .given .0 .1 .0) (c .before .nodes .given .1)
+slice-reshare-prefix-run c = omega (arith, inside (c .before .before .before .before .before) (c .before .nodes .given .0 .0) (c .before .nodes .given .0 .1 .0) (c .before .nodes .given .1))
 
--- src/lib.rt:87:46
 slice-aggregate-run : tie.Need-slice-aggregate-run
-slice-aggregate-run c = sym (length-take-le (c .before .before .nodes .given .0 .0 * planNodeWords) (left (c .before .before .before .before .before .before)) (inside (c .before .before .before .before .before .before) (c .before .before .nodes .given .0 .0) (c .before .before .nodes .given .0 .1 .0) (c .before .before .nodes .given .1)))
+slice-aggregate-run c = sym (length-take-le _ (left (c .before .before .before .before .before .before)) (omega (arith, inside (c .before .before .before .before .before .before) (c .before .before .nodes .given .0 .0) (c .before .before .nodes .given .0 .1 .0) (c .before .before .nodes .given .1))))
 
--- src/lib.rt:87:23
 run-requires : tie.Need-run-requires
 run-requires c κs = search needs
 
--- src/lib.rt:87:13
 answer-of-requires : tie.Need-answer-of-requires
-answer-of-requires c κs = let s = start (c .before .before .before .before .before .before .before .before .before .before .before .before .before) .args in ran-bounded (s .catalogue .now) (s .tables .now) (take (c .before .before .before .before .before .before .before .before .before .nodes .given .0 .0 * planNodeWords) (left (c .before .before .before .before .before .before .before .before .before .before .before .before .before))) (s .work .now) (s .output .now) (c .before .before .before .before .run .result) (c .before .before .before .before .run .last .1 .1 .1 .0) (c .before .before .before .before .run .last .1 .1 .1 .1 .0) (c .before .before .before .before .run .ensures)
+answer-of-requires c κs = ran-bounded _ _ _ _ _ (c .before .before .before .before .run .result) _ _ (c .before .before .before .before .run .ensures)
 
--- src/lib.rt:89:39
 enum-told : tie.Need-enum-told
 enum-told c = search needs
 
--- src/lib.rt:93:34
 enum-told-2 : tie.Need-enum-told-2
 enum-told-2 c = search needs
 
--- src/lib.rt:97:31
 enum-known-status : tie.Need-enum-known-status
 enum-known-status c = search needs
 
--- src/lib.rt:67:1
 same-length : tie.Need-same-length
 same-length c = search needs
 
--- src/lib.rt:67:1
 same-length-2 : tie.Need-same-length-2
 same-length-2 c = search needs
 
--- src/lib.rt:67:1
 same-length-3 : tie.Need-same-length-3
 same-length-3 c = search needs
 
--- src/lib.rt:67:1
 returns-2 : tie.Need-returns-2
 returns-2 c = let s = start (c .before .before .before .before .before .before .before .before .before .before .before .before .before .before) .args in
     answered-as _ _ (left (c .before .before .before .before .before .before .before .before .before .before .before .before .before .before)) (c .before .before .before .before .before .run .last .1 .1 .1 .0) (c .before .before .before .before .before .run .last .1 .1 .1 .1 .0) (c .answer-of .ensures)
     (answer-ran (s .catalogue .now) (s .tables .now) (s .question .now) (s .mode) (s .plan .now) (good (c .before .before .before .before .before .before .before .before .before .before .before .before .before .before)) (c .before .before .before .before .before .before .before .before .before .before .nodes .given .0 .0) (c .before .before .before .before .before .before .before .before .before .before .nodes .given .0 .1 .0) (left (c .before .before .before .before .before .before .before .before .before .before .before .before .before .before)) (told (c .before .before .before .before .before .before .before .before .before .before .before .before .before .before) (Done (c .before .before .before .before .before .before .before .before .before .before .nodes .given .0 .0) (c .before .before .before .before .before .before .before .before .before .before .nodes .given .0 .1 .0)) (c .before .before .before .before .before .before .before .before .before .before .nodes .given .1)) (s .work .now) (s .output .now) (c .before .before .before .before .before .run .ensures))
 
--- src/lib.rt:67:1
 same-length-4 : tie.Need-same-length-4
 same-length-4 c = search needs
 
--- src/lib.rt:67:1
 returns-3 : tie.Need-returns-3
 returns-3 c = refused (c .before .before .before .before) 7 0 (told (c .before .before .before .before) WrongCatalogue (c .enum-told .given .1))
 
--- src/lib.rt:67:1
 same-length-5 : tie.Need-same-length-5
 same-length-5 c = search needs
 
--- src/lib.rt:67:1
 returns-4 : tie.Need-returns-4
 returns-4 c = refused (c .before .before .before .before) 8 0 (told (c .before .before .before .before) ShortPlan (c .enum-told2 .given .1))
 
--- src/lib.rt:67:1
 same-length-6 : tie.Need-same-length-6
 same-length-6 c = search needs
 
--- src/lib.rt:67:1
 returns-5 : tie.Need-returns-5
 returns-5 c = refused (c .before .before .before .before .before) (c .before .status .given .0 .0) (c .before .status .given .0 .1 .0) (told (c .before .before .before .before .before) (Refused (c .before .status .given .0 .0) (c .before .status .given .0 .1 .0)) (c .before .status .given .1))
 

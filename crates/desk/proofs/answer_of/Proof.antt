@@ -7,81 +7,61 @@ use native.Mathlib.Omega.{arith}
 use borrow.Author.Needs.{needs}
 use Rattle.desk.proofs.answer_of.Statement.{statement}
 use Rattle.desk.proofs.answer_of.Tie as tie
-use Rattle.desk.proofs.answer_of.Reads as reads
-use Rattle.desk.proofs.answer_of.Lts as lts
 
 told : {ran is : Ran} → ran ≡ is → Bounded (runNumbers ran) → Bounded (runNumbers is)
 told e bounded = rw e at bounded
 
--- src/lib.rt:36:13
 enum-known-ran : tie.Need-enum-known-ran
 enum-known-ran c = search needs
 
--- src/lib.rt:42:20
 cast-t11 : tie.Need-cast-t11
 cast-t11 c = omega (arith, told (c .before .ran .given .1) (c .before .before .before .pre) .nodes)
 
--- src/lib.rt:43:20
 cast-t12 : tie.Need-cast-t12
 cast-t12 c = omega (arith, told (c .before .ran .given .1) (c .before .before .before .pre) .heavy)
 
--- src/lib.rt:44:19
 cast-t13 : tie.Need-cast-t13
 cast-t13 c = omega (arith, told (c .before .ran .given .1) (c .before .before .before .pre) .room)
 
--- src/lib.rt:45:20
 cast-t14 : tie.Need-cast-t14
 cast-t14 c = omega (arith, told (c .before .ran .given .1) (c .before .before .before .pre) .width)
 
--- src/lib.rt:46:19
 cast-t15 : tie.Need-cast-t15
 cast-t15 c = omega (arith, told (c .before .ran .given .1) (c .before .before .before .pre) .rows)
 
--- src/lib.rt:48:29
 enum-told : tie.Need-enum-told
 enum-told c = search needs
 
--- src/lib.rt:52:26
 enum-known-ran-2 : tie.Need-enum-known-ran-2
 enum-known-ran-2 c = search needs
 
--- src/lib.rt:54:20
 cast-t16 : tie.Need-cast-t16
 cast-t16 c = omega (arith, told (c .before .ran2 .given .1) (c .before .before .before .pre) .place)
 
--- src/lib.rt:56:21
 enum-known-ran-3 : tie.Need-enum-known-ran-3
 enum-known-ran-3 c = search needs
 
--- src/lib.rt:58:20
 cast-t17 : tie.Need-cast-t17
 cast-t17 c = omega (arith, told (c .before .ran3 .given .1) (c .before .before .before .pre) .place)
 
--- src/lib.rt:60:25
 enum-known-ran-4 : tie.Need-enum-known-ran-4
 enum-known-ran-4 c = search needs
 
--- src/lib.rt:62:20
 cast-t18 : tie.Need-cast-t18
 cast-t18 c = omega (arith, told (c .before .ran4 .given .1) (c .before .before .before .pre) .place)
 
--- src/lib.rt:30:1
 returns : tie.Need-returns
 returns c = sym (ap runNumbers (c .before .ran .given .1))
 
--- src/lib.rt:30:1
 returns-2 : tie.Need-returns-2
 returns-2 c = search needs
 
--- src/lib.rt:30:1
 returns-3 : tie.Need-returns-3
 returns-3 c = sym (ap runNumbers (c .before .ran2 .given .1))
 
--- src/lib.rt:30:1
 returns-4 : tie.Need-returns-4
 returns-4 c = sym (ap runNumbers (c .before .ran3 .given .1))
 
--- src/lib.rt:30:1
 returns-5 : tie.Need-returns-5
 returns-5 c = sym (ap runNumbers (c .before .ran4 .given .1))
 
