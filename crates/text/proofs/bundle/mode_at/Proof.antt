@@ -1,4 +1,6 @@
-use native.Mathlib.Omega.{arith}
+-- `text::bundle::mode_at` meets its contract. Each test is one of the definition.
+-- Assumes nothing.
+use mathlib.Core.Path.{refl, sym, _∙_}
 use borrow.Author.Needs.{needs}
 use Rattle.text.proofs.bundle.mode_at.Statement.{statement}
 use Rattle.text.proofs.bundle.mode_at.Tie as tie
@@ -28,11 +30,11 @@ begins-with-requires-2 c κs = search needs
 
 -- src/bundle.rt:283:9
 returns-2 : tie.Need-returns-2
-returns-2 c = ?
+returns-2 c = rw (sym (c .before .before .before .before .begins-with .ensures) ∙ c .before .before .before .if1 .left, sym (c .before .begins-with2 .ensures) ∙ c .if2 .taken) refl
 
 -- src/bundle.rt:276:1
 returns-3 : tie.Need-returns-3
-returns-3 c = ?
+returns-3 c = rw (sym (c .before .before .before .before .begins-with .ensures) ∙ c .before .before .before .if1 .left, sym (c .before .begins-with2 .ensures) ∙ c .if2 .left) refl
 
 pub mode-at-spec : {M : Type 1} → statement M
 mode-at-spec =
