@@ -300,7 +300,14 @@ fn rest_at(
 {
     match mode {
         Mode::Of(number) => {
-            read_behind_mode(text, Cursor { at, line }, number, catalogue, tables, question)
+            read_behind_mode(
+                text,
+                Cursor { at, line },
+                number,
+                catalogue,
+                tables,
+                question,
+            )
         }
         Mode::Wrong(wrong) => Lines::Wrong(wrong),
     }
@@ -324,7 +331,15 @@ fn read_rest<'a>(
     requires { ⌜ PlacedBehind (now (reader .text)) (reader .at) (reader .line) mode ⌝ }
     ensures { λ r. ⌜ BundleFound (bundleBehind (reader .entry .line) (drop (reader .entry .at) (now (reader .entry .text))) mode) (now (catalogue .entry)) (now (catalogue .exit)) (now (tables .entry)) (now (tables .exit)) (now (question .entry)) (now (question .exit)) r ⌝ }
 {
-    rest_at(reader.text, reader.at, reader.line, mode, catalogue, tables, question)
+    rest_at(
+        reader.text,
+        reader.at,
+        reader.line,
+        mode,
+        catalogue,
+        tables,
+        question,
+    )
 }
 
 // Every line; each word is kept where there is room. Whoever calls it has a plain text, and needs to know nothing of readers.

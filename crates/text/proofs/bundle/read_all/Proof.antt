@@ -75,9 +75,10 @@ use Rattle.text.proofs.bundle.read_all.Statement as stated
 use Rattle.text.proofs.bundle.read_all.Code as code
 
 abbrev stayed : Stays (read-all.ended .signature .params) (read-all.ended .kept)
-stayed =
-    (stay-none-slice (0 ∷ []) tt (plain (λ _. u8)) yes,
-    (gave-slice (1 ∷ []) tt (plain (λ _. u32)), (gave-slice (2 ∷ []) tt (plain (λ _. u32)), (gave-slice (3 ∷ []) tt (plain (λ _. u32)), tt))))
+stayed = (
+  stay-none-slice (0 ∷ []) tt (plain (λ _. u8)) yes,
+  (gave-slice (1 ∷ []) tt (plain (λ _. u32)), (gave-slice (2 ∷ []) tt (plain (λ _. u32)), (gave-slice (3 ∷ []) tt (plain (λ _. u32)), tt))),
+)
 
 module _ {M : Type 1} (𝓤 : URA M) (H : Heap 𝓤) (A : Atoms 𝓤) (mem : Memory → SProp 𝓤) (run : Routine → Fun 𝓤) where
   -- the contracts that the proof cites

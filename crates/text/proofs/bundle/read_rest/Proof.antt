@@ -67,9 +67,13 @@ abbrev B : Lfts 4 → RattleType
 B κs = T.the-row (namedLft 4 0 tt κs)
 
 abbrev stayed : Stays (read-rest.ended .signature .params) (read-rest.ended .kept)
-stayed =
-    (stay-none B yes, (stay-none (λ _. N.the-row) yes,
-    (gave-slice (1 ∷ []) tt (plain (λ _. u32)), (gave-slice (2 ∷ []) tt (plain (λ _. u32)), (gave-slice (3 ∷ []) tt (plain (λ _. u32)), tt)))))
+stayed = (
+  stay-none B yes,
+  (
+    stay-none (λ _. N.the-row) yes,
+    (gave-slice (1 ∷ []) tt (plain (λ _. u32)), (gave-slice (2 ∷ []) tt (plain (λ _. u32)), (gave-slice (3 ∷ []) tt (plain (λ _. u32)), tt))),
+  ),
+)
 
 module _ {M : Type 1} (𝓤 : URA M) (H : Heap 𝓤) (A : Atoms 𝓤) (mem : Memory → SProp 𝓤) (run : Routine → Fun 𝓤) where
   -- the contract that the proof cites
