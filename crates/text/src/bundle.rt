@@ -9,7 +9,6 @@ ghost use Rattle.text.specs.Reading.{relationOf, begins, tableOf, tables
 ghost use Rattle.text.specs.Answers.{Placed, RelationRead, TablesFound, NodesFound, modeIn, PlacedBehind, bundleBehind, linesAnswer, BundleFound};
 ghost use Rattle.text.specs.ReadCall.{readNumbers, readOutcome};
 use crate::limits::BYTES;
-use crate::limits::MODE_BYTES;
 use crate::limits::NODE_WORDS;
 use crate::limits::NODES;
 use crate::lines::Cursor;
@@ -33,6 +32,9 @@ pub enum Mode {
     Of(u32),
     Wrong(usize),
 }
+
+// The bytes of a mode's line, its LF with them: "mode=plain" is as long as "mode=short".
+const MODE_BYTES: usize = 11;
 
 // What a relation line says, and the position behind it.
 pub enum Relation {
@@ -285,7 +287,7 @@ fn mode_at(text: &[u8], at: usize, line: usize) -> Mode
     Mode::Wrong(line)
 }
 
-// The lines from `at` on, which stand behind the mode's; none is read behind a wrong one.
+// The lines from `at` on, which stand behind the mode's; behind a wrong one none is read.
 fn rest_at(
     text: &[u8],
     at: usize,
@@ -342,7 +344,7 @@ fn read_rest<'a>(
     )
 }
 
-// Every line; each word is kept where there is room. Whoever calls it has a plain text, and needs to know nothing of readers.
+// Every line; each word is kept where there is room. It goes through a reader, but its callers lend a plain text and see none.
 fn read_all(text: &[u8], catalogue: &mut [u32], tables: &mut [u32], question: &mut [u32]) -> Lines
     ensures { λ r. ⌜ BundleFound (linesOf (now (text .entry))) (now (catalogue .entry)) (now (catalogue .exit)) (now (tables .entry)) (now (tables .exit)) (now (question .entry)) (now (question .exit)) r ⌝ }
 {

@@ -9,6 +9,3 @@ pub const NODE_WORDS: usize = 6;
 pub const BYTES: usize = 65536;
 
 pub const GREATEST: u64 = 4294967295;
-
-// The bytes of a mode's line, its LF with them: "mode=plain" and "mode=short" are as long as one another.
-pub const MODE_BYTES: usize = 11;

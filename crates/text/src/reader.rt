@@ -1,10 +1,11 @@
-// A reader: the text that it was lent, and where it stands in it.
+// A reader: the text that it was lent, and where it stands in it. The functions over one are few and thin, since the proof of each
+// is a walk by hand: they make it, move it, or take it apart for a function on the slice and the numbers (`mode_at`, `rest_at`).
 ghost use mathlib.Core.Path.{_≡_};
 ghost use Prim.Native.Nat.{_+_, _<_, _^_};
 ghost use Rattle.text.specs.Answers.{atFirstLine, behindLine};
 
-// The position of the byte that comes next, and the number of its line, from 1. At the text's end that is one line after the last,
-// so whatever is missing there is wrong at the reader's own line.
+// The text, the position of the byte that comes next, and the number of its line, from 1. At the text's end that is one line after
+// the last, so whatever is missing there is wrong at the reader's own line.
 pub struct Reader<'a> {
     pub text: &'a [u8],
     pub at: usize,

@@ -35,7 +35,6 @@ use denote.Triple.Spec.{Meets, tripleOf}
 use denote.Triple.Table.{entered}
 use denote.Triple.Walked.{says, needs, Stays, stay-none, walkOf, goes-none, Walks, ends-at, walked, walk-meets}
 use denote.Exit.{yes}
-use Rattle.text.specs.Answers.{behindLine}
 use Rattle.text.specs.declared.reader.Reader.{Reader}
 use Rattle.text.proofs.reader.Reader as T
 use Rattle.text.proofs.reader.Reader.Laws as T′
@@ -60,7 +59,7 @@ module _ {M : Type 1} (𝓤 : URA M) (H : Heap 𝓤) (A : Atoms 𝓤) (W : Given
   d₁ = record { text = d .text; at = d .at + n; line = d .line }
 
   abbrev d′ : Reader
-  d′ = behindLine d n
+  d′ = record { text = d .text; at = d .at + n; line = d .line + 1 }
 
   abbrev at : Vals behind-line.signature (κ, tt)
   at = (mach ∷ [], (vint w64 n ∷ [], tt))
