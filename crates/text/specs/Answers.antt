@@ -2,9 +2,9 @@
 use Prim.Native.Nat.{ℕ, _+_, _*_, _/_, _≤_}
 use mathlib.Core.Path.{_≡_}
 use mathlib.Core.List.{List}
+use mathlib.Core.Bool.{cond}
 use lib.ListN.{length, drop}
 use lib.Seq.{sets}
-use mathlib.Core.Bool.{cond}
 use denote.Ref.{RefT}
 use Rattle.relations.specs.Limits.{cataloguePairLimit, storedColumnLimit, rowLimit, wordLimit, questionNodeWords}
 use Rattle.catalogue.specs.Judging.{catalogueWords}

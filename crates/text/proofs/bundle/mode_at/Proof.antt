@@ -4,35 +4,25 @@ use mathlib.Core.Path.{refl, sym, _∙_}
 use borrow.Author.Needs.{needs}
 use Rattle.text.proofs.bundle.mode_at.Statement.{statement}
 use Rattle.text.proofs.bundle.mode_at.Tie as tie
-use Rattle.text.proofs.bundle.mode_at.Reads as reads
-use Rattle.text.proofs.bundle.mode_at.Lts as lts
-use Rattle.text.proofs.lines.begins_with.Reads as begins-with-reads
 
--- src/bundle.rt:279:30
 slice-aggregate-begins-with : tie.Need-slice-aggregate-begins-with
 slice-aggregate-begins-with c = search needs
 
--- src/bundle.rt:279:8
 begins-with-requires : tie.Need-begins-with-requires
 begins-with-requires c κs = search needs
 
--- src/bundle.rt:280:9
 returns : tie.Need-returns
 returns c = rw (sym (c .before .begins-with .ensures) ∙ c .if1 .taken) refl
 
--- src/bundle.rt:282:30
 slice-aggregate-begins-with-2 : tie.Need-slice-aggregate-begins-with-2
 slice-aggregate-begins-with-2 c = search needs
 
--- src/bundle.rt:282:8
 begins-with-requires-2 : tie.Need-begins-with-requires-2
 begins-with-requires-2 c κs = search needs
 
--- src/bundle.rt:283:9
 returns-2 : tie.Need-returns-2
 returns-2 c = rw (sym (c .before .before .before .before .begins-with .ensures) ∙ c .before .before .before .if1 .left, sym (c .before .begins-with2 .ensures) ∙ c .if2 .taken) refl
 
--- src/bundle.rt:276:1
 returns-3 : tie.Need-returns-3
 returns-3 c = rw (sym (c .before .before .before .before .begins-with .ensures) ∙ c .before .before .before .if1 .left, sym (c .before .begins-with2 .ensures) ∙ c .if2 .left) refl
 

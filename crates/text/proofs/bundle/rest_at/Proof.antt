@@ -6,41 +6,30 @@ use Rattle.text.specs.declared.bundle.Mode.the-variants.{Of}
 use borrow.Author.Needs.{needs}
 use Rattle.text.proofs.bundle.rest_at.Statement.{statement}
 use Rattle.text.proofs.bundle.rest_at.Tie as tie
-use Rattle.text.proofs.bundle.rest_at.Reads as reads
-use Rattle.text.proofs.bundle.rest_at.Lts as lts
-use Rattle.text.proofs.bundle.read_behind_mode.Reads as read-behind-mode-reads
 
--- src/bundle.rt:302:18
 enum-known-mode : tie.Need-enum-known-mode
 enum-known-mode c = search needs
 
--- src/bundle.rt:303:13
 read-behind-mode-requires : tie.Need-read-behind-mode-requires
 read-behind-mode-requires c κs =
     let a = c .before .before .before .before .before .before .before .before .before .before .args in
     let placed : PlacedBehind (a .text .now) (a .at) (a .line) (Of (c .before .before .before .before .mode .given .0 .0)) = rw (c .before .before .before .before .mode .given .1) at (c .before .before .before .before .before .before .before .before .before .before .pre) in placed
 
--- src/bundle.rt:305:21
 enum-known-mode-2 : tie.Need-enum-known-mode-2
 enum-known-mode-2 c = search needs
 
--- src/bundle.rt:289:1
 same-length : tie.Need-same-length
 same-length c = search needs
 
--- src/bundle.rt:289:1
 same-length-2 : tie.Need-same-length-2
 same-length-2 c = search needs
 
--- src/bundle.rt:289:1
 same-length-3 : tie.Need-same-length-3
 same-length-3 c = search needs
 
--- src/bundle.rt:289:1
 returns : tie.Need-returns
 returns c = rw (c .before .before .before .before .before .before .before .before .before .before .before .mode .given .1) (c .before .before .before .before .before .before .read-behind-mode .ensures)
 
--- src/bundle.rt:289:1
 returns-2 : tie.Need-returns-2
 returns-2 c = rw (c .before .mode2 .given .1) (record { means = refl; catalogue = refl; tables = refl; question = refl })
 
