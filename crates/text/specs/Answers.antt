@@ -2,23 +2,36 @@
 use Prim.Native.Nat.{ℕ, _+_, _*_, _/_, _≤_}
 use mathlib.Core.Path.{_≡_}
 use mathlib.Core.List.{List}
+use mathlib.Core.Bool.{cond}
 use lib.ListN.{length, drop}
 use lib.Seq.{sets}
-use Rattle.relations.specs.Limits.{storedColumnLimit, rowLimit, wordLimit, questionNodeWords}
+use denote.Ref.{RefT}
+use Rattle.relations.specs.Limits.{cataloguePairLimit, storedColumnLimit, rowLimit, wordLimit, questionNodeWords}
 use Rattle.catalogue.specs.Judging.{catalogueWords}
+use Rattle.text.specs.Marks.{plainLine, shortLine}
 use Rattle.text.specs.Reading as reads
-use Rattle.text.specs.Reading.{value, noNumber, relation, noRelation, Next, goesOn, wrongAt, Read, Tables}
+use Rattle.text.specs.Reading.{value, noNumber, relation, noRelation, Next, goesOn, wrongAt, Read, Tables, begins, tablesOf, withTables, noBundle}
 use Rattle.text.specs.declared.lines.Cursor.{Cursor}
 use Rattle.text.specs.declared.lines.Number.{Number}
 use Rattle.text.specs.declared.lines.Number.the-variants.{Value, Wrong as NoValue}
 use Rattle.text.specs.declared.lines.Step.{Step}
 use Rattle.text.specs.declared.lines.Step.the-variants.{Next as Onward, Wrong as Stop}
+use Rattle.text.specs.declared.reader.Reader.{Reader}
+use Rattle.text.specs.declared.bundle.Mode.{Mode}
+use Rattle.text.specs.declared.bundle.Mode.the-variants.{Of as ModeOf, Wrong as NoMode}
 use Rattle.text.specs.declared.bundle.Relation.{Relation}
 use Rattle.text.specs.declared.bundle.Relation.the-variants.{Of, Wrong as NoPair}
 use Rattle.text.specs.declared.bundle.TablesRead.{TablesRead}
 use Rattle.text.specs.declared.bundle.NodesRead.{NodesRead}
 use Rattle.text.specs.declared.bundle.Lines.{Lines}
 use Rattle.text.specs.declared.bundle.Lines.the-variants.{Read as AllRead, Wrong as WrongLine}
+
+-- a reader: at the front of a text, and behind its line, which has so many bytes
+abbrev pub atFirstLine : RefT (List ℕ) → Reader
+atFirstLine text = record { text = text; at = 0; line = 1 }
+
+abbrev pub behindLine : Reader → ℕ → Reader
+behindLine reader bytes = record { text = reader .text; at = reader .at + bytes; line = reader .line + 1 }
 
 module _ (text : List ℕ) where
   -- a number: the position behind it stands for the bytes there, and lies in the text, at `from` or later
@@ -81,6 +94,19 @@ module _ (text : List ℕ) where
     pub means : found .next ≡ standing (answer .step)
     pub counted : {line : ℕ} {bytes : List ℕ} → found .next ≡ goesOn line bytes → questionNodeWords * answer .nodes ≡ length (found .words)
     pub words : after ≡ sets before 0 (found .words)
+
+-- the mode of a line, and the bundle that goes on behind it
+abbrev pub modeIn : (line : ℕ) → List ℕ → Mode
+modeIn line bytes = cond (begins plainLine bytes) (ModeOf 0) (cond (begins shortLine bytes) (ModeOf 1) (NoMode line))
+
+abbrev pub bundleBehind : (line : ℕ) → List ℕ → Mode → reads.Bundle
+bundleBehind line bytes (ModeOf mode) = withTables mode (tablesOf cataloguePairLimit 0 line bytes)
+bundleBehind line bytes (NoMode wrong) = noBundle wrong
+
+-- behind a mode the text goes on; of a wrong mode's line nothing is known, and nothing is read behind it
+abbrev pub PlacedBehind : (text : List ℕ) (at line : ℕ) → Mode → Type 0
+PlacedBehind text at line (ModeOf mode) = Placed text (record { at = at; line = line })
+PlacedBehind text at line (NoMode wrong) = Unit {0}
 
 -- all lines: the numbers of a bundle, or the wrong line
 abbrev pub linesAnswer : reads.Bundle → Next → Lines

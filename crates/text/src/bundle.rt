@@ -6,7 +6,7 @@ ghost use lib.ListN.{length, drop};
 ghost use Rattle.relations.specs.Limits.{cataloguePairLimit, wordLimit, questionNodeLimit};
 ghost use Rattle.text.specs.Marks.{relationKey};
 ghost use Rattle.text.specs.Reading.{relationOf, begins, tableOf, tablesOf, nodesOf, withTables, linesOf};
-ghost use Rattle.text.specs.Answers.{Placed, RelationRead, TablesFound, NodesFound, linesAnswer, BundleFound};
+ghost use Rattle.text.specs.Answers.{Placed, RelationRead, TablesFound, NodesFound, modeIn, PlacedBehind, bundleBehind, linesAnswer, BundleFound};
 ghost use Rattle.text.specs.ReadCall.{readNumbers, readOutcome};
 use crate::limits::BYTES;
 use crate::limits::NODE_WORDS;
@@ -19,10 +19,22 @@ use crate::lines::keep;
 use crate::lines::number_then;
 use crate::lines::read_line;
 use crate::lines::read_lines;
+use crate::reader::Reader;
+use crate::reader::at_first_line;
+use crate::reader::behind_line;
 use catalogue::judging::pair_ok;
 use catalogue::judging::wide;
 use catalogue::limits::PAIRS;
 use catalogue::limits::WORDS;
+
+// What a bundle's first line says: the mode's number, or that the line of that number is wrong.
+pub enum Mode {
+    Of(u32),
+    Wrong(usize),
+}
+
+// The bytes of a mode's line, its LF with them: "mode=plain" is as long as "mode=short".
+const MODE_BYTES: usize = 11;
 
 // What a relation line says, and the position behind it.
 pub enum Relation {
@@ -230,19 +242,19 @@ fn read_nodes(text: &[u8], start: Cursor, question: &mut [u32]) -> NodesRead
     }
 }
 
-// The lines behind the mode's.
+// The tables and the nodes, behind the mode's line.
 fn read_behind_mode(
     text: &[u8],
-    at: usize,
+    start: Cursor,
     mode: u32,
     catalogue: &mut [u32],
     tables: &mut [u32],
     question: &mut [u32],
 ) -> Lines
-    requires { ⌜ (at ≤ length (now text)) × (1 ≤ at) ⌝ }
-    ensures { λ r. ⌜ BundleFound (withTables mode (tablesOf cataloguePairLimit 0 2 (drop at (now (text .entry))))) (now (catalogue .entry)) (now (catalogue .exit)) (now (tables .entry)) (now (tables .exit)) (now (question .entry)) (now (question .exit)) r ⌝ }
+    requires { ⌜ Placed (now text) start ⌝ }
+    ensures { λ r. ⌜ BundleFound (withTables mode (tablesOf cataloguePairLimit 0 (start .line) (drop (start .at) (now (text .entry))))) (now (catalogue .entry)) (now (catalogue .exit)) (now (tables .entry)) (now (tables .exit)) (now (question .entry)) (now (question .exit)) r ⌝ }
 {
-    let read = read_tables(text, Cursor { at, line: 2 }, catalogue, tables);
+    let read = read_tables(text, start, catalogue, tables);
     let step = read.step;
     match step {
         Step::Wrong(wrong) => Lines::Wrong(wrong),
@@ -262,17 +274,84 @@ fn read_behind_mode(
     }
 }
 
-// Every line; each word is kept where there is room.
+// The mode of the line at `at`, which has the number `line`.
+fn mode_at(text: &[u8], at: usize, line: usize) -> Mode
+    ensures { λ r. ⌜ r ≡ modeIn line (drop at (now (text .entry))) ⌝ }
+{
+    if begins_with(text, at, b"mode=plain\n") {
+        return Mode::Of(0);
+    }
+    if begins_with(text, at, b"mode=short\n") {
+        return Mode::Of(1);
+    }
+    Mode::Wrong(line)
+}
+
+// The lines from `at` on, which stand behind the mode's; behind a wrong one none is read.
+fn rest_at(
+    text: &[u8],
+    at: usize,
+    line: usize,
+    mode: Mode,
+    catalogue: &mut [u32],
+    tables: &mut [u32],
+    question: &mut [u32],
+) -> Lines
+    requires { ⌜ PlacedBehind (now text) at line mode ⌝ }
+    ensures { λ r. ⌜ BundleFound (bundleBehind line (drop at (now (text .entry))) mode) (now (catalogue .entry)) (now (catalogue .exit)) (now (tables .entry)) (now (tables .exit)) (now (question .entry)) (now (question .exit)) r ⌝ }
+{
+    match mode {
+        Mode::Of(number) => {
+            read_behind_mode(
+                text,
+                Cursor { at, line },
+                number,
+                catalogue,
+                tables,
+                question,
+            )
+        }
+        Mode::Wrong(wrong) => Lines::Wrong(wrong),
+    }
+}
+
+// The mode of the line that the reader stands at.
+fn read_mode<'a>(reader: Reader<'a>) -> Mode
+    ensures { λ r. ⌜ r ≡ modeIn (reader .entry .line) (drop (reader .entry .at) (now (reader .entry .text))) ⌝ }
+{
+    mode_at(reader.text, reader.at, reader.line)
+}
+
+// The lines from where the reader stands, behind the mode's.
+fn read_rest<'a>(
+    reader: Reader<'a>,
+    mode: Mode,
+    catalogue: &mut [u32],
+    tables: &mut [u32],
+    question: &mut [u32],
+) -> Lines
+    requires { ⌜ PlacedBehind (now (reader .text)) (reader .at) (reader .line) mode ⌝ }
+    ensures { λ r. ⌜ BundleFound (bundleBehind (reader .entry .line) (drop (reader .entry .at) (now (reader .entry .text))) mode) (now (catalogue .entry)) (now (catalogue .exit)) (now (tables .entry)) (now (tables .exit)) (now (question .entry)) (now (question .exit)) r ⌝ }
+{
+    rest_at(
+        reader.text,
+        reader.at,
+        reader.line,
+        mode,
+        catalogue,
+        tables,
+        question,
+    )
+}
+
+// Every line; each word is kept where there is room. It goes through a reader, but its callers lend a plain text and see none.
 fn read_all(text: &[u8], catalogue: &mut [u32], tables: &mut [u32], question: &mut [u32]) -> Lines
     ensures { λ r. ⌜ BundleFound (linesOf (now (text .entry))) (now (catalogue .entry)) (now (catalogue .exit)) (now (tables .entry)) (now (tables .exit)) (now (question .entry)) (now (question .exit)) r ⌝ }
 {
-    if begins_with(text, 0, b"mode=plain\n") {
-        return read_behind_mode(text, 11, 0, catalogue, tables, question);
-    }
-    if begins_with(text, 0, b"mode=short\n") {
-        return read_behind_mode(text, 11, 1, catalogue, tables, question);
-    }
-    Lines::Wrong(1)
+    let first = at_first_line(text);
+    let mode = read_mode(first);
+    let second = behind_line(first, MODE_BYTES);
+    read_rest(second, mode, catalogue, tables, question)
 }
 
 // What `read_all` would answer, with no buffer written.

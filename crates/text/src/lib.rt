@@ -2,4 +2,5 @@
 pub mod bundle;
 pub mod limits;
 pub mod lines;
+pub mod reader;
 pub mod writing;

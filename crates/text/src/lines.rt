@@ -10,7 +10,8 @@ ghost use Rattle.text.specs.Reading.{number, moreDigits, numberThen, beg
 ghost use Rattle.text.specs.Answers.{NumberRead, Placed, LinesRead};
 use crate::limits::GREATEST;
 
-// Where a reader stands: the position of the byte that comes next, and the number of its line, from 1.
+// Where reading stands, as a plain value: the position of the byte that comes next, and the number of its line, from 1.
+// A step hands it back, and a loop goes on from it; a `Reader` would hold the text too, but no enum can hold one.
 pub struct Cursor {
     pub at: usize,
     pub line: usize,
