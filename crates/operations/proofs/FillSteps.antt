@@ -8,7 +8,8 @@ use lib.Seq.{sets}
 use Prim.Native.Nat.{ℕ, _+_, _*_, _-_, _≤_}
 use native.Mathlib.Omega.{arith}
 use Rattle.relations.specs.Lists.{All}
-use Rattle.relations.specs.Values.{Rows, Wide, Ascending, member, insertRow}
+use Rattle.relations.specs.Values.{Rows, Wide, Ascending, member, insertRow, placeRows}
+use Rattle.relations.proofs.PlaceLaws.{member-placeRows}
 use Rattle.relations.proofs.ValueLaws.{all-members}
 use Rattle.values.specs.Words.{rowIn, rowsAt, wordsOf}
 use Rattle.values.specs.Building.{done, build, answerOf, Builds}
@@ -16,7 +17,7 @@ use Rattle.values.specs.declared.placing.Placed.{Placed}
 use Rattle.values.specs.declared.placing.Placed.the-variants.{Rows as Made, Full}
 use Rattle.values.proofs.RowsLaws.{row-inside, length-rowsAt, length-value, value-words, rowsAt-wide, rowsAt-sets}
 use Rattle.values.proofs.PlaceLaws.{insert-there}
-use Rattle.values.proofs.BuildLaws.{insertAll, member-insertAll, build-put, build-cases, build-room}
+use Rattle.values.proofs.BuildLaws.{build-put, build-cases, build-room}
 use Rattle.values.proofs.FillLaws.{Filled, filled-part, filled-on, filled-off, filled-end}
 
 -- a candidate list put for an equal one
@@ -56,16 +57,16 @@ builds-again w out made candidates l h a m =
     record { answers = rw b (ap Made (sym (length-rowsAt w made out l))); words = rw b (value-words w made out l h); wide = rw b (rowsAt-wide w made out l h) }
 
 -- and rows that were put in are there
-all-there : (candidates value : Rows) → All (λ row. So (member row (insertAll candidates value))) candidates
-all-there candidates value = all-members (λ row. So (member row (insertAll candidates value))) candidates (λ row h. member-insertAll row candidates value ∙ rw h)
+all-there : (candidates value : Rows) → All (λ row. So (member row (placeRows candidates value))) candidates
+all-there candidates value = all-members (λ row. So (member row (placeRows candidates value))) candidates (λ row h. member-placeRows row candidates value ∙ rw h)
 
 pub builds-there : {w out made n : ℕ} {candidates : Rows} {before after : List ℕ} → out + made * w ≤ length before → Builds w out made candidates before after (Made n)
     → All (λ row. So (member row (rowsAt w n out after))) candidates
 builds-there {w} {out} {made} {n} {candidates} {before} {after} h g = go (build-cases (length before - out) candidates (rowsAt w made out before))
   where
-    go : (build (length before - out) candidates (rowsAt w made out before) ≡ done (insertAll candidates (rowsAt w made out before))) ⊎ (answerOf (build (length before - out) candidates (rowsAt w made out before)) ≡ Full) → All (λ row. So (member row (rowsAt w n out after))) candidates
+    go : (build (length before - out) candidates (rowsAt w made out before) ≡ done (placeRows candidates (rowsAt w made out before))) ⊎ (answerOf (build (length before - out) candidates (rowsAt w made out before)) ≡ Full) → All (λ row. So (member row (rowsAt w n out after))) candidates
     go (inl e) =
-        let u : Rows = insertAll candidates (rowsAt w made out before) in
+        let u : Rows = placeRows candidates (rowsAt w made out before) in
         let z : Made n ≡ Made (length u) = rw e at (g .answers) in
         let k : n ≡ length u = cc in
         let wide : Wide w u = rw e at (g .wide) in

@@ -46,7 +46,7 @@ equal-step list at zero left right h = absurd (omega arith)
 equal-step list at (suc more) left right h = let e : suc more - 1 ≡ more = omega arith in rw (e, drop-drop 2 at list)
 
 -- where a number is an operator's, it is the operator of that number
-operator-named : (number : ℕ) (o : Operator) → operatorOf number ≡ some o → operatorNamed number ≡ o
+pub operator-named : (number : ℕ) (o : Operator) → operatorOf number ≡ some o → operatorNamed number ≡ o
 operator-named number o h = go (eqb number 1) (eqb number 2) (eqb number 3) (eqb number 4) (eqb number 5) (eqb number 6) h
   where
     go : (a b c d e f : Bool)

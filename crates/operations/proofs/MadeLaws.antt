@@ -8,7 +8,8 @@ use lib.ListN.{length, getD, set, take, length-append}
 use lib.Seq.{sets, take-suc, take-suc-set}
 use Rattle.relations.specs.Rows.{Row}
 use Rattle.relations.specs.Columns.{Attribute, attribute, column, pick}
-use Rattle.values.proofs.WordLaws.{part-sets, sets-append}
+use Rattle.relations.proofs.StoreLaws.{sets-append}
+use Rattle.values.proofs.WordLaws.{part-sets}
 
 pub map-append : {A B : Type 0} (f : A → B) (xs ys : List A) → map f (xs ++ ys) ≡ map f xs ++ map f ys
 map-append f [] ys = refl

@@ -1,5 +1,6 @@
 pub mod BoolLaws
 pub mod ListLaws
+pub mod StoreLaws
 pub mod RowLaws
 pub mod ValueLaws
 pub mod PlaceLaws

@@ -26,7 +26,7 @@ use Rattle.values.specs.Building.{Builds}
 use Rattle.values.specs.declared.rows.Value.{Value}
 use Rattle.values.specs.declared.placing.Placed.{Placed}
 use Rattle.operations.specs.Lists.{operatorNamed, triplesIn}
-use Rattle.operations.proofs.ListLaws.{triples-read}
+use Rattle.operations.proofs.ListLaws.{operator-named, triples-read}
 use Rattle.catalogue.specs.Stored.{relationsOf, columnsOf, storedTables}
 use Rattle.plans.specs.Decoding.{operationIn, operationCode, decoded}
 use Rattle.plans.specs.Judging.{legalRead, widthOf}
@@ -63,11 +63,6 @@ triples-node make count list node e = go (readTriples count list) refl e
     go : (read : Option (List Triple)) → readTriples count list ≡ read → Option·map make read ≡ some node → make (triplesIn count list) ≡ node
     go none r e = let z : _≡_ {A = ℕ} 0 1 = cc in absurd (omega arith)
     go (some triples) r e = ap make (triples-read count list triples r) ∙ (let z : make triples ≡ node = cc in z)
-
-operator-named : (number : ℕ) (o : Operator) → operatorOf number ≡ some o → operatorNamed number ≡ o
-operator-named number o read =
-    let t : Triple = record { left = attribute 0; operator = o; right = attribute 0 } in
-    ap (λ (triples : List Triple). getD triples 0 t .operator) (triples-read 1 (0 ∷ number ∷ 0 ∷ []) (t ∷ []) (rw read))
 
 operator-node : (make : Operator → nodes.Node) (number : ℕ) (node : nodes.Node) → Option·map make (operatorOf number) ≡ some node → make (operatorNamed number) ≡ node
 operator-node make number node e = go (operatorOf number) refl e

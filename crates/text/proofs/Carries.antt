@@ -10,7 +10,7 @@ use lib.Seq.{sets}
 use Rattle.text.specs.Reading as reads
 use Rattle.text.specs.Reading.{Read, Next, goesOn, wrongAt, nothing, value, noNumber, orWrong, andThen, wordsThen}
 use Rattle.text.specs.Answers.{Placed, standing, PlacedStep, LinesRead}
-use Rattle.text.proofs.Stores.{sets-append}
+use Rattle.relations.proofs.StoreLaws.{sets-append}
 use Rattle.text.specs.declared.lines.Cursor.{Cursor}
 use Rattle.text.specs.declared.lines.Step.{Step}
 use Rattle.text.specs.declared.lines.Step.the-variants.{Next as Onward, Wrong as Stop}

@@ -13,7 +13,7 @@ use Rattle.text.specs.declared.lines.Cursor.{Cursor}
 use Rattle.text.specs.declared.lines.Step.{Step}
 use Rattle.text.specs.declared.lines.Step.the-variants.{Next as Onward, Wrong as Stop}
 use Rattle.text.specs.declared.bundle.TablesRead.{TablesRead}
-use Rattle.text.proofs.Stores.{sets-append}
+use Rattle.relations.proofs.StoreLaws.{sets-append}
 use Rattle.text.proofs.ReadingLaws.{TableAsText}
 
 pub record CarriesTables (whole rest : Tables) (catalogue₀ catalogue tables₀ tables : List ℕ) (pairs words : ℕ) : Type 0 where

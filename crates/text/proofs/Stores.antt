@@ -7,11 +7,8 @@ use native.Mathlib.Nat.{add-zero, add-suc, suc-add, mul-suc}
 use native.Mathlib.Numerals.{add-one}
 use lib.ListN.{length, set, length-append}
 use lib.Seq.{sets}
+use Rattle.relations.proofs.StoreLaws.{sets-append}
 use Rattle.text.specs.Put.{Put}
-
-pub sets-append : (l : List ℕ) (i : ℕ) (us vs : List ℕ) → sets l i (us ++ vs) ≡ sets (sets l i us) (i + length us) vs
-sets-append l i [] vs = rw add-zero
-sets-append l i (u ∷ us) vs = rw (add-suc i (length us), ← suc-add i (length us)) (sets-append (set l i u) (suc i) us vs)
 
 -- Of `bytes`, to be put into `before` from `at` on, there are still `rest` to be put into `now` from `next` on.
 pub record StillToPut (at : ℕ) (bytes before : List ℕ) (next : ℕ) (rest now : List ℕ) : Type 0 where

@@ -10,38 +10,11 @@ use lib.ListN.{length, length-append}
 use lib.Dec.{leb}
 use borrow.Author.Tests.{le-leb, lt-leb, leb-true, leb-false}
 use Rattle.relations.specs.Rows.{Row, rowBefore, sameRow}
-use Rattle.relations.specs.Values.{Rows, Wide, Ascending, member, insertRow, canonical}
-use Rattle.relations.proofs.ValueLaws.{extensional, ascending-canonical, member-canonical, member-insertRow, ascending-insertRow, all-insertRow}
+use Rattle.relations.specs.Values.{Rows, Wide, Ascending, member, insertRow, placeRows}
+use Rattle.relations.proofs.ValueLaws.{ascending-insertRow, all-insertRow}
 use Rattle.values.specs.Words.{wordsOf}
 use Rattle.values.specs.Building.{Built, done, stopped, build, answerOf, leftOf}
 use Rattle.values.specs.declared.placing.Placed.the-variants.{Rows as Made, Full}
-
--- all candidates put into a value
-abbrev pub insertAll : (candidates value : Rows) → Rows
-insertAll [] value = value
-insertAll (row ∷ candidates) value = insertAll candidates (insertRow row value)
-
-pub member-insertAll : (r : Row) (cs v : Rows) → member r (insertAll cs v) ≡ (member r cs || member r v)
-member-insertAll r [] v = refl
-member-insertAll r (c ∷ cs) v = member-insertAll r cs (insertRow c v) ∙ ap (λ b. member r cs || b) (member-insertRow r c v) ∙ swap (member r cs) (sameRow r c) (member r v)
-  where
-    swap : (a b c : Bool) → (a || (b || c)) ≡ ((b || a) || c)
-    swap true true c = refl
-    swap true false c = refl
-    swap false true c = refl
-    swap false false c = refl
-
-pub ascending-insertAll : (cs v : Rows) → Ascending v → Ascending (insertAll cs v)
-ascending-insertAll [] v a = a
-ascending-insertAll (c ∷ cs) v a = ascending-insertAll cs (insertRow c v) (ascending-insertRow c v a)
-
--- inserted from left to right into no row, the candidates make their canonical value
-pub insertAll-canonical : (cs : Rows) → insertAll cs [] ≡ canonical cs
-insertAll-canonical cs = extensional (insertAll cs []) (canonical cs) (ascending-insertAll cs [] tt) (ascending-canonical cs) (λ r. member-insertAll r cs [] ∙ or-none (member r cs) ∙ sym (member-canonical r cs))
-  where
-    or-none : (b : Bool) → (b || false) ≡ b
-    or-none true = refl
-    or-none false = refl
 
 -- one row
 
@@ -70,18 +43,18 @@ module _ (room : ℕ) (r : List ℕ) (rs v : Rows) where
   unfolding build
   build-full h = rw (lt-leb _ _ h)
 
-pub insertAll-grows : (rs v : Rows) → length (wordsOf v) ≤ length (wordsOf (insertAll rs v))
-insertAll-grows [] v = omega arith
-insertAll-grows (r ∷ rs) v = omega (arith, insert-grows r v, insertAll-grows rs (insertRow r v))
+pub placeRows-grows : (rs v : Rows) → length (wordsOf v) ≤ length (wordsOf (placeRows rs v))
+placeRows-grows [] v = omega arith
+placeRows-grows (r ∷ rs) v = omega (arith, insert-grows r v, placeRows-grows rs (insertRow r v))
 
 -- it is made exactly when the whole of it has room
-pub build-fits : (room : ℕ) (rs v : Rows) → length (wordsOf (insertAll rs v)) ≤ room → build room rs v ≡ done (insertAll rs v)
+pub build-fits : (room : ℕ) (rs v : Rows) → length (wordsOf (placeRows rs v)) ≤ room → build room rs v ≡ done (placeRows rs v)
 unfolding build
 build-fits room [] v h = refl
 build-fits room (r ∷ rs) v h =
-    build-put room r rs v (omega (arith, insertAll-grows rs (insertRow r v))) ∙ build-fits room rs (insertRow r v) h
+    build-put room r rs v (omega (arith, placeRows-grows rs (insertRow r v))) ∙ build-fits room rs (insertRow r v) h
 
-pub build-over : (room : ℕ) (rs v : Rows) → length (wordsOf v) ≤ room → room < length (wordsOf (insertAll rs v)) → answerOf (build room rs v) ≡ Full
+pub build-over : (room : ℕ) (rs v : Rows) → length (wordsOf v) ≤ room → room < length (wordsOf (placeRows rs v)) → answerOf (build room rs v) ≡ Full
 unfolding build
 build-over room [] v k h = absurd (omega arith)
 build-over room (r ∷ rs) v k h = go (leb (length (wordsOf (insertRow r v))) room) refl (λ x. build-over room rs (insertRow r v) x h)
@@ -91,14 +64,14 @@ build-over room (r ∷ rs) v k h = go (leb (length (wordsOf (insertRow r v))) ro
     go true q ih = rw q (ih (leb-true _ _ q))
     go false q ih = rw q
 
-pub build-cases : (room : ℕ) (rs v : Rows) → (build room rs v ≡ done (insertAll rs v)) ⊎ (answerOf (build room rs v) ≡ Full)
+pub build-cases : (room : ℕ) (rs v : Rows) → (build room rs v ≡ done (placeRows rs v)) ⊎ (answerOf (build room rs v) ≡ Full)
 unfolding build
 build-cases room [] v = inl refl
 build-cases room (r ∷ rs) v = go (leb (length (wordsOf (insertRow r v))) room) refl (build-cases room rs (insertRow r v))
   where
     go : (b : Bool) → leb (length (wordsOf (insertRow r v))) room ≡ b
-        → (build room rs (insertRow r v) ≡ done (insertAll rs (insertRow r v))) ⊎ (answerOf (build room rs (insertRow r v)) ≡ Full)
-        → (cond (leb (length (wordsOf (insertRow r v))) room) (build room rs (insertRow r v)) (stopped v) ≡ done (insertAll rs (insertRow r v)))
+        → (build room rs (insertRow r v) ≡ done (placeRows rs (insertRow r v))) ⊎ (answerOf (build room rs (insertRow r v)) ≡ Full)
+        → (cond (leb (length (wordsOf (insertRow r v))) room) (build room rs (insertRow r v)) (stopped v) ≡ done (placeRows rs (insertRow r v)))
         ⊎ (answerOf (cond (leb (length (wordsOf (insertRow r v))) room) (build room rs (insertRow r v)) (stopped v)) ≡ Full)
     go true q ih = rw q ih
     go false q ih = inr (rw q)

@@ -10,7 +10,8 @@ use lib.ListN.{length}
 use lib.Seq.{sets, length-sets}
 use lib.Dec.{leb}
 use borrow.Author.Tests.{leb-true, leb-false}
-use Rattle.relations.specs.Values.{Rows, Wide, Ascending, canonical}
+use Rattle.relations.specs.Values.{Rows, Wide, Ascending, canonical, placeRows}
+use Rattle.relations.proofs.PlaceLaws.{placeRows-canonical}
 use Rattle.relations.proofs.WidthLaws.{wide-canonical}
 use Rattle.values.specs.Words.{part, rowsAt, wordsOf}
 use Rattle.values.specs.Building.{Built, done, stopped, build, answerOf, leftOf, Builds}
@@ -18,7 +19,7 @@ use Rattle.values.specs.declared.placing.Placed.{Placed}
 use Rattle.values.specs.declared.placing.Placed.the-variants.{Rows as Made, Full}
 use Rattle.values.proofs.WordLaws.{sets-again, part-before}
 use Rattle.values.proofs.RowsLaws.{rowsAt-wide, length-rowsAt, length-words, rowsAt-before, rowsAt-sets, rowsAt-none, value-words, length-value, words-none}
-use Rattle.values.proofs.BuildLaws.{insertAll, insertAll-canonical, build-fits, build-cases, build-append, thenBuild, build-grows, build-room, build-ascending, went, refused}
+use Rattle.values.proofs.BuildLaws.{build-fits, build-cases, build-append, thenBuild, build-grows, build-room, build-ascending, went, refused}
 
 -- Of all candidates, to be put into the value of `rows` rows in `before`, those of `todo` are still to be put into the value of `made` rows in `now`.
 pub record Filled (width out rows made : ℕ) (all todo : Rows) (before now : List ℕ) : Type 0 where
@@ -137,8 +138,8 @@ module _ {w out n : ℕ} {cs : Rows} {before after : List ℕ} (inside : out ≤
   unfolding build rowsAt
   made-value = go (build-cases (length before - out) cs [])
     where
-      go : (build (length before - out) cs [] ≡ done (insertAll cs [])) ⊎ (answerOf (build (length before - out) cs []) ≡ Full) → rowsAt w n out after ≡ canonical cs
-      go (inl e) = let z : done (rowsAt w n out after) ≡ done (insertAll cs []) = sym (made-filled .next) ∙ e in let y : rowsAt w n out after ≡ insertAll cs [] = cc in y ∙ insertAll-canonical cs
+      go : (build (length before - out) cs [] ≡ done (placeRows cs [])) ⊎ (answerOf (build (length before - out) cs []) ≡ Full) → rowsAt w n out after ≡ canonical cs
+      go (inl e) = let z : done (rowsAt w n out after) ≡ done (placeRows cs []) = sym (made-filled .next) ∙ e in let y : rowsAt w n out after ≡ placeRows cs [] = cc in y ∙ placeRows-canonical cs
       go (inr e) = let z : Made n ≡ Full = g .answers ∙ e in let y : _≡_ {A = ℕ} 0 1 = cc in absurd (omega arith)
 
   pub made-count : n ≡ length (canonical cs)
@@ -151,10 +152,10 @@ module _ {w out n : ℕ} {cs : Rows} {before after : List ℕ} (inside : out ≤
 pub made-full : {w out : ℕ} {cs : Rows} {before after : List ℕ} → Builds w out 0 cs before after Full → Wide w cs → length before - out < length (canonical cs) * w
 unfolding rowsAt
 made-full {w} {out} {cs} {before} {after} g h =
-    rw (ap length (ap wordsOf (insertAll-canonical cs)) ∙ length-words w (canonical cs) (wide-canonical w cs h)) at (go (leb (length (wordsOf (insertAll cs []))) (length before - out)) refl)
+    rw (ap length (ap wordsOf (placeRows-canonical cs)) ∙ length-words w (canonical cs) (wide-canonical w cs h)) at (go (leb (length (wordsOf (placeRows cs []))) (length before - out)) refl)
   where
-    go : (b : Bool) → leb (length (wordsOf (insertAll cs []))) (length before - out) ≡ b → length before - out < length (wordsOf (insertAll cs []))
+    go : (b : Bool) → leb (length (wordsOf (placeRows cs []))) (length before - out) ≡ b → length before - out < length (wordsOf (placeRows cs []))
     go true q =
-        let z : Full ≡ Made (length (insertAll cs [])) = rw (build-fits (length before - out) cs [] (leb-true _ _ q)) at (g .answers) in
+        let z : Full ≡ Made (length (placeRows cs [])) = rw (build-fits (length before - out) cs [] (leb-true _ _ q)) at (g .answers) in
         let y : _≡_ {A = ℕ} 0 1 = cc in absurd (omega arith)
     go false q = leb-false _ _ q

@@ -10,7 +10,8 @@ use borrow.Author.Tests.{le-leb}
 use Rattle.relations.specs.Rows.{Row}
 use Rattle.relations.specs.Values.{Rows, Wide}
 use Rattle.values.specs.Words.{part, rowIn, rowsAt, wordsOf}
-use Rattle.values.proofs.WordLaws.{length-part, part-add, sets-append, sets-part, part-sets, part-before}
+use Rattle.relations.proofs.StoreLaws.{sets-append}
+use Rattle.values.proofs.WordLaws.{length-part, part-add, sets-part, part-sets, part-before}
 
 -- a row that is wholly inside
 pub row-inside : (words : List ℕ) (start width : ℕ) → start + width ≤ length words → rowIn words start width ≡ part start width words

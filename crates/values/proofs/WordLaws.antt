@@ -8,6 +8,7 @@ use mathlib.Core.Logic.{_≢_}
 use mathlib.Core.List.{List, [], _∷_, _++_, append-assoc, append-nil}
 use lib.ListN.{length, getD, set, take, drop, length-set, length-take, length-drop, length-append, take-append-drop}
 use lib.Seq.{sets, length-sets, sets-eq, take-set-le, drop-set-lt, getD-set-other, getD-set-same, set-comm, set-set, take-append-le, drop-append-le, take-at, drop-at, length-take-le, take-suc, take-suc-set, drop-cons, getD-drop, getD-take, drop-drop, take-take, take-nil, drop-nil, take-add, ext-getD}
+use Rattle.relations.proofs.StoreLaws.{sets-append}
 use Rattle.values.specs.Words.{part}
 
 pub length-part : (a n : ℕ) (l : List ℕ) → a + n ≤ length l → length (part a n l) ≡ n
@@ -53,12 +54,6 @@ sets-sets l p i [] vs h = refl
 sets-sets l p i (u ∷ us) vs h =
     ap (λ (r : List ℕ). sets r (suc p) us) (set-sets l p i u vs (omega arith))
     ∙ sets-sets (set l p u) (suc p) i us vs (omega arith)
-
-pub sets-append : (l : List ℕ) (i : ℕ) (us vs : List ℕ) → sets l i (us ++ vs) ≡ sets (sets l i us) (i + length us) vs
-sets-append l i [] vs = ap (λ (k : ℕ). sets l k vs) (sym (add-zero i))
-sets-append l i (u ∷ us) vs =
-    sets-append (set l i u) (suc i) us vs
-    ∙ ap (λ (k : ℕ). sets (sets (set l i u) (suc i) us) k vs) (omega arith)
 
 -- what is stored already changes nothing
 pub sets-part : (n : ℕ) (l : List ℕ) (a : ℕ) → a + n ≤ length l → sets l a (part a n l) ≡ l
