@@ -20,20 +20,20 @@ use Rattle.catalogue.specs.Stored.{relationsOf, columnsOf}
 use Rattle.question.specs.Nodes.{nodeAt}
 use Rattle.question.specs.Trees.{alphaOf}
 use Rattle.question.specs.declared.node.Node.the-variants.{Binding}
-use Rattle.translation.specs.Listings.{listing, Longer, numbersOf}
-use Rattle.translation.specs.Readings.{rangeAt, targetsAt, bindingsAt, restrictionAt}
-use Rattle.translation.specs.Scopes.{emptyScope, scopeOf, ScopeFits, Extended}
+use Rattle.emission.specs.Listings.{listing, Longer, numbersOf}
+use Rattle.conditions.specs.Readings.{rangeAt, targetsAt, bindingsAt, restrictionAt}
+use Rattle.conditions.specs.Scopes.{emptyScope, scopeOf, ScopeFits, Extended}
 use Rattle.translation.specs.Translating.{Inside, Names, RangeReady, RangeDone, BindingsReady, BindingsDone, ConditionReady}
-use Rattle.translation.specs.Written.{Room, Written}
-use Rattle.translation.specs.declared.emit.Listing.{Listing}
-use Rattle.translation.specs.declared.scope.Scope.{Scope}
+use Rattle.emission.specs.Written.{Room, Written}
+use Rattle.emission.specs.declared.emit.Listing.{Listing}
+use Rattle.conditions.specs.declared.scope.Scope.{Scope}
 use Rattle.translation.specs.declared.translate.Bound.{Bound}
 use Rattle.translation.specs.declared.translate.Made.{Made}
 use Rattle.translation.proofs.BindingSteps.{Chain, chain}
 use Rattle.translation.proofs.RangeSteps.{going-on, lower-call, some-columns}
-use Rattle.translation.proofs.RuleLaws.{written-as}
-use Rattle.translation.proofs.ScopeLaws.{empty-fits}
-use Rattle.translation.proofs.WrittenLaws.{room-after, room-less}
+use Rattle.short_rules.proofs.RuleLaws.{written-as}
+use Rattle.conditions.proofs.ScopeLaws.{empty-fits}
+use Rattle.emission.proofs.WrittenLaws.{room-after, room-less}
 
 -- what an alpha was asked with, read by its first binding
 pub record AlphaAsked (catalogue words plan : List ℕ) (t n target binding condition variable range next : ℕ) : Type 0 where

@@ -22,17 +22,17 @@ use Rattle.question.specs.declared.node.Node as question
 use Rattle.question.specs.declared.node.Node.the-variants.{Table, Alpha, Target, Binding, RangeOr, RangeAnd, RangeAndNot, Atom as AtomNode, And, Or, Not, Some, Every, IllFormed}
 use Rattle.question.proofs.Forms.{lower, second-of, references-lower}
 use Rattle.question.proofs.node.Node.{the-type}
-use Rattle.translation.specs.Readings.{rangeAt, bindingsAt}
-use Rattle.translation.specs.Scopes.{scopeOf, ScopeFits, Extended}
+use Rattle.conditions.specs.Readings.{rangeAt, bindingsAt}
+use Rattle.conditions.specs.Scopes.{scopeOf, ScopeFits, Extended}
 use Rattle.translation.specs.Translating.{Inside, Names, RangeReady, RangeDone, BindingsReady, BindingsDone}
-use Rattle.translation.specs.Written.{Room, Written}
-use Rattle.translation.specs.declared.scope.Scope.{Scope}
+use Rattle.emission.specs.Written.{Room, Written}
+use Rattle.conditions.specs.declared.scope.Scope.{Scope}
 use Rattle.translation.specs.declared.translate.Bound.{Bound}
 use Rattle.translation.specs.declared.translate.Made.{Made}
-use Rattle.translation.proofs.Readings.{fits-in, bindings-is}
-use Rattle.translation.proofs.RuleLaws.{written-as}
+use Rattle.conditions.proofs.Readings.{fits-in, bindings-is}
+use Rattle.short_rules.proofs.RuleLaws.{written-as}
 use Rattle.translation.proofs.RangeSteps.{Below, going-on, lower-call, some-columns}
-use Rattle.translation.proofs.WrittenLaws.{written-nothing, written-then, room-after, room-less}
+use Rattle.emission.proofs.WrittenLaws.{written-nothing, written-then, room-after, room-less}
 
 -- a node that is a binding: where its range and the next binding are, and what it reads as
 pub record Chain (words : List ℕ) (reference variable range next : ℕ) : Type 0 where

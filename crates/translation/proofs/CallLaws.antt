@@ -32,7 +32,7 @@ use Rattle.question.proofs.Accepted.{accepted-right, accepted-passed}
 use Rattle.question.proofs.Counts.{counted}
 use Rattle.translation.specs.TranslateCall.{TranslateOutcome, planOf, planBufferWords, unwritten, written, judgedOutcome, behindCatalogue, isShort, translateOutcome}
 use Rattle.translation.specs.HeavyCount.{heavyIn}
-use Rattle.translation.specs.Written.{Room, Written}
+use Rattle.emission.specs.Written.{Room, Written}
 use Rattle.translation.specs.Translating.{Names, RangeReady, RangeDone}
 use Rattle.translation.specs.declared.translate.Made.{Made}
 use Rattle.translation.proofs.HeavyLaws.{heavy-written}

@@ -25,16 +25,16 @@ use Rattle.question.specs.declared.node.Node.the-variants.{Table, Alpha, Target
 use Rattle.question.specs.declared.node.Atom as question-atom
 use Rattle.question.proofs.node.Node.{the-type}
 use Rattle.question.proofs.Forms.{lower, second-of, third-of}
-use Rattle.translation.specs.Readings.{rangeAt, restrictionAt, conditionAt}
-use Rattle.translation.specs.Scopes.{scopeOf}
-use Rattle.translation.specs.Atoms.{AtomNarrow}
-use Rattle.translation.specs.Written.{Room, Written}
+use Rattle.conditions.specs.Readings.{rangeAt, restrictionAt, conditionAt}
+use Rattle.conditions.specs.Scopes.{scopeOf}
+use Rattle.conditions.specs.Atoms.{AtomNarrow}
+use Rattle.emission.specs.Written.{Room, Written}
 use Rattle.translation.specs.Translating.{Names, ConditionReady}
-use Rattle.translation.specs.declared.scope.Scope.{Scope}
-use Rattle.translation.proofs.Readings.{fits-in, two-conditions, restriction-is}
-use Rattle.translation.proofs.LeafLaws.{found-narrow}
-use Rattle.translation.proofs.WrittenLaws.{written-then, written-nothing, room-after, room-less, last-is}
-use Rattle.translation.proofs.RuleLaws.{written-as}
+use Rattle.conditions.specs.declared.scope.Scope.{Scope}
+use Rattle.conditions.proofs.Readings.{fits-in, two-conditions, restriction-is}
+use Rattle.conditions.proofs.LeafLaws.{found-narrow}
+use Rattle.emission.proofs.WrittenLaws.{written-then, written-nothing, room-after, room-less, last-is}
+use Rattle.short_rules.proofs.RuleLaws.{written-as}
 
 -- a part of the node that a reference names
 module _ (words : List ℕ) (reference : ℕ) where

@@ -29,18 +29,18 @@ use Rattle.question.specs.declared.node.Node.{Node as QuestionNode}
 use Rattle.question.specs.declared.node.Node.the-variants.{Table, Alpha, Target, Binding, RangeOr, RangeAnd, RangeAndNot, Atom as AtomNode, And, Or, Not, Some, Every, IllFormed}
 use Rattle.question.proofs.node.Node.{the-type}
 use Rattle.question.proofs.Forms.{lower, second-of, third-of}
-use Rattle.translation.specs.Leaves.{atomsOf, LeavesOf}
-use Rattle.translation.specs.Readings.{rangeAt, conditionAt}
-use Rattle.translation.specs.Rules.{selectsBehind, dividendBehind, divisionBehind, DividendFits}
-use Rattle.translation.specs.Scopes.{scopeOf}
+use Rattle.conditions.specs.Leaves.{atomsOf, LeavesOf}
+use Rattle.conditions.specs.Readings.{rangeAt, conditionAt}
+use Rattle.short_rules.specs.Rules.{selectsBehind, dividendBehind, divisionBehind, DividendFits}
+use Rattle.conditions.specs.Scopes.{scopeOf}
 use Rattle.translation.specs.Translating.{Names, RangeDone, DivisionReady}
-use Rattle.translation.specs.Written.{Written}
-use Rattle.translation.specs.declared.leaves.Leaves.{Leaves}
-use Rattle.translation.specs.declared.scope.Scope.{Scope}
+use Rattle.emission.specs.Written.{Written}
+use Rattle.conditions.specs.declared.leaves.Leaves.{Leaves}
+use Rattle.conditions.specs.declared.scope.Scope.{Scope}
 use Rattle.translation.specs.declared.translate.Made.{Made}
-use Rattle.translation.proofs.Readings.{fits-in, condition-is}
-use Rattle.translation.proofs.RuleLaws.{written-as}
-use Rattle.translation.proofs.WrittenLaws.{room-less}
+use Rattle.conditions.proofs.Readings.{fits-in, condition-is}
+use Rattle.short_rules.proofs.RuleLaws.{written-as}
+use Rattle.emission.proofs.WrittenLaws.{room-less}
 use Rattle.translation.proofs.QuantifierSteps.{QuantifierReady, quantifier-ready, some-columns, few-columns, room-behind, leaves-few, filter-size, behind-range, written-behind}
 
 -- S5 fits no condition but a "some"

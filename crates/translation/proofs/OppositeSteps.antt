@@ -26,17 +26,17 @@ use Rattle.question.specs.Trees.{Reading, readingOf}
 use Rattle.question.specs.declared.node.Node as question
 use Rattle.question.specs.declared.node.Node.the-variants.{Table, Alpha, Target as TargetNode, Binding, RangeOr, RangeAnd, RangeAndNot, Atom as AtomNode, And, Or, Not, Some, Every, IllFormed}
 use Rattle.question.proofs.node.Node.{the-type}
-use Rattle.translation.specs.Readings.{conditionAt}
-use Rattle.translation.specs.Leaves.{atomsOf, Collectable, LeavesOf, noLeaves}
-use Rattle.translation.specs.Rules.{selectsBehind, antijoinBehind, RuleFits}
-use Rattle.translation.specs.Written.{Written}
+use Rattle.conditions.specs.Readings.{conditionAt}
+use Rattle.conditions.specs.Leaves.{atomsOf, Collectable, LeavesOf, noLeaves}
+use Rattle.short_rules.specs.Rules.{selectsBehind, antijoinBehind, RuleFits}
+use Rattle.emission.specs.Written.{Written}
 use Rattle.translation.specs.Translating.{Names, RangeReady, RangeDone}
-use Rattle.translation.specs.declared.scope.Scope.{Scope}
-use Rattle.translation.specs.declared.leaves.Leaves.{Leaves}
+use Rattle.conditions.specs.declared.scope.Scope.{Scope}
+use Rattle.conditions.specs.declared.leaves.Leaves.{Leaves}
 use Rattle.translation.specs.declared.translate.Made.{Made}
-use Rattle.translation.proofs.LeafLaws.{nothing-collected}
-use Rattle.translation.proofs.WrittenLaws.{written-then, room-after, room-less}
-use Rattle.translation.proofs.RuleLaws.{written-as}
+use Rattle.conditions.proofs.LeafLaws.{nothing-collected}
+use Rattle.emission.proofs.WrittenLaws.{written-then, room-after, room-less}
+use Rattle.short_rules.proofs.RuleLaws.{written-as}
 use Rattle.translation.proofs.ConditionSteps.{Ready}
 
 -- no condition has more leaves than nodes

@@ -26,20 +26,20 @@ use Rattle.question.specs.Accepted.{HasColumns}
 use Rattle.question.specs.Trees.{Tree, nothing, branch, treeOf, Reading, reading, readingOf}
 use Rattle.question.specs.declared.node.Node.{Node as QuestionNode}
 use Rattle.question.specs.declared.node.Node.the-variants.{Table, Alpha, Target, Binding, RangeOr, RangeAnd, RangeAndNot, Atom as AtomNode, And, Or, Not, Some, Every, IllFormed}
-use Rattle.translation.specs.Leaves.{atomsOf, LeavesFit, Collectable, LeavesOf, noLeaves, opposites}
-use Rattle.translation.specs.Listings.{listing, Longer, numbersOf}
-use Rattle.translation.specs.Readings.{conditionAt, restrictionAt}
-use Rattle.translation.specs.Rules.{selectsBehind, semijoinBehind, antijoinBehind, RuleFits}
-use Rattle.translation.specs.Scopes.{scopeOf, ScopeFits, Extended}
+use Rattle.conditions.specs.Leaves.{atomsOf, LeavesFit, Collectable, LeavesOf, noLeaves, opposites}
+use Rattle.emission.specs.Listings.{listing, Longer, numbersOf}
+use Rattle.conditions.specs.Readings.{conditionAt, restrictionAt}
+use Rattle.short_rules.specs.Rules.{selectsBehind, semijoinBehind, antijoinBehind, RuleFits}
+use Rattle.conditions.specs.Scopes.{scopeOf, ScopeFits, Extended}
 use Rattle.translation.specs.Translating.{Names, RangeReady, RangeDone, ConditionReady, InsideReady, DivisionReady}
-use Rattle.translation.specs.Written.{Room, Written}
-use Rattle.translation.specs.declared.emit.Listing.{Listing}
-use Rattle.translation.specs.declared.leaves.Leaves.{Leaves}
-use Rattle.translation.specs.declared.scope.Scope.{Scope}
+use Rattle.emission.specs.Written.{Room, Written}
+use Rattle.emission.specs.declared.emit.Listing.{Listing}
+use Rattle.conditions.specs.declared.leaves.Leaves.{Leaves}
+use Rattle.conditions.specs.declared.scope.Scope.{Scope}
 use Rattle.translation.specs.declared.translate.Made.{Made}
-use Rattle.translation.proofs.LeafLaws.{nothing-collected, opposite-atoms}
-use Rattle.translation.proofs.RuleLaws.{written-as}
-use Rattle.translation.proofs.WrittenLaws.{written-then, room-after, room-less, pred-is}
+use Rattle.conditions.proofs.LeafLaws.{nothing-collected, opposite-atoms}
+use Rattle.short_rules.proofs.RuleLaws.{written-as}
+use Rattle.emission.proofs.WrittenLaws.{written-then, room-after, room-less, pred-is}
 
 -- a condition of good form is one: a node of another sort reads as an atom of attribute 0, which no variable has
 module _ (columns : ℕ → ℕ) (relations : ℕ) (s : calculus.Scope) where

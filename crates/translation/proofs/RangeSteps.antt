@@ -26,13 +26,13 @@ use Rattle.question.specs.declared.node.Node as question
 use Rattle.question.specs.declared.node.Node.the-variants.{Table, Alpha, Target, Binding, RangeOr, RangeAnd, RangeAndNot, Atom as AtomNode, And, Or, Not, Some, Every, IllFormed}
 use Rattle.question.proofs.Forms.{lower, second-of, references-lower}
 use Rattle.question.proofs.node.Node.{the-type}
-use Rattle.translation.specs.Readings.{rangeAt, targetsAt, bindingsAt, restrictionAt}
+use Rattle.conditions.specs.Readings.{rangeAt, targetsAt, bindingsAt, restrictionAt}
 use Rattle.translation.specs.Translating.{Inside, Names, RangeReady, RangeDone}
-use Rattle.translation.specs.Written.{Room, Written}
+use Rattle.emission.specs.Written.{Room, Written}
 use Rattle.translation.specs.declared.translate.Made.{Made}
-use Rattle.translation.proofs.Readings.{fits-in, range-is}
-use Rattle.translation.proofs.RuleLaws.{written-as}
-use Rattle.translation.proofs.WrittenLaws.{written-then, room-after, room-less, last-is}
+use Rattle.conditions.proofs.Readings.{fits-in, range-is}
+use Rattle.short_rules.proofs.RuleLaws.{written-as}
+use Rattle.emission.proofs.WrittenLaws.{written-then, room-after, room-less, last-is}
 
 -- nodes that go on behind those written, from the last of them
 pub going-on : {before middle after : List ℕ} {n m count : ℕ} {xs : List Node} (T : ℕ → ℕ → List Node) → Written before n xs middle m → Written middle m (T (m - 1) m) after count → Written before n (xs ++ T (lastNumber n xs) (n + length xs)) after count

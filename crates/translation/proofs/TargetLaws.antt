@@ -17,8 +17,8 @@ use Rattle.question.specs.Trees.{Reading, targetOf, readingOf}
 use Rattle.question.specs.declared.node.Node.{Node}
 use Rattle.question.specs.declared.node.Node.the-variants.{Table, Alpha, Target as TargetNode, Binding, RangeOr, RangeAnd, RangeAndNot, Atom as AtomNode, And, Or, Not, Some, Every, IllFormed}
 use Rattle.question.proofs.node.Node.{the-type}
-use Rattle.translation.specs.Listings.{numbersOf}
-use Rattle.translation.proofs.RuleLaws.{numbers-append}
+use Rattle.emission.specs.Listings.{numbersOf}
+use Rattle.short_rules.proofs.RuleLaws.{numbers-append}
 
 pub whole-target : (variable : ℕ) {number : ℕ} → number ≡ 0 → targetOf variable number ≡ wholeRow variable
 whole-target variable e = ap (targetOf variable) e

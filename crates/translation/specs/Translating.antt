@@ -11,9 +11,9 @@ use Rattle.calculus.specs.Form.{widthOfRange, scopeOfBindings, GoodRange, GoodB
 use Rattle.calculus.specs.Translation.{translateRange, translateBindings}
 use Rattle.catalogue.specs.Stored.{relationsOf, columnsOf}
 use Rattle.question.specs.Accepted.{HasColumns}
-use Rattle.translation.specs.Scopes.{scopeOf, ScopeFits}
-use Rattle.translation.specs.Written.{Room, Written}
-use Rattle.translation.specs.declared.scope.Scope.{Scope}
+use Rattle.conditions.specs.Scopes.{scopeOf, ScopeFits}
+use Rattle.emission.specs.Written.{Room, Written}
+use Rattle.conditions.specs.declared.scope.Scope.{Scope}
 use Rattle.translation.specs.declared.translate.Made.{Made}
 use Rattle.translation.specs.declared.translate.Bound.{Bound}
 

@@ -8,7 +8,7 @@ ghost use Rattle.question.specs.Judgement.{judged};
 ghost use Rattle.question.specs.declared.judgement.Judgement.the-variants.{Accepted};
 ghost use Rattle.translation.specs.TranslateCall.{translateNumbers, planBufferWords, written, behindCatalogue, translateOutcome};
 use crate::heavy::count_heavy;
-use crate::limits::PLAN_WORDS;
+use emission::limits::PLAN_WORDS;
 use crate::translate::translate_range;
 use catalogue::judging::Judged;
 use catalogue::judging::judge_catalogue;

@@ -32,25 +32,25 @@ use Rattle.translation.proofs.translate.translate_some.Reads as transla
 use Rattle.translation.proofs.translate.translate_some.Kinds as translate-some-kinds
 use Rattle.translation.proofs.translate.+translate_alpha+translate_bindings+translate_condition+translate_division+translate_every+translate_inside+translate_opposite+translate_range+translate_some.Lts-translate_some as translate-some-lts
 use Rattle.question.proofs.node.decode.Reads as decode-reads
-use Rattle.translation.proofs.emit.intersect.Reads as intersect-reads
-use Rattle.translation.proofs.emit.no_list.Reads as no-list-reads
-use Rattle.translation.proofs.emit.product.Reads as product-reads
-use Rattle.translation.proofs.emit.project.Reads as project-reads
-use Rattle.translation.proofs.emit.subtract.Reads as subtract-reads
-use Rattle.translation.proofs.emit.unite.Reads as unite-reads
-use Rattle.translation.proofs.leaves.leaves_of.Reads as leaves-of-reads
-use Rattle.translation.proofs.rules.short_rule_2_fits.Reads as short-rule-2-fits-reads
-use Rattle.translation.proofs.rules.short_rule_4_fits.Reads as short-rule-4-fits-reads
-use Rattle.translation.proofs.rules.with_columns.Reads as with-columns-reads
-use Rattle.translation.proofs.rules.write_project.Reads as write-project-reads
-use Rattle.translation.proofs.rules.write_select.Reads as write-select-reads
-use Rattle.translation.proofs.rules.write_short_rule_2.Reads as write-short-rule-2-reads
-use Rattle.translation.proofs.rules.write_short_rule_3.Reads as write-short-rule-3-reads
-use Rattle.translation.proofs.rules.write_short_rule_4.Reads as write-short-rule-4-reads
-use Rattle.translation.proofs.rules.write_short_rule_5.Reads as write-short-rule-5-reads
-use Rattle.translation.proofs.rules.write_short_rule_6.Reads as write-short-rule-6-reads
-use Rattle.translation.proofs.scope.empty.Reads as empty-reads
-use Rattle.translation.proofs.scope.extend.Reads as extend-reads
+use Rattle.emission.proofs.emit.intersect.Reads as intersect-reads
+use Rattle.emission.proofs.emit.no_list.Reads as no-list-reads
+use Rattle.emission.proofs.emit.product.Reads as product-reads
+use Rattle.emission.proofs.emit.project.Reads as project-reads
+use Rattle.emission.proofs.emit.subtract.Reads as subtract-reads
+use Rattle.emission.proofs.emit.unite.Reads as unite-reads
+use Rattle.conditions.proofs.leaves.leaves_of.Reads as leaves-of-reads
+use Rattle.short_rules.proofs.rules.short_rule_2_fits.Reads as short-rule-2-fits-reads
+use Rattle.short_rules.proofs.rules.short_rule_4_fits.Reads as short-rule-4-fits-reads
+use Rattle.short_rules.proofs.rules.with_columns.Reads as with-columns-reads
+use Rattle.short_rules.proofs.rules.write_project.Reads as write-project-reads
+use Rattle.short_rules.proofs.rules.write_select.Reads as write-select-reads
+use Rattle.short_rules.proofs.rules.write_short_rule_2.Reads as write-short-rule-2-reads
+use Rattle.short_rules.proofs.rules.write_short_rule_3.Reads as write-short-rule-3-reads
+use Rattle.short_rules.proofs.rules.write_short_rule_4.Reads as write-short-rule-4-reads
+use Rattle.short_rules.proofs.rules.write_short_rule_5.Reads as write-short-rule-5-reads
+use Rattle.short_rules.proofs.rules.write_short_rule_6.Reads as write-short-rule-6-reads
+use Rattle.conditions.proofs.scope.empty.Reads as empty-reads
+use Rattle.conditions.proofs.scope.extend.Reads as extend-reads
 use Rattle.translation.proofs.translate.division_fits.Reads as division-fits-reads
 use Rattle.translation.proofs.translate.opposite_fits.Reads as opposite-fits-reads
 use Rattle.translation.proofs.translate.translate_table.Reads as translate-table-reads
@@ -66,7 +66,7 @@ use Rattle.question.specs.declared.node.Node.the-variants.{Table, Alpha}
 use Rattle.relations.specs.Nodes.{unite, intersect, subtract}
 use mathlib.Core.Path.{sym, _∙_}
 use Rattle.translation.proofs.BindingSteps.{Chain, chain, call-bound, room-product, scope-grows, call-next, bindings-done, no-more-done, no-bindings}
-use Rattle.translation.proofs.Readings.{named, range-is, bindings-is, bindings-none}
+use Rattle.conditions.proofs.Readings.{named, range-is, bindings-is, bindings-none}
 use Rattle.translation.proofs.AlphaSteps.{AlphaAsked, alpha-asked, call-first, scope-starts, call-rest, some-joined, call-condition, some-kept, list-targets, room-project, alpha-done, no-alpha}
 use Prim.Native.Nat.{_-_}
 use mathlib.Core.Path.{_≡_, sym, ap, _∙_}
@@ -76,16 +76,16 @@ use Rattle.calculus.specs.Scope.{columnsIn, allColumns}
 use Rattle.calculus.specs.ShortRules.{shortRule5Fits}
 use Rattle.question.specs.Nodes.{nodeAt}
 use Rattle.question.specs.declared.node.Node.the-variants.{Some}
-use Rattle.translation.specs.Readings.{conditionAt}
-use Rattle.translation.specs.Scopes.{scopeOf}
-use Rattle.translation.proofs.Readings.{condition-is}
-use Rattle.translation.proofs.WrittenLaws.{room-after, room-less}
+use Rattle.conditions.specs.Readings.{conditionAt}
+use Rattle.conditions.specs.Scopes.{scopeOf}
+use Rattle.conditions.proofs.Readings.{condition-is}
+use Rattle.emission.proofs.WrittenLaws.{room-after, room-less}
 use Rattle.translation.proofs.QuantifierSteps.{inside-restricts, columns-room, columns-listed, collectable, some-ready, every-ready, range-ready, few-nodes, inside-ready, division-ready, room-plain, inside-condition-ready, inside-written, rule-test, rule-2-ready, rule-4-ready, some-by-rule-2, every-by-rule-4, every-by-rule-5, some-plain, every-plain}
 use Rattle.translation.proofs.DivisionSteps.{not-divided, range-below, range-named, condition-named, divided-ready, dividend-fits, division-written}
 use Rattle.translation.proofs.ConditionSteps.{TwoSides, OneInner, Quantified, AtomHere, atom-step, and-step, or-step, not-step, some-step, every-step, no-restriction, few-nodes as few-below, good-of, ready-at, ready-less, left-ready, left-written, right-ready, right-written, room-behind-both, inner-ready, inner-written, room-behind-inner, written-restriction, written-none, atom-written, and-written, or-written, not-written, opposite-written}
-use Rattle.translation.proofs.Readings.{named, condition-is, restriction-is, restriction-none}
-use Rattle.translation.specs.Readings.{rangeAt, conditionAt}
-use Rattle.translation.specs.Scopes.{scopeOf}
+use Rattle.conditions.proofs.Readings.{named, condition-is, restriction-is, restriction-none}
+use Rattle.conditions.specs.Readings.{rangeAt, conditionAt}
+use Rattle.conditions.specs.Scopes.{scopeOf}
 use Rattle.translation.specs.Translating.{Names}
 use Rattle.catalogue.specs.Stored.{relationsOf, columnsOf}
 use Rattle.question.specs.Nodes.{nodeAt}
@@ -94,7 +94,7 @@ use Rattle.question.specs.Trees.{atomOf}
 use Rattle.calculus.specs.Question.{Condition, atom, conditionAnd, conditionOr, forSome, forEvery}
 use Rattle.calculus.specs.Form.{GoodCondition}
 use Rattle.relations.proofs.BoolLaws.{and-right}
-use Rattle.translation.specs.declared.scope.Scope.{Scope}
+use Rattle.conditions.specs.declared.scope.Scope.{Scope}
 use mathlib.Core.List.{List}
 use mathlib.Core.Bool.{_&&_}
 use mathlib.Core.Path.{_≡_, sym, ap, subst, _∙_}

@@ -1,11 +1,11 @@
 use Rattle.relations.specs.Columns.{Attribute}
 use lib.ListN.{length-map}
 use Rattle.translation.proofs.TargetLaws.{targets-next, no-targets}
-use Rattle.translation.proofs.Readings.{fits-in, named, targets-is, targets-none}
-use Rattle.translation.proofs.ListingLaws.{longer-then, longer-none}
-use Rattle.translation.specs.Listings.{Longer, numbersOf}
-use Rattle.translation.specs.Readings.{targetsAt}
-use Rattle.translation.specs.Scopes.{scopeOf}
+use Rattle.conditions.proofs.Readings.{fits-in, named, targets-is, targets-none}
+use Rattle.emission.proofs.ListingLaws.{longer-then, longer-none}
+use Rattle.emission.specs.Listings.{Longer, numbersOf}
+use Rattle.conditions.specs.Readings.{targetsAt}
+use Rattle.conditions.specs.Scopes.{scopeOf}
 use Rattle.question.proofs.Forms.{references-lower}
 use Rattle.question.specs.declared.node.Node.the-variants.{Target}
 use Rattle.question.specs.Trees.{targetOf}

@@ -1,7 +1,7 @@
 use Rattle.translation.proofs.OppositeSteps.{collectable-below, some-nodes-below, conjoined-atoms, oppositeFits, some-opposite}
 use Rattle.translation.proofs.ConditionSteps.{some-parts}
-use Rattle.translation.proofs.Readings.{condition-is, reads-as-leaf}
-use Rattle.translation.specs.Readings.{rangeAt, conditionAt}
+use Rattle.conditions.proofs.Readings.{condition-is, reads-as-leaf}
+use Rattle.conditions.specs.Readings.{rangeAt, conditionAt}
 use Rattle.question.specs.Nodes.{nodeAt}
 use Rattle.question.specs.declared.node.Node.the-variants.{And, Or, Not, Some, Every}
 use Rattle.calculus.specs.Question.{forSome}
@@ -15,8 +15,8 @@ use Rattle.translation.proofs.translate.opposite_fits.Tie as tie
 use Rattle.translation.proofs.translate.opposite_fits.Reads as reads
 use Rattle.translation.proofs.translate.opposite_fits.Lts as lts
 use Rattle.question.proofs.node.decode.Reads as decode-reads
-use Rattle.translation.proofs.leaves.leaves_of.Reads as leaves-of-reads
-use Rattle.translation.proofs.rules.short_rule_2_fits.Reads as short-rule-2-fits-reads
+use Rattle.conditions.proofs.leaves.leaves_of.Reads as leaves-of-reads
+use Rattle.short_rules.proofs.rules.short_rule_2_fits.Reads as short-rule-2-fits-reads
 
 -- the "some" that was decoded: its parts, and what it reads as
 some-node : (c : tie.After-known-told) → Some (c .before .node .given .0 .0) (c .before .node .given .0 .1 .0) (c .before .node .given .0 .1 .1 .0) ≡ nodeAt (c .before .before .before .before .before .args .words .now) (c .before .before .before .before .before .args .reference - 1)

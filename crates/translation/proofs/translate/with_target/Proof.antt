@@ -1,6 +1,6 @@
 use Rattle.translation.proofs.TargetLaws.{whole-target, one-target, width-inside}
-use Rattle.translation.specs.Listings.{Longer, numbersOf}
-use Rattle.translation.specs.Scopes.{scopeOf}
+use Rattle.emission.specs.Listings.{Longer, numbersOf}
+use Rattle.conditions.specs.Scopes.{scopeOf}
 use Rattle.calculus.proofs.LegalColumns.{column-at-most}
 use Rattle.calculus.proofs.ScopeLaws.{columns-length}
 use Rattle.calculus.specs.Form.{GoodTarget}

@@ -1,0 +1,32 @@
+use mathlib.Core.Path.{_≡_, sym, ap, _∙_}
+use Rattle.relations.specs.Columns.{attribute}
+use Rattle.relations.specs.Comparison.{Operator, operatorNumber, opposite}
+use Rattle.calculus.specs.Question.{compare}
+use Rattle.question.specs.Trees.{operandOf}
+use Rattle.conditions.specs.Atoms.{operatorNamed}
+use Rattle.conditions.proofs.AtomLaws.{made-of}
+use native.Mathlib.Omega.{arith}
+use borrow.Author.Needs.{needs}
+use Rattle.conditions.proofs.atom.opposite_atom.Statement.{statement}
+use Rattle.conditions.proofs.atom.opposite_atom.Tie as tie
+use Rattle.conditions.proofs.atom.opposite_atom.Reads as reads
+use Rattle.conditions.proofs.atom.opposite_atom.Lts as lts
+use Rattle.conditions.proofs.atom.opposite.Reads as opposite-reads
+
+-- src/atom.rt:53:19
+opposite-requires : tie.Need-opposite-requires
+opposite-requires c κs = search needs
+
+-- src/atom.rt:44:1
+returns : tie.Need-returns
+returns c =
+    let s = c .before .before in
+    let a = s .args .atom in
+    let o : Operator = opposite (operatorNamed (a .operator)) in
+    let e : operatorNamed (c .opposite .result) ≡ o = made-of o (c .opposite .ensures) in (
+      ap (λ (p : Operator). compare (a .variable) (attribute (a .attribute .0)) p (operandOf (a .operand))) e,
+      record { attribute = s .pre .attribute; operand = s .pre .operand; operator = c .opposite .ensures ∙ ap operatorNumber (sym e) },
+    )
+
+pub opposite-atom-spec : {M : Type 1} → statement M
+opposite-atom-spec = tie.close (tie.spec opposite-requires returns)

@@ -1,0 +1,5 @@
+-- Stores, a node's list
+pub mod Stores
+pub mod ListingLaws
+-- What is written
+pub mod WrittenLaws

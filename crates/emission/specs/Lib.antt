@@ -1,0 +1,3 @@
+-- A node's list, and what a call leaves that appends nodes
+pub mod Listings
+pub mod Written

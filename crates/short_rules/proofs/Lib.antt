@@ -1,0 +1,4 @@
+-- S1
+pub mod ProjectLaws
+-- The other rules
+pub mod RuleLaws

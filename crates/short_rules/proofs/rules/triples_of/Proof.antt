@@ -1,0 +1,102 @@
+use Rattle.conditions.specs.Leaves.{leafAt}
+use Rattle.calculus.specs.Question as calculus
+use Prim.Native.Nat.{ℕ, _-_}
+use Rattle.short_rules.proofs.RuleLaws.{rest, triples-next, triples-fit}
+use Rattle.emission.proofs.ListingLaws.{longer-then, longer-none}
+use Rattle.emission.specs.declared.emit.Listing.{Listing}
+use Rattle.emission.specs.Listings.{listing, Longer}
+use Rattle.conditions.specs.Leaves.{atomsOf}
+use Rattle.conditions.specs.Scopes.{scopeOf}
+use Rattle.calculus.specs.ShortRules.{triplesOf}
+use Rattle.relations.specs.PlanWords.{tripleWords}
+use Rattle.relations.specs.Lists.{flat}
+use lib.ListN.{length, length-append}
+use mathlib.Core.List.{List, [], _∷_}
+use mathlib.Core.Path.{_≡_, refl, ap, subst, sym, _∙_}
+use Prim.Native.Nat.{_+_, _≤_}
+use borrow.Author.Needs.{needs}
+use native.Mathlib.Omega.{arith}
+use Rattle.short_rules.proofs.rules.triples_of.Statement.{statement}
+use Rattle.short_rules.proofs.rules.triples_of.Tie as tie
+use Rattle.short_rules.proofs.rules.triples_of.Reads as reads
+use Rattle.short_rules.proofs.rules.triples_of.Lts as lts
+use Rattle.emission.proofs.emit.no_list.Reads as no-list-reads
+use Rattle.conditions.proofs.leaves.leaf.Reads as leaf-reads
+use Rattle.short_rules.proofs.rules.with_triple_of.Reads as with-triple-of-reads
+
+abbrev Inv-loop : tie.InvT-loop
+Inv-loop words scope x leaves list₀ i₀ left₀ list i left = (i + left ≡ leaves .count)
+    × (list .used + length (flat tripleWords (triplesOf (scopeOf scope) x (rest words leaves i left))) ≤ 32)
+    × ((r : Listing) → Longer list (flat tripleWords (triplesOf (scopeOf scope) x (rest words leaves i left))) r → r ≡ listing (flat tripleWords (triplesOf (scopeOf scope) x (atomsOf words leaves))))
+
+abbrev μ-loop : tie.MeasureT-loop
+μ-loop words scope x leaves list₀ i₀ left₀ list i left = left
+
+-- src/rules.rt:142:9
+no-list-requires : tie.Need-no-list-requires Inv-loop μ-loop
+no-list-requires c κs = tt
+
+-- src/rules.rt:145:5
+loop-holds : tie.Need-loop-holds Inv-loop μ-loop
+loop-holds c = (omega arith, omega (arith, ap (λ (l : Listing). l .used) (c .no-list .ensures), triples-fit (scopeOf (c .before .before .args .scope)) (c .before .before .args .x) (atomsOf (c .before .before .args .words .now) (c .before .before .args .leaves)) (c .before .before .pre .2)), λ r l. l .holds [] (c .no-list .ensures))
+
+-- src/rules.rt:146:47
+leaf-requires : tie.Need-leaf-requires Inv-loop μ-loop
+leaf-requires c κs = (c .before .before .before .before .pre .1, omega arith)
+
+-- src/rules.rt:146:9
+with-triple-of-requires : tie.Need-with-triple-of-requires Inv-loop μ-loop
+with-triple-of-requires c κs = let s = c .before .before .before .before .before in
+    let l = c .before .before .loop in
+    let words = s .args .words .now in
+    let e = triples-next words (s .args .leaves) (l .i) (l .left) (omega arith) (scopeOf (s .args .scope)) (s .args .x) in
+    let a = ap (λ (b : calculus.Atom). flat tripleWords (triplesOf (scopeOf (s .args .scope)) (s .args .x) (b ∷ []))) (c .leaf .ensures .0) in
+    let m = length-append (flat tripleWords (triplesOf (scopeOf (s .args .scope)) (s .args .x) (leafAt words (s .args .leaves) (l .i) ∷ []))) (flat tripleWords (triplesOf (scopeOf (s .args .scope)) (s .args .x) (rest words (s .args .leaves) (l .i + 1) (l .left - 1)))) in
+    (s .pre .0, c .leaf .ensures .1, omega (arith, l .inv .1, ap length e, ap length a, m))
+
+-- src/rules.rt:147:9
+add-i : tie.Need-add-i Inv-loop μ-loop
+add-i c = omega arith
+
+-- src/rules.rt:148:9
+sub-left : tie.Need-sub-left Inv-loop μ-loop
+sub-left c = omega arith
+
+-- src/rules.rt:145:5
+loop-less : tie.Need-loop-less Inv-loop μ-loop
+loop-less c = omega arith
+
+-- src/rules.rt:145:5
+loop-again : tie.Need-loop-again Inv-loop μ-loop
+loop-again c = let s = c .before .before .before .before .before .before in
+    let l = c .before .before .before .loop in
+    let words = s .args .words .now in
+    let e = triples-next words (s .args .leaves) (l .i) (l .left) (omega arith) (scopeOf (s .args .scope)) (s .args .x) in
+    let a = ap (λ (b : calculus.Atom). flat tripleWords (triplesOf (scopeOf (s .args .scope)) (s .args .x) (b ∷ []))) (c .before .leaf .ensures .0) in
+    let m = length-append (flat tripleWords (triplesOf (scopeOf (s .args .scope)) (s .args .x) (leafAt words (s .args .leaves) (l .i) ∷ []))) (flat tripleWords (triplesOf (scopeOf (s .args .scope)) (s .args .x) (rest words (s .args .leaves) (l .i + 1) (l .left - 1)))) in (
+      omega arith,
+      omega (arith, l .inv .1, c .with-triple-of .ensures .grown, ap length e, ap length a, m),
+      λ r longer. l .inv .2 r (subst (λ (more : List ℕ). Longer (l .list) more r) (sym e) (longer-then (subst (λ (more : List ℕ). Longer (l .list) more (c .with-triple-of .result)) a (c .with-triple-of .ensures)) longer)),
+    )
+
+-- src/rules.rt:138:1
+returns : tie.Need-returns Inv-loop μ-loop
+returns c = let l = c .before .loop in
+    let e : l .left ≡ 0 = omega arith in
+    l .inv .2 (l .list) (rw e (longer-none (l .list)))
+
+pub triples-of-spec : {M : Type 1} → statement M
+triples-of-spec =
+    tie.close
+    (tie.spec
+    Inv-loop
+    μ-loop
+    no-list-requires
+    loop-holds
+    leaf-requires
+    with-triple-of-requires
+    add-i
+    sub-left
+    loop-less
+    loop-again
+    returns)

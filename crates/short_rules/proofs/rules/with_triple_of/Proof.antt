@@ -1,0 +1,104 @@
+use mathlib.Core.Bool.{true}
+use Rattle.calculus.specs.Leaves.{comparesWithOther}
+use Rattle.short_rules.proofs.RuleLaws.{not-true, not-false, three, triple-turned, triple-straight, triple-none}
+use Rattle.emission.proofs.ListingLaws.{longer-none}
+use Rattle.emission.specs.Listings.{Longer}
+use Rattle.conditions.specs.Scopes.{scopeOf}
+use Rattle.conditions.specs.Atoms.{operatorNamed}
+use Rattle.question.specs.Trees.{operandOf, atomOf}
+use Rattle.calculus.specs.Scope.{columnNumber}
+use Rattle.relations.specs.Columns.{attribute}
+use lib.ListN.{length}
+use mathlib.Core.List.{List, []}
+use mathlib.Core.Path.{_≡_, refl, sym, ap, ap₂, subst, _∙_}
+use Prim.Native.Nat.{ℕ}
+use native.Mathlib.Omega.{arith}
+use borrow.Author.Needs.{needs}
+use Rattle.short_rules.proofs.rules.with_triple_of.Statement.{statement}
+use Rattle.short_rules.proofs.rules.with_triple_of.Tie as tie
+use Rattle.short_rules.proofs.rules.with_triple_of.Reads as reads
+use Rattle.short_rules.proofs.rules.with_triple_of.Lts as lts
+use Rattle.conditions.proofs.atom.compares_with_other.Reads as compares-with-other-reads
+use Rattle.conditions.proofs.atom.other_attribute.Reads as other-attribute-reads
+use Rattle.conditions.proofs.atom.other_variable.Reads as other-variable-reads
+use Rattle.conditions.proofs.atom.own_attribute.Reads as own-attribute-reads
+use Rattle.conditions.proofs.atom.turned.Reads as turned-reads
+use Rattle.emission.proofs.emit.with_triple.Reads as with-triple-reads
+use Rattle.conditions.proofs.scope.column_of.Reads as column-of-reads
+
+-- src/rules.rt:127:9
+compares-with-other-requires : tie.Need-compares-with-other-requires
+compares-with-other-requires c κs = search needs
+
+-- src/rules.rt:128:9
+returns : tie.Need-returns
+returns c = let s = c .before .before in
+    subst (λ (more : List ℕ). Longer (s .args .list) more (s .args .list)) (sym (triple-none (scopeOf (s .args .scope)) (s .args .x) (atomOf (s .args .atom)) (sym (c .before .compares-with-other .ensures) ∙ not-true _ (c .if1 .taken)))) (longer-none (s .args .list))
+
+-- src/rules.rt:130:9
+own-attribute-requires : tie.Need-own-attribute-requires
+own-attribute-requires c κs = search needs
+
+-- src/rules.rt:131:34
+other-variable-requires : tie.Need-other-variable-requires
+other-variable-requires c κs = search needs
+
+-- src/rules.rt:131:59
+other-attribute-requires : tie.Need-other-attribute-requires
+other-attribute-requires c κs = search needs
+
+-- src/rules.rt:131:9
+column-of-requires : tie.Need-column-of-requires
+column-of-requires c κs = search needs
+
+-- src/rules.rt:133:41
+turned-requires : tie.Need-turned-requires
+turned-requires c κs = search needs
+
+-- src/rules.rt:133:9
+with-triple-requires : tie.Need-with-triple-requires
+with-triple-requires c κs = let s = c .before .before .before .before .before .before .before .before .before in
+    let a = s .args .atom in
+    let h : comparesWithOther (s .args .x) (atomOf a) ≡ true = sym (c .before .before .before .before .before .before .before .before .compares-with-other .ensures) ∙ not-false _ (c .before .before .before .before .before .before .before .if1 .left) in
+    let e = triple-turned (scopeOf (s .args .scope)) (s .args .x) (a .variable) (attribute (a .attribute .0)) (operatorNamed (a .operator)) (operandOf (a .operand)) h (c .before .if2 .taken) in
+    omega (arith, s .pre .2, ap length e)
+
+-- src/rules.rt:133:9
+returns-2 : tie.Need-returns-2
+returns-2 c = let s = c .before .before .before .before .before .before .before .before .before .before in
+    let a = s .args .atom in
+    let h : comparesWithOther (s .args .x) (atomOf a) ≡ true = sym (c .before .before .before .before .before .before .before .before .before .compares-with-other .ensures) ∙ not-false _ (c .before .before .before .before .before .before .before .before .if1 .left) in
+    let e = triple-turned (scopeOf (s .args .scope)) (s .args .x) (a .variable) (attribute (a .attribute .0)) (operatorNamed (a .operator)) (operandOf (a .operand)) h (c .before .before .if2 .taken) in
+    subst (λ (more : List ℕ). Longer (s .args .list) more (c .with-triple .result)) (sym (e ∙ three (sym (c .before .before .before .before .column-of .ensures ∙ ap₂ (columnNumber (scopeOf (s .args .scope))) (c .before .before .before .before .before .before .other-variable .ensures) (c .before .before .before .before .before .other-attribute .ensures .0))) (sym (c .before .turned .ensures)) (sym (c .before .before .before .before .before .before .before .own-attribute .ensures)))) (c .with-triple .ensures)
+
+-- src/rules.rt:135:5
+with-triple-requires-2 : tie.Need-with-triple-requires-2
+with-triple-requires-2 c κs = let s = c .before .before .before .before .before .before .before .before in
+    let a = s .args .atom in
+    let h : comparesWithOther (s .args .x) (atomOf a) ≡ true = sym (c .before .before .before .before .before .before .before .compares-with-other .ensures) ∙ not-false _ (c .before .before .before .before .before .before .if1 .left) in
+    let e = triple-straight (scopeOf (s .args .scope)) (s .args .x) (a .variable) (attribute (a .attribute .0)) (operatorNamed (a .operator)) (operandOf (a .operand)) h (c .if2 .left) in
+    omega (arith, s .pre .2, ap length e)
+
+-- src/rules.rt:123:1
+returns-3 : tie.Need-returns-3
+returns-3 c = let s = c .before .before .before .before .before .before .before .before .before in
+    let a = s .args .atom in
+    let h : comparesWithOther (s .args .x) (atomOf a) ≡ true = sym (c .before .before .before .before .before .before .before .before .compares-with-other .ensures) ∙ not-false _ (c .before .before .before .before .before .before .before .if1 .left) in
+    let e = triple-straight (scopeOf (s .args .scope)) (s .args .x) (a .variable) (attribute (a .attribute .0)) (operatorNamed (a .operator)) (operandOf (a .operand)) h (c .before .if2 .left) in
+    subst (λ (more : List ℕ). Longer (s .args .list) more (c .with-triple2 .result)) (sym (e ∙ three (sym (c .before .before .before .column-of .ensures ∙ ap₂ (columnNumber (scopeOf (s .args .scope))) (c .before .before .before .before .before .other-variable .ensures) (c .before .before .before .before .other-attribute .ensures .0))) (sym (s .pre .1 .operator)) (sym (c .before .before .before .before .before .before .own-attribute .ensures)))) (c .with-triple2 .ensures)
+
+pub with-triple-of-spec : {M : Type 1} → statement M
+with-triple-of-spec =
+    tie.close
+    (tie.spec
+    compares-with-other-requires
+    returns
+    own-attribute-requires
+    other-variable-requires
+    other-attribute-requires
+    column-of-requires
+    turned-requires
+    with-triple-requires
+    returns-2
+    with-triple-requires-2
+    returns-3)

@@ -1,0 +1,46 @@
+use Rattle.short_rules.proofs.RuleLaws.{written-as}
+use Rattle.conditions.proofs.ScopeLaws.{empty-fits}
+use Rattle.conditions.specs.declared.scope.Scope.{Scope}
+use Rattle.conditions.specs.Leaves.{atomsOf}
+use Rattle.conditions.specs.Scopes.{scopeOf, ScopeFits}
+use Rattle.calculus.specs.ShortRules.{selectNodes}
+use Rattle.calculus.specs.Scope as calculus
+use Rattle.calculus.specs.Leaves.{aloneOn}
+use Rattle.relations.specs.Lists.{filter}
+use mathlib.Core.Path.{_≡_, sym, ap, subst, _∙_}
+use Prim.Native.Nat.{ℕ, pred}
+use native.Mathlib.Omega.{arith}
+use borrow.Author.Needs.{needs}
+use Rattle.short_rules.proofs.rules.write_own_selects.Statement.{statement}
+use Rattle.short_rules.proofs.rules.write_own_selects.Tie as tie
+use Rattle.short_rules.proofs.rules.write_own_selects.Reads as reads
+use Rattle.short_rules.proofs.rules.write_own_selects.Lts as lts
+use Rattle.short_rules.proofs.rules.write_selects.Reads as write-selects-reads
+use Rattle.conditions.proofs.scope.empty.Reads as empty-reads
+use Rattle.conditions.proofs.scope.extend.Reads as extend-reads
+
+-- src/rules.rt:193:22
+empty-requires : tie.Need-empty-requires
+empty-requires c κs = search needs
+
+-- src/rules.rt:193:9
+extend-requires : tie.Need-extend-requires
+extend-requires c κs = (subst ScopeFits (sym (c .empty .ensures)) empty-fits, c .before .before .before .pre .1, omega (arith, c .before .before .before .pre .2, ap (λ (s : Scope). s .columns) (c .empty .ensures)))
+
+-- src/rules.rt:194:5
+write-selects-requires : tie.Need-write-selects-requires
+write-selects-requires c κs = search needs
+
+-- src/rules.rt:189:1
+same-length : tie.Need-same-length
+same-length c = search needs
+
+-- src/rules.rt:189:1
+returns : tie.Need-returns
+returns c = let s = c .before .before .before .before .before .before .before .before in
+    let e = c .before .before .before .before .extend .ensures .stands ∙ ap (λ (o : Scope). calculus.extend (scopeOf o) (s .args .x) (s .args .width)) (c .before .before .before .before .before .empty .ensures) in
+    written-as (ap (λ (o : calculus.Scope). selectNodes o (filter (aloneOn (s .args .x)) (atomsOf (s .args .words .now) (s .args .leaves))) (pred (s .args .n)) (s .args .n)) (sym e)) (c .before .before .write-selects .ensures)
+
+pub write-own-selects-spec : {M : Type 1} → statement M
+write-own-selects-spec =
+    tie.close (tie.spec empty-requires extend-requires write-selects-requires same-length returns)
