@@ -1,8 +1,8 @@
 -- Leaves collected one behind another, and the atoms that they stand for. Assumes nothing.
 use Prim.Native.Nat.{ℕ, zero, suc, _+_, _*_, _-_, _≤_, _<_}
 use mathlib.Core.Path.{_≡_, refl, sym, ap, ap₂, subst, _∙_}
-use mathlib.Core.Bool.{Bool, true, false, cond, _&&_, _||_, and-true}
-use mathlib.Core.List.{List, [], _∷_, _++_, map, append-assoc}
+use mathlib.Core.Bool.{Bool, true, false, cond, _&&_, _||_, and-true, and-false}
+use mathlib.Core.List.{List, [], _∷_, _++_, map, append-assoc, append-nil}
 use mathlib.Core.Logic.{⊎-elim}
 use native.Mathlib.Nat.{zero-add, eq-or-lt-of-le}
 use native.Mathlib.Numerals.{add-one}
@@ -17,6 +17,7 @@ use Rattle.relations.specs.Limits.{columnLimit, questionNodeLimit, questionNode
 use Rattle.relations.specs.Comparison.{operatorNumber}
 use Rattle.relations.proofs.BoolLaws.{and-left, and-right}
 use Rattle.calculus.specs.Question as calculus
+use Rattle.calculus.proofs.SizeTheorem.{leaves-size}
 use Rattle.calculus.specs.Leaves.{isAndTree, isOrTree, leaves, oppositeAtom}
 use Rattle.question.specs.Limits.{variableCount, operatorCount}
 use Rattle.question.specs.Nodes.{kindNamed, fits, operandFits, nodeAt}
@@ -32,13 +33,9 @@ use Rattle.conditions.specs.Entries.{entries}
 use Rattle.conditions.specs.Atoms.{operatorNamed, OperandNarrow, AtomNarrow}
 use Rattle.conditions.specs.Leaves.{emptyAtom, atomIn, leafOf, leafAt, atomsOf, LeavesFit, Collectable, Collected, LeavesOf, noLeaves, withLeaf, joinedBy, opposites}
 use Rattle.conditions.specs.declared.leaves.Leaves.{Leaves}
-use Rattle.conditions.specs.Readings.{conditionAt}
+use Rattle.conditions.specs.Readings.{Names, conditionAt}
 use Rattle.conditions.proofs.Readings.{fits-in}
 use Rattle.conditions.proofs.EntryLaws.{entries-last, entries-same}
-
-append-nil : {A : Type 0} (l : List A) → l ++ [] ≡ l
-append-nil [] = refl
-append-nil (x ∷ l) = ap (λ rest. x ∷ rest) (append-nil l)
 
 -- an atom of the table is narrow
 
@@ -112,6 +109,9 @@ module _ (words : List ℕ) (i : ℕ) {node : Node} {found : Atom} (e : node ≡
 
 -- one leaf, two trees, no tree
 
+no-tree : (a b : Bool) → (a && false) ≡ (b && false)
+no-tree a b = and-false a ∙ sym (and-false b)
+
 and-then : (a b c d e : Bool) → b ≡ (a && d) → c ≡ (b && e) → (c && true) ≡ (a && (d && e))
 and-then true b c true e p q = and-true c ∙ q ∙ ap (λ x. x && e) p
 and-then true b c false e p q = and-true c ∙ q ∙ ap (λ x. x && e) p
@@ -134,12 +134,6 @@ module _ (words : List ℕ) where
         or-tree = no-tree (after .disjoined) (before .disjoined);
         straight = d .straight;
       }
-    where
-      no-tree : (a b : Bool) → (a && false) ≡ (b && false)
-      no-tree true true = refl
-      no-tree true false = refl
-      no-tree false true = refl
-      no-tree false false = refl
 
   pub collected-or : {before middle after : Leaves} {f g : calculus.Condition} → Collected words before f middle → Collected words middle g after → Collected words before (calculus.conditionOr f g) (joinedBy after false true)
   collected-or {before} {middle} {after} {f} {g} c d =
@@ -151,12 +145,6 @@ module _ (words : List ℕ) where
         or-tree = and-then (before .disjoined) (middle .disjoined) (after .disjoined) (isOrTree f) (isOrTree g) (c .or-tree) (d .or-tree);
         straight = d .straight;
       }
-    where
-      no-tree : (a b : Bool) → (a && false) ≡ (b && false)
-      no-tree true true = refl
-      no-tree true false = refl
-      no-tree false true = refl
-      no-tree false false = refl
 
   -- a condition that has no leaves and is no tree
   pub collected-none : {before : Leaves} (f : calculus.Condition) → leaves f ≡ [] → isAndTree f ≡ false → isOrTree f ≡ false → LeavesFit words before → before .opposite ≡ false → Collected words before f (joinedBy before false false)
@@ -230,3 +218,13 @@ module _ (words : List ℕ) where
           room = omega (arith, s .room, c .counted, ap length both, length-append (leaves (conditionAt words left)) (leaves (conditionAt words right)));
           straight = c .straight;
         }
+
+pub collectable : (words : List ℕ) (reference : ℕ) → Names words reference → calculus.conditionNodes (conditionAt words reference) ≤ questionNodeLimit → Collectable words reference noLeaves
+collectable words reference h few =
+    record {
+      named = h .0;
+      inside = h .1;
+      fits = nothing-collected words;
+      room = omega (arith, leaves-size (conditionAt words reference));
+      straight = refl;
+    }

@@ -5,4 +5,5 @@ pub mod ScopeLaws
 pub mod AtomLaws
 -- What a node reads as, the leaves
 pub mod Readings
+pub mod OtherNodes
 pub mod LeafLaws

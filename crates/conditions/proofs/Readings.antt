@@ -1,24 +1,21 @@
 -- A node that was decoded: its reading by those of its references, and where these point. Assumes nothing.
-use Prim.Native.Nat.{ℕ, zero, suc, _-_, _≤_}
+use Prim.Native.Nat.{ℕ, zero, suc, _-_, _≤_, _<_}
 use mathlib.Core.Path.{_≡_, refl, sym, ap, _∙_}
-use mathlib.Core.Bool.{Bool, true, _&&_}
+use mathlib.Core.Bool.{Bool, true, false, _&&_}
 use mathlib.Core.List.{List, [], _∷_}
 use native.Mathlib.Omega.{arith}
-use denote.Enum.Declared.{tagOf}
-use types.Run.{OneOf, miss}
-use Rattle.relations.specs.Limits.{columnLimit}
+use lib.Dec.{ltb}
 use Rattle.relations.proofs.BoolLaws.{and-left, and-right}
 use Rattle.calculus.specs.Question as calculus
+use Rattle.question.specs.Limits.{variableCount}
 use Rattle.question.specs.Nodes.{isRange, isCondition, kindNamed, fits, nodeAt}
 use Rattle.question.specs.References.{references}
 use Rattle.question.specs.Trees.{Reading, blank, reading, readingOf, treeOf}
 use Rattle.question.specs.declared.node.Node.{Node}
-use Rattle.question.specs.declared.node.Node.the-variants.{Table, Alpha, Target, Binding, RangeOr, RangeAnd, RangeAndNot, Atom as AtomNode, And, Or, Not, Some, Every, IllFormed}
-use Rattle.question.proofs.node.Node.{the-type}
-use Rattle.question.proofs.Forms.{node-fits, lower, first-of, second-of, third-of}
+use Rattle.question.specs.declared.node.Node.the-variants.{And, Or, Not, Some, Every}
+use Rattle.question.proofs.Forms.{node-fits, lower, second-of, third-of}
 use Rattle.question.proofs.TreeLaws.{tree-of-reference, tree-of-none}
-use Rattle.conditions.specs.Readings.{readingAt, targetsAt, rangeAt, bindingsAt, restrictionAt, conditionAt}
-use Rattle.conditions.specs.Leaves.{leafOf}
+use Rattle.conditions.specs.Readings.{Names, readingAt, targetsAt, rangeAt, bindingsAt, restrictionAt, conditionAt}
 
 module _ (words : List ℕ) where
   abbrev pub readingIn : Node → Reading
@@ -32,11 +29,14 @@ module _ (words : List ℕ) where
   fits-in i e = rw e (node-fits words i)
 
   -- where the references of nodes with two conditions, or two ranges, point
+  pub two-lower : (sort : ℕ → Bool) → sort 0 ≡ false → (i left right : ℕ) → (sort (kindNamed words i left) && sort (kindNamed words i right)) ≡ true → ((1 ≤ left) × (left ≤ i)) × ((1 ≤ right) × (right ≤ i))
+  two-lower sort none i left right h =
+      let a : Bool = sort (kindNamed words i left) in
+      let b : Bool = sort (kindNamed words i right) in
+      (lower words i left sort none (and-left a b h), lower words i right sort none (and-right a b h))
+
   pub two-conditions : (i left right : ℕ) → (isCondition (kindNamed words i left) && isCondition (kindNamed words i right)) ≡ true → ((1 ≤ left) × (left ≤ i)) × ((1 ≤ right) × (right ≤ i))
-  two-conditions i left right h =
-      let a : Bool = isCondition (kindNamed words i left) in
-      let b : Bool = isCondition (kindNamed words i right) in
-      (lower words i left isCondition refl (and-left a b h), lower words i right isCondition refl (and-right a b h))
+  two-conditions i left right h = two-lower isCondition refl i left right h
 
   -- what a decoded condition is
   pub condition-is : (reference : ℕ) (node : Node) → 1 ≤ reference → node ≡ nodeAt words (reference - 1) → conditionAt words reference ≡ readingIn node .condition
@@ -53,9 +53,6 @@ module _ (words : List ℕ) where
 
   pub restriction-is : (reference : ℕ) (node : Node) → 1 ≤ reference → node ≡ nodeAt words (reference - 1) → restrictionAt words reference ≡ readingIn node .restriction
   restriction-is reference node h e = ap (λ (r : Reading). r .restriction) (reading-is reference node h e)
-
-abbrev tag : Node → ℕ
-tag node = tagOf the-type node
 
 -- a reference that is not 0 names a node, and 0 none
 
@@ -80,19 +77,39 @@ module _ (words : List ℕ) {reference : ℕ} (e : reference ≡ 0) where
   pub restriction-none : restrictionAt words reference ≡ calculus.noCondition
   restriction-none = ap (λ (r : Reading). r .restriction) reading-none
 
--- a condition that is neither joined, negated nor quantified reads as an atom
-pub reads-as-leaf : (node : Node) (first second third : Reading) → OneOf (0 ∷ 1 ∷ 2 ∷ 3 ∷ 4 ∷ 5 ∷ 6 ∷ 7 ∷ 13 ∷ []) (tag node) → readingOf node first second third .condition ≡ calculus.atom (leafOf node)
-reads-as-leaf (Table relation) first second third h = refl
-reads-as-leaf (Alpha target binding condition) first second third h = refl
-reads-as-leaf (Target variable attribute next) first second third h = refl
-reads-as-leaf (Binding variable range next) first second third h = refl
-reads-as-leaf (RangeOr left right) first second third h = refl
-reads-as-leaf (RangeAnd left right) first second third h = refl
-reads-as-leaf (RangeAndNot left right) first second third h = refl
-reads-as-leaf (AtomNode atom) first second third h = refl
-reads-as-leaf (And left right) first second third h = absurd (miss (0 ∷ 1 ∷ 2 ∷ 3 ∷ 4 ∷ 5 ∷ 6 ∷ 7 ∷ 13 ∷ []) 8 tt h)
-reads-as-leaf (Or left right) first second third h = absurd (miss (0 ∷ 1 ∷ 2 ∷ 3 ∷ 4 ∷ 5 ∷ 6 ∷ 7 ∷ 13 ∷ []) 9 tt h)
-reads-as-leaf (Not inner) first second third h = absurd (miss (0 ∷ 1 ∷ 2 ∷ 3 ∷ 4 ∷ 5 ∷ 6 ∷ 7 ∷ 13 ∷ []) 10 tt h)
-reads-as-leaf (Some variable range condition) first second third h = absurd (miss (0 ∷ 1 ∷ 2 ∷ 3 ∷ 4 ∷ 5 ∷ 6 ∷ 7 ∷ 13 ∷ []) 11 tt h)
-reads-as-leaf (Every variable range condition) first second third h = absurd (miss (0 ∷ 1 ∷ 2 ∷ 3 ∷ 4 ∷ 5 ∷ 6 ∷ 7 ∷ 13 ∷ []) 12 tt h)
-reads-as-leaf IllFormed first second third h = refl
+-- a reference of a node: it names a node, and a lower one
+abbrev pub Below : ℕ → ℕ → Type 0
+Below reference part = (1 ≤ part) × (part ≤ reference - 1)
+
+module _ (words : List ℕ) (reference : ℕ) where
+  abbrev pub Part : ℕ → Type 0
+  Part part = Names words part × (part < reference)
+
+  module _ (h : Names words reference) where
+    pub part-below : {part : ℕ} → Below reference part → Part part
+    part-below b = ((b .0, omega (arith, h .0, h .1, b .1)), omega (arith, h .0, b .1))
+
+    two-parts : (left right : ℕ) → (isCondition (kindNamed words (reference - 1) left) && isCondition (kindNamed words (reference - 1) right)) ≡ true → Part left × Part right
+    two-parts left right f = let b = two-conditions words (reference - 1) left right f in (part-below (b .0), part-below (b .1))
+
+    quantified-parts : (variable range condition : ℕ) → (ltb variable variableCount && isRange (kindNamed words (reference - 1) range) && isCondition (kindNamed words (reference - 1) condition)) ≡ true → Part range × Part condition
+    quantified-parts variable range condition f =
+        let v : Bool = ltb variable variableCount in
+        let r : Bool = isRange (kindNamed words (reference - 1) range) in
+        let k : Bool = isCondition (kindNamed words (reference - 1) condition) in
+        (part-below (lower words (reference - 1) range isRange refl (second-of v r k f)), part-below (lower words (reference - 1) condition isCondition refl (third-of v r k f)))
+
+    pub and-parts : {left right : ℕ} → And left right ≡ nodeAt words (reference - 1) → Part left × Part right
+    and-parts {left} {right} e = two-parts left right (fits-in words (reference - 1) e)
+
+    pub or-parts : {left right : ℕ} → Or left right ≡ nodeAt words (reference - 1) → Part left × Part right
+    or-parts {left} {right} e = two-parts left right (fits-in words (reference - 1) e)
+
+    pub not-part : {inner : ℕ} → Not inner ≡ nodeAt words (reference - 1) → Part inner
+    not-part {inner} e = part-below (lower words (reference - 1) inner isCondition refl (fits-in words (reference - 1) e))
+
+    pub some-parts : {variable range condition : ℕ} → Some variable range condition ≡ nodeAt words (reference - 1) → Part range × Part condition
+    some-parts {variable} {range} {condition} e = quantified-parts variable range condition (fits-in words (reference - 1) e)
+
+    pub every-parts : {variable range condition : ℕ} → Every variable range condition ≡ nodeAt words (reference - 1) → Part range × Part condition
+    every-parts {variable} {range} {condition} e = quantified-parts variable range condition (fits-in words (reference - 1) e)

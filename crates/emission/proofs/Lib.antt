@@ -3,3 +3,5 @@ pub mod Stores
 pub mod ListingLaws
 -- What is written
 pub mod WrittenLaws
+-- Heavy operations
+pub mod HeavyLaws

@@ -1,8 +1,9 @@
 -- A word put behind those of a list. Assumes nothing.
 use Prim.Native.Nat.{ℕ, zero, suc, _+_, _*_, _-_, _/_, _<_}
 use mathlib.Core.Path.{_≡_, refl, sym, ap, ap₂, _∙_}
-use mathlib.Core.List.{List, [], _∷_, _++_, append-assoc}
+use mathlib.Core.List.{List, [], _∷_, _++_, append-assoc, append-nil}
 use native.Mathlib.Omega.{arith}
+use native.Mathlib.Numerals.{add-one}
 use lib.ListN.{length, set, replicate, length-append, length-map}
 use lib.Seq.{set-append-seam}
 use Rattle.relations.specs.Limits.{listWords}
@@ -10,9 +11,10 @@ use Rattle.relations.specs.Columns.{Attribute, Triple, Pair}
 use Rattle.relations.specs.Nodes.{project, semijoin, antijoin, divide}
 use Rattle.relations.specs.Lists.{flat}
 use Rattle.relations.specs.PlanWords.{tripleWords, pairWords, nodeWords}
+use Rattle.calculus.specs.Scope.{columnsFrom}
 use Rattle.relations.proofs.ListLaws.{length-flat}
 use Rattle.emission.specs.Listings.{padded, listing, Longer, numbersOf}
-use Rattle.emission.specs.declared.emit.Listing.{Listing}
+use Rattle.emission.specs.declared.listing.Listing.{Listing}
 
 padded-word : (used : List ℕ) (word left : ℕ) → listWords - length used ≡ suc left → set (padded used) (length used) word ≡ padded (used ++ (word ∷ []))
 padded-word used word left e =
@@ -34,11 +36,19 @@ longer-then {xs = xs} {ys = ys} l m =
     }
 
 pub longer-none : (a : Listing) → Longer a [] a
-longer-none a = record { grown = omega arith; holds = λ used e. e ∙ ap listing (sym (nil used)) }
-  where
-    nil : (l : List ℕ) → l ++ [] ≡ l
-    nil [] = refl
-    nil (x ∷ l) = ap (λ rest. x ∷ rest) (nil l)
+longer-none a = record { grown = omega arith; holds = λ used e. e ∙ ap listing (sym (append-nil used)) }
+
+-- attributes listed
+
+pub numbers-append : (xs ys : List Attribute) → numbersOf (xs ++ ys) ≡ numbersOf xs ++ numbersOf ys
+numbers-append [] ys = refl
+numbers-append (x ∷ xs) ys = ap (λ rest. x .number ∷ rest) (numbers-append xs ys)
+
+pub columns-step : (left column : ℕ) → 0 < left → numbersOf (columnsFrom left column) ≡ column ∷ numbersOf (columnsFrom (left - 1) (column + 1))
+columns-step zero column h = absurd (omega arith)
+columns-step (suc left) column h =
+    let e : suc left - 1 ≡ left = omega arith in
+    rw (add-one, e)
 
 -- the words of nodes with a list
 

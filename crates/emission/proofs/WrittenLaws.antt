@@ -1,7 +1,7 @@
 -- Nodes written one behind another. Assumes nothing.
 use Prim.Native.Nat.{ℕ, zero, suc, pred, _+_, _*_, _/_, _≤_, _-_}
-use mathlib.Core.Path.{_≡_, refl, sym, ap, _∙_}
-use mathlib.Core.List.{List, [], _∷_, _++_}
+use mathlib.Core.Path.{_≡_, refl, sym, ap, ap₂, subst, _∙_}
+use mathlib.Core.List.{List, [], _∷_, _++_, append-assoc, append-nil}
 use native.Mathlib.Omega.{arith}
 use lib.ListN.{length, length-append}
 use lib.Seq.{sets, length-sets}
@@ -13,17 +13,9 @@ use Rattle.calculus.specs.ShortRules.{lastNumber}
 use Rattle.emission.specs.Written.{Room, Written}
 use Rattle.emission.proofs.Stores.{sets-append}
 
-append-nil : (l : List ℕ) → l ++ [] ≡ l
-append-nil [] = refl
-append-nil (x ∷ l) = ap (λ rest. x ∷ rest) (append-nil l)
-
 flat-append : (xs ys : List Node) → flat nodeWords (xs ++ ys) ≡ flat nodeWords xs ++ flat nodeWords ys
 flat-append [] ys = refl
-flat-append (x ∷ xs) ys = ap (λ rest. nodeWords x ++ rest) (flat-append xs ys) ∙ sym (assoc (nodeWords x) (flat nodeWords xs) (flat nodeWords ys))
-  where
-    assoc : (a b c : List ℕ) → (a ++ b) ++ c ≡ a ++ (b ++ c)
-    assoc [] b c = refl
-    assoc (x ∷ a) b c = ap (λ rest. x ∷ rest) (assoc a b c)
+flat-append (x ∷ xs) ys = ap (λ rest. nodeWords x ++ rest) (flat-append xs ys) ∙ sym (append-assoc (nodeWords x) (flat nodeWords xs) (flat nodeWords ys))
 
 pub written-one : {before after : List ℕ} {n count : ℕ} (node : Node) (words : List ℕ) → (after ≡ sets before (n * planNodeWords) words) × (count ≡ n + 1) → words ≡ nodeWords node → length words ≡ planNodeWords → Written before n (node ∷ []) after count
 written-one {before} {n = n} node words w e l =
@@ -44,6 +36,9 @@ written-then {before} {middle} {n = n} {m = m} {xs = xs} {ys = ys} v w =
       whole = omega (arith, ap length (flat-append xs ys), length-append (flat nodeWords xs) (flat nodeWords ys), length-append xs ys, v .whole, w .whole);
       counted = omega (arith, v .counted, w .counted, length-append xs ys);
     }
+
+pub written-as : {before after : List ℕ} {n count : ℕ} {xs ys : List Node} → xs ≡ ys → Written before n ys after count → Written before n xs after count
+written-as {before} {after} {n} {count} e w = subst (λ nodes. Written before n nodes after count) (sym e) w
 
 -- the buffer stays as long, so room is a matter of nodes
 pub room-after : {before after : List ℕ} {n m more : ℕ} {xs : List Node} (rest : ℕ) → Room before n more → Written before n xs after m → length xs + rest ≤ more → Room after m rest
@@ -67,3 +62,7 @@ pred-is (suc k) = omega arith
 
 pub last-is : {before after : List ℕ} {n count : ℕ} {xs : List Node} → Written before n xs after count → lastNumber n xs ≡ count - 1
 last-is {count = count} w = ap pred (sym (w .counted)) ∙ pred-is count
+
+-- nodes that go on behind those written, from the last of them
+pub going-on : {before middle after : List ℕ} {n m count : ℕ} {xs : List Node} (T : ℕ → ℕ → List Node) → Written before n xs middle m → Written middle m (T (m - 1) m) after count → Written before n (xs ++ T (lastNumber n xs) (n + length xs)) after count
+going-on T w v = written-then w (written-as (ap₂ T (last-is w) (sym (w .counted))) v)

@@ -5,7 +5,7 @@ use mathlib.Core.List.{List, _++_, map}
 use lib.ListN.{length, replicate}
 use Rattle.relations.specs.Limits.{listWords}
 use Rattle.relations.specs.Columns.{Attribute}
-use Rattle.emission.specs.declared.emit.Listing.{Listing}
+use Rattle.emission.specs.declared.listing.Listing.{Listing}
 
 abbrev pub padded : List ℕ → List ℕ
 padded used = used ++ replicate (listWords - length used) 0

@@ -3,44 +3,20 @@ ghost use mathlib.Core.Path.{_≡_};
 ghost use mathlib.Core.List.{List, [], _∷_};
 ghost use Prim.Native.Nat.{ℕ, _+_, _*_, _≤_, _<_};
 ghost use lib.Seq.{sets};
-ghost use Rattle.relations.specs.Limits.{listWords, planNodeWords};
+ghost use Rattle.relations.specs.Limits.{planNodeWords};
 ghost use Rattle.relations.specs.Lists.{flat};
 ghost use Rattle.relations.specs.Comparison.{Operator, operatorNumber};
 ghost use Rattle.relations.specs.Columns as columns;
 ghost use Rattle.relations.specs.Nodes as nodes;
 ghost use Rattle.relations.specs.PlanWords.{tripleWords, pairWords};
-ghost use Rattle.emission.specs.Listings.{padded, listing, Longer, numbersOf};
+ghost use Rattle.emission.specs.Listings.{padded, listing, numbersOf};
 ghost use Rattle.emission.specs.Written.{Room, Written};
 use crate::limits::HEAD_WORDS;
 use crate::limits::LIST_WORDS;
 use crate::limits::PLAN_NODE_WORDS;
+use crate::listing::Listing;
 use question::node::Attribute;
 use question::node::Constant;
-
-// A node's list: the words used so far, then zeros.
-pub struct Listing {
-    pub words: [u32; 32],
-    pub used: u32,
-}
-
-pub fn no_list() -> Listing
-    ensures { λ r. ⌜ r ≡ listing [] ⌝ }
-{
-    Listing {
-        words: [0u32; 32],
-        used: 0,
-    }
-}
-
-pub fn with_word(list: Listing, word: u32) -> Listing
-    requires { ⌜ list .used < listWords ⌝ }
-    ensures { λ r. ⌜ Longer list (word ∷ []) r ⌝ }
-{
-    let mut longer = list;
-    longer.words[list.used as usize] = word;
-    longer.used = list.used + 1;
-    longer
-}
 
 fn push(
     plan: &mut [u32],
@@ -65,20 +41,6 @@ fn push(
         j += 1;
     }
     n + 1
-}
-
-pub fn with_pair(list: Listing, left: Attribute, right: Attribute) -> Listing
-    requires { ⌜ list .used + 2 ≤ listWords ⌝ }
-    ensures { λ r. ⌜ Longer list (left .0 ∷ right .0 ∷ []) r ⌝ }
-{
-    with_word(with_word(list, left.0), right.0)
-}
-
-pub fn with_triple(list: Listing, left: Attribute, operator: u32, right: Attribute) -> Listing
-    requires { ⌜ list .used + 3 ≤ listWords ⌝ }
-    ensures { λ r. ⌜ Longer list (left .0 ∷ operator ∷ right .0 ∷ []) r ⌝ }
-{
-    with_word(with_word(with_word(list, left.0), operator), right.0)
 }
 
 pub fn load(plan: &mut [u32], n: u32, relation: u32) -> u32

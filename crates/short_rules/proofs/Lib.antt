@@ -1,4 +1,5 @@
 -- S1
 pub mod ProjectLaws
--- The other rules
+-- When the rules fit, and what they write
+pub mod FitLaws
 pub mod RuleLaws

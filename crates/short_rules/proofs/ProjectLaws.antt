@@ -1,7 +1,7 @@
 -- S1: whether a list of attributes is all columns in order, compared one by one. Assumes nothing.
 use Prim.Native.Nat.{ℕ, zero, suc, _+_, _-_, _≤_, _<_}
 use mathlib.Core.Path.{_≡_, refl, sym, ap, ap₂, _∙_}
-use mathlib.Core.Bool.{Bool, true, false, _&&_}
+use mathlib.Core.Bool.{true, false, _&&_, and-false}
 use mathlib.Core.List.{List, [], _∷_, _++_, map}
 use native.Mathlib.Omega.{arith}
 use native.Mathlib.Numerals.{add-one}
@@ -15,17 +15,13 @@ use Rattle.calculus.specs.Scope.{columnsFrom}
 use Rattle.calculus.specs.ShortRules.{sameAttributes, shortRule1Fits}
 use Rattle.calculus.proofs.ScopeLaws.{columns-length}
 use Rattle.emission.specs.Listings.{padded, listing, numbersOf}
-use Rattle.emission.specs.declared.emit.Listing.{Listing}
+use Rattle.emission.specs.declared.listing.Listing.{Listing}
 
 different : (listed others : List Attribute) → (length listed ≡ length others → ⊥) → sameAttributes listed others ≡ false
 different [] [] h = absurd (h refl)
 different [] (b ∷ others) h = refl
 different (a ∷ listed) [] h = refl
 different (a ∷ listed) (b ∷ others) h = ap (λ rest. eqb (a .number) (b .number) && rest) (different listed others (λ e. h (ap suc e))) ∙ and-false (eqb (a .number) (b .number))
-  where
-    and-false : (b : Bool) → (b && false) ≡ false
-    and-false true = refl
-    and-false false = refl
 
 module _ (width : ℕ) (attributes : Listing) (listed : List Attribute) (e : attributes ≡ listing (numbersOf listed)) where
   pub used-is : attributes .used ≡ length listed

@@ -1,7 +1,8 @@
 -- The leaves passed one by one: tests of all, counts, and lists made from those that pass a test. Assumes nothing.
+use Rattle.calculus.proofs.SizeTheorem.{selects-size, projects-size}
 use Prim.Native.Nat.{ℕ, zero, suc, _+_, _*_, _-_, _≤_, _<_, pred}
 use mathlib.Core.Path.{_≡_, refl, sym, ap, ap₂, subst, _∙_}
-use mathlib.Core.Bool.{Bool, true, false, not, cond, _&&_, _||_, false≢true}
+use mathlib.Core.Bool.{Bool, true, false, not, cond, _&&_, _||_, false≢true, and-assoc}
 use mathlib.Core.List.{List, [], _∷_, _++_, map}
 use native.Mathlib.Omega.{arith}
 use native.Mathlib.Numerals.{add-one}
@@ -26,17 +27,7 @@ use Rattle.emission.specs.Written.{Written}
 use Rattle.short_rules.specs.Rules.{selectsBehind, dividendBehind}
 use Rattle.conditions.specs.declared.leaves.Leaves.{Leaves}
 use Rattle.conditions.proofs.EntryLaws.{entries-step}
-use Rattle.emission.proofs.WrittenLaws.{written-then, last-is}
-
-pub columns-step : (left column : ℕ) → 0 < left → numbersOf (columnsFrom left column) ≡ column ∷ numbersOf (columnsFrom (left - 1) (column + 1))
-columns-step zero column h = absurd (omega arith)
-columns-step (suc left) column h =
-    let e : suc left - 1 ≡ left = omega arith in
-    rw (add-one, e)
-
-and-after : (a b c : Bool) → ((a && b) && c) ≡ (a && (b && c))
-and-after true b c = refl
-and-after false b c = refl
+use Rattle.emission.proofs.WrittenLaws.{written-then, last-is, written-as}
 
 -- the next leaf of so many
 module _ (words : List ℕ) (collected : Leaves) where
@@ -49,7 +40,7 @@ module _ (words : List ℕ) (collected : Leaves) where
 
     pub all-next : (test : calculus.Atom → Bool) (fits passes whole : Bool) → passes ≡ test (leafAt words collected i) → (fits && all test (rest i left)) ≡ whole → ((fits && passes) && all test (rest (i + 1) (left - 1))) ≡ whole
     all-next test fits passes whole e w =
-        and-after fits passes (all test (rest (i + 1) (left - 1)))
+        and-assoc fits passes (all test (rest (i + 1) (left - 1)))
         ∙ ap (λ b. fits && (b && all test (rest (i + 1) (left - 1)))) e
         ∙ ap (λ l. fits && all test l) (sym next-leaf) ∙ w
 
@@ -156,41 +147,19 @@ outside-size s z (a ∷ atoms) column = omega (arith, outside-size s z atoms (su
 pub own-size : (z : ℕ) (atoms : List calculus.Atom) → length (numbersOf (map (ownAttribute z) atoms)) ≡ length atoms
 own-size z atoms = length-map (map (ownAttribute z) atoms) (λ a. a .number) ∙ length-map atoms (ownAttribute z)
 
-pub numbers-append : (xs ys : List Attribute) → numbersOf (xs ++ ys) ≡ numbersOf xs ++ numbersOf ys
-numbers-append [] ys = refl
-numbers-append (x ∷ xs) ys = ap (λ rest. x .number ∷ rest) (numbers-append xs ys)
-
 -- as many selects as atoms
-pub selects-size : (atoms : List calculus.Atom) (s : Scope) (p n : ℕ) → length (selectNodes s atoms p n) ≡ length atoms
-selects-size [] s p n = refl
-selects-size (a ∷ atoms) s p n = ap suc (selects-size atoms s n (suc n))
-
 pub behind-size : (x width : ℕ) (atoms : List calculus.Atom) (n : ℕ) → length (selectsBehind x width atoms n) ≡ length (filter (aloneOn x) atoms)
 behind-size x width atoms n = selects-size (filter (aloneOn x) atoms) (entry x width ∷ []) (pred n) n
-
-pub not-true : (b : Bool) → not b ≡ true → b ≡ false
-not-true true h = absurd (false≢true h)
-not-true false h = refl
 
 pub not-false : (b : Bool) → not b ≡ false → b ≡ true
 not-false true h = refl
 not-false false h = sym h
 
-pub written-as : {before after : List ℕ} {n count : ℕ} {xs ys : List Node} → xs ≡ ys → Written before n ys after count → Written before n xs after count
-written-as {before} {after} {n} {count} e w = subst (λ nodes. Written before n nodes after count) (sym e) w
-
 -- S5's nodes
-
-project-size : (short : Bool) (width p : ℕ) (listed : List Attribute) → length (projectNodes short width p listed) ≤ 1
-project-size short width p listed = go (short && shortRule1Fits width listed)
-  where
-    go : (b : Bool) → length (cond b [] (project p listed ∷ [])) ≤ 1
-    go true = omega arith
-    go false = omega arith
 
 pub dividend-size : (y z width : ℕ) (atoms : List calculus.Atom) (n : ℕ) → length (dividendBehind y z width atoms n) ≤ length (filter (aloneOn z) atoms) + 1
 dividend-size y z width atoms n =
-    omega (arith, behind-size z width atoms n, project-size true width (lastNumber n (selectsBehind z width atoms n)) (shortRule5Columns z y atoms), length-append (selectsBehind z width atoms n) (projectNodes true width (lastNumber n (selectsBehind z width atoms n)) (shortRule5Columns z y atoms)))
+    omega (arith, behind-size z width atoms n, projects-size true width (lastNumber n (selectsBehind z width atoms n)) (shortRule5Columns z y atoms), length-append (selectsBehind z width atoms n) (projectNodes true width (lastNumber n (selectsBehind z width atoms n)) (shortRule5Columns z y atoms)))
 
 module _ {k p : ℕ} {pairs : List Pair} {triples : List Triple} where
   four : {h i j l h′ i′ j′ l′ : ℕ} → h ≡ h′ → i ≡ i′ → j ≡ j′ → l ≡ l′ → divide h k pairs ∷ semijoin p i triples ∷ antijoin p k [] ∷ unite j l ∷ [] ≡ divide h′ k pairs ∷ semijoin p i′ triples ∷ antijoin p k [] ∷ unite j′ l′ ∷ []

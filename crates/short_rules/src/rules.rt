@@ -1,4 +1,4 @@
-// The rules of the shortened mode, S1 to S6: when each fits, and the nodes that it writes.
+// The nodes that each of the short rules writes.
 ghost use mathlib.Core.Path.{_≡_};
 ghost use mathlib.Core.Bool.{cond, _&&_};
 ghost use mathlib.Core.List.{List, [], _∷_, map};
@@ -20,6 +20,8 @@ ghost use Rattle.short_rules.specs.Rules as rules;
 ghost use Rattle.emission.specs.Listings.{listing, Longer, numbersOf};
 ghost use Rattle.emission.specs.Written.{Room, Written};
 ghost use Rattle.short_rules.specs.Rules.{selectsBehind, semijoinBehind, antijoinBehind, dividendBehind, divisionBehind, RuleFits, DividendFits};
+use crate::fits::once;
+use crate::fits::short_rule_1_fits;
 use conditions::atom::alone_on;
 use conditions::atom::compares_with_other;
 use conditions::atom::equates_outside;
@@ -29,23 +31,22 @@ use conditions::atom::other_attribute;
 use conditions::atom::other_variable;
 use conditions::atom::own_attribute;
 use conditions::atom::turned;
-use emission::emit::Listing;
+use emission::listing::Listing;
 use emission::emit::antijoin;
 use emission::emit::divide;
-use emission::emit::no_list;
+use emission::listing::no_list;
 use emission::emit::project;
 use emission::emit::select_attribute;
 use emission::emit::select_constant;
 use emission::emit::semijoin;
 use emission::emit::unite;
-use emission::emit::with_pair;
-use emission::emit::with_triple;
-use emission::emit::with_word;
+use emission::listing::with_pair_if;
+use emission::listing::with_triple;
+use emission::listing::with_triple_if;
+use emission::listing::with_word_if;
 use conditions::leaves::Leaves;
 use conditions::leaves::leaf;
 use conditions::leaves::opposites;
-use emission::limits::PAIRS;
-use emission::limits::TRIPLES;
 use conditions::scope::Scope;
 use conditions::scope::column_of;
 use conditions::scope::empty;
@@ -73,66 +74,6 @@ pub fn write_select(scope: Scope, atom: Atom, p: u32, plan: &mut [u32], n: u32) 
         }
         Operand::Fixed(constant) => select_constant(plan, n, p, attribute, operator, constant),
     }
-}
-
-// So many columns in order, from `first` on, behind those of the list.
-pub fn with_columns(list: Listing, first: u32, count: u32) -> Listing
-    requires { ⌜ (list .used + count ≤ listWords) × (first ≤ columnLimit + columnLimit) ⌝ }
-    ensures { λ r. ⌜ Longer list (numbersOf (columnsFrom count first)) r ⌝ }
-{
-    let mut longer = list;
-    let mut column = first;
-    let mut left = count;
-    while 0 < left {
-        longer = with_word(longer, column);
-        column += 1;
-        left -= 1;
-    }
-    longer
-}
-
-// 1 where the test holds, for counting.
-fn once(test: bool) -> u32
-    ensures { λ r. ⌜ (r ≡ cond test 1 0) × (r ≤ 1) ⌝ }
-{
-    if test {
-        return 1;
-    }
-    0
-}
-
-// The atoms that S2 and S4 ask for: each on x alone or comparing x with another variable, the latter at most 8.
-fn short_rule_2_atoms(words: &[u32], x: u32, leaves: Leaves) -> bool
-    requires { ⌜ LeavesFit (now words) leaves ⌝ }
-    ensures { λ r. ⌜ r ≡ shortRule2Atoms x (atomsOf (now (words .entry)) leaves) ⌝ }
-{
-    let mut fits = true;
-    let mut comparing: u32 = 0;
-    let mut i: usize = 0;
-    let mut left = leaves.count;
-    while 0 < left {
-        let atom = leaf(words, leaves, i);
-        let compares = compares_with_other(x, atom);
-        fits = fits & (alone_on(x, atom) | compares);
-        comparing += once(compares);
-        i += 1;
-        left -= 1;
-    }
-    fits & (comparing <= TRIPLES)
-}
-
-pub fn short_rule_2_fits(words: &[u32], x: u32, leaves: Leaves) -> bool
-    requires { ⌜ LeavesFit (now words) leaves ⌝ }
-    ensures { λ r. ⌜ r ≡ (leaves .conjoined && shortRule2Atoms x (atomsOf (now (words .entry)) leaves)) ⌝ }
-{
-    leaves.conjoined & short_rule_2_atoms(words, x, leaves)
-}
-
-pub fn short_rule_4_fits(words: &[u32], x: u32, leaves: Leaves) -> bool
-    requires { ⌜ LeavesFit (now words) leaves ⌝ }
-    ensures { λ r. ⌜ r ≡ (leaves .disjoined && shortRule2Atoms x (atomsOf (now (words .entry)) leaves)) ⌝ }
-{
-    leaves.disjoined & short_rule_2_atoms(words, x, leaves)
 }
 
 // The triple of an atom that compares x with another variable: P's column is on the left, and the operator is turned when the sides are.
@@ -272,24 +213,6 @@ pub fn write_short_rule_6(scope: Scope, atom: Atom, p: u32, plan: &mut [u32], n:
     write_select(scope, opposite_atom(atom), p, plan, n)
 }
 
-// S1: a project on all columns in order is not written.
-fn short_rule_1_fits(width: u32, attributes: Listing) -> bool
-    requires { ⌜ attributes .used ≤ listWords ⌝ }
-    ensures { λ r. ⌜ ((listed : List columns.Attribute) → attributes ≡ listing (numbersOf listed) → r ≡ shortRule1Fits width listed) ⌝ }
-{
-    if attributes.used != width {
-        return false;
-    }
-    let mut i: u32 = 0;
-    while i < width {
-        if attributes.words[i as usize] != i + 1 {
-            return false;
-        }
-        i += 1;
-    }
-    true
-}
-
 pub fn write_project(
     short: bool,
     width: u32,
@@ -307,42 +230,6 @@ pub fn write_project(
     project(plan, n, p, attributes)
 }
 
-fn with_word_if(list: Listing, test: bool, word: u32) -> Listing
-    requires { ⌜ list .used + length (cond test (word ∷ []) []) ≤ listWords ⌝ }
-    ensures { λ r. ⌜ Longer list (cond test (word ∷ []) []) r ⌝ }
-{
-    if test {
-        return with_word(list, word);
-    }
-    list
-}
-
-fn with_pair_if(list: Listing, test: bool, left: Attribute, right: Attribute) -> Listing
-    requires { ⌜ list .used + length (cond test (left .0 ∷ right .0 ∷ []) []) ≤ listWords ⌝ }
-    ensures { λ r. ⌜ Longer list (cond test (left .0 ∷ right .0 ∷ []) []) r ⌝ }
-{
-    if test {
-        return with_pair(list, left, right);
-    }
-    list
-}
-
-fn with_triple_if(
-    list: Listing,
-    test: bool,
-    left: Attribute,
-    operator: u32,
-    right: Attribute,
-) -> Listing
-    requires { ⌜ list .used + length (cond test (left .0 ∷ operator ∷ right .0 ∷ []) []) ≤ listWords ⌝ }
-    ensures { λ r. ⌜ Longer list (cond test (left .0 ∷ operator ∷ right .0 ∷ []) []) r ⌝ }
-{
-    if test {
-        return with_triple(list, left, operator, right);
-    }
-    list
-}
-
 // S5's two kinds of equations: z = a variable outside, z = y.
 fn links(outside: bool, z: u32, y: u32, atom: Atom) -> bool
     requires { ⌜ AtomNarrow atom ⌝ }
@@ -352,30 +239,6 @@ fn links(outside: bool, z: u32, y: u32, atom: Atom) -> bool
         return equates_outside(z, y, atom);
     }
     equates_with(z, y, atom)
-}
-
-// S5 fits "every y" above "some z" with these leaves.
-pub fn short_rule_5_fits(words: &[u32], z: u32, y: u32, leaves: Leaves) -> bool
-    requires { ⌜ LeavesFit (now words) leaves ⌝ }
-    ensures { λ r. ⌜ r ≡ (leaves .conjoined && shortRule5Atoms z y (atomsOf (now (words .entry)) leaves)) ⌝ }
-{
-    let mut fits = true;
-    let mut shared: u32 = 0;
-    let mut outside: u32 = 0;
-    let mut i: usize = 0;
-    let mut left = leaves.count;
-    while 0 < left {
-        let atom = leaf(words, leaves, i);
-        let with_y = equates_with(z, y, atom);
-        let with_other = equates_outside(z, y, atom);
-        fits = fits & (alone_on(z, atom) | (with_y | with_other));
-        shared += once(with_y);
-        outside += once(with_other);
-        i += 1;
-        left -= 1;
-    }
-    leaves.conjoined
-        & (fits & ((1 <= shared) & (shared <= PAIRS) & ((1 <= outside) & (outside <= TRIPLES))))
 }
 
 // z's attribute in each equation of one kind, repeats kept, behind the columns of the list.

@@ -21,19 +21,18 @@ use Rattle.question.specs.Nodes.{nodeAt}
 use Rattle.question.specs.Trees.{alphaOf}
 use Rattle.question.specs.declared.node.Node.the-variants.{Binding}
 use Rattle.emission.specs.Listings.{listing, Longer, numbersOf}
-use Rattle.conditions.specs.Readings.{rangeAt, targetsAt, bindingsAt, restrictionAt}
+use Rattle.conditions.specs.Readings.{Inside, Names, rangeAt, targetsAt, bindingsAt, restrictionAt}
 use Rattle.conditions.specs.Scopes.{emptyScope, scopeOf, ScopeFits, Extended}
-use Rattle.translation.specs.Translating.{Inside, Names, RangeReady, RangeDone, BindingsReady, BindingsDone, ConditionReady}
+use Rattle.translation.specs.Translating.{RangeReady, RangeDone, BindingsReady, BindingsDone, ConditionReady}
 use Rattle.emission.specs.Written.{Room, Written}
-use Rattle.emission.specs.declared.emit.Listing.{Listing}
+use Rattle.emission.specs.declared.listing.Listing.{Listing}
 use Rattle.conditions.specs.declared.scope.Scope.{Scope}
 use Rattle.translation.specs.declared.translate.Bound.{Bound}
 use Rattle.translation.specs.declared.translate.Made.{Made}
 use Rattle.translation.proofs.BindingSteps.{Chain, chain}
-use Rattle.translation.proofs.RangeSteps.{going-on, lower-call, some-columns}
-use Rattle.short_rules.proofs.RuleLaws.{written-as}
+use Rattle.translation.proofs.RangeSteps.{lower-call, range-wide}
 use Rattle.conditions.proofs.ScopeLaws.{empty-fits}
-use Rattle.emission.proofs.WrittenLaws.{room-after, room-less}
+use Rattle.emission.proofs.WrittenLaws.{room-after, room-less, written-as, going-on}
 
 -- what an alpha was asked with, read by its first binding
 pub record AlphaAsked (catalogue words plan : List ℕ) (t n target binding condition variable range next : ℕ) : Type 0 where
@@ -94,7 +93,7 @@ module _ {catalogue words plan : List ℕ} {t n target binding condition variabl
   module _ {short : Bool} {middle : List ℕ} {made : Made} (r : RangeDone catalogue short plan first n middle made) {none : Scope} (empty : none ≡ emptyScope) where
     pub scope-starts : ScopeFits none × (1 ≤ made .width) × (none .columns + made .width ≤ columnLimit)
     scope-starts =
-        (subst ScopeFits (sym empty) empty-fits, omega (arith, r .width, some-columns catalogue (asked .ready .stored) first (good .0)), omega (arith, ap (λ (scope : Scope). scope .columns) empty, r .width, good .4))
+        (subst ScopeFits (sym empty) empty-fits, omega (arith, r .width, range-wide catalogue (asked .ready .stored) first (good .0)), omega (arith, ap (λ (scope : Scope). scope .columns) empty, r .width, good .4))
 
     room-first : Room middle (made .count) (4 * bindingNodes rest + 4 * maybeNodes restriction + 1)
     room-first = room-after _ (asked .ready .room) (r .written) (omega (arith, size, range-size columns short first n))
@@ -128,7 +127,7 @@ module _ {catalogue words plan : List ℕ} {t n target binding condition variabl
         room-joined : Room later (bound .count) (4 * maybeNodes restriction + 1)
         room-joined = room-after _ room-first (d .written) (omega (arith, bindings-size columns short rest (made .count - 1) (made .count)))
 
-        pub call-condition : (3 * condition < t) × (Inside words condition × ConditionReady catalogue later restriction (bound .scope) (bound .count) 0)
+        pub call-condition : (3 * condition < t) × (Inside words condition × ConditionReady catalogue later restriction (bound .scope) (bound .count))
         call-condition = (
           omega (arith, asked .measure),
           (

@@ -22,17 +22,16 @@ use Rattle.question.specs.declared.node.Node as question
 use Rattle.question.specs.declared.node.Node.the-variants.{Table, Alpha, Target, Binding, RangeOr, RangeAnd, RangeAndNot, Atom as AtomNode, And, Or, Not, Some, Every, IllFormed}
 use Rattle.question.proofs.Forms.{lower, second-of, references-lower}
 use Rattle.question.proofs.node.Node.{the-type}
-use Rattle.conditions.specs.Readings.{rangeAt, bindingsAt}
+use Rattle.conditions.specs.Readings.{Inside, Names, rangeAt, bindingsAt}
 use Rattle.conditions.specs.Scopes.{scopeOf, ScopeFits, Extended}
-use Rattle.translation.specs.Translating.{Inside, Names, RangeReady, RangeDone, BindingsReady, BindingsDone}
+use Rattle.translation.specs.Translating.{RangeReady, RangeDone, BindingsReady, BindingsDone}
 use Rattle.emission.specs.Written.{Room, Written}
 use Rattle.conditions.specs.declared.scope.Scope.{Scope}
 use Rattle.translation.specs.declared.translate.Bound.{Bound}
 use Rattle.translation.specs.declared.translate.Made.{Made}
-use Rattle.conditions.proofs.Readings.{fits-in, bindings-is}
-use Rattle.short_rules.proofs.RuleLaws.{written-as}
-use Rattle.translation.proofs.RangeSteps.{Below, going-on, lower-call, some-columns}
-use Rattle.emission.proofs.WrittenLaws.{written-nothing, written-then, room-after, room-less}
+use Rattle.conditions.proofs.Readings.{Below, fits-in, bindings-is}
+use Rattle.translation.proofs.RangeSteps.{lower-call, range-wide}
+use Rattle.emission.proofs.WrittenLaws.{written-nothing, written-then, room-after, room-less, written-as, going-on}
 
 -- a node that is a binding: where its range and the next binding are, and what it reads as
 pub record Chain (words : List ℕ) (reference variable range next : ℕ) : Type 0 where
@@ -89,7 +88,7 @@ module _ {words : List ℕ} {reference variable range next : ℕ} (link : Chain 
     room-product = room-less 1 room-bound (omega arith)
 
     pub scope-grows : ScopeFits scope × (1 ≤ made .width) × (scope .columns + made .width ≤ columnLimit)
-    scope-grows = (ready .fits, omega (arith, r .width, some-columns catalogue (ready .stored) first (parts ready .range-good)), omega (arith, r .width, ready .fits .counted, parts ready .few-columns))
+    scope-grows = (ready .fits, omega (arith, r .width, range-wide catalogue (ready .stored) first (parts ready .range-good)), omega (arith, r .width, ready .fits .counted, parts ready .few-columns))
 
     module _ {p : ℕ} {later : List ℕ} {count : ℕ} {longer : Scope} (w : Written middle (made .count) (join p (made .count - 1) [] ∷ []) later count) (grown : Extended scope variable (made .width) longer) where
       stands : scopeOf longer ≡ extend (scopeOf scope) variable (widthOfRange (columnsOf catalogue) first)
@@ -121,20 +120,3 @@ pub no-more-done : {catalogue : List ℕ} {short : Bool} {plan : List ℕ} {bind
 unfolding translateBindings scopeOfBindings
 no-more-done {catalogue} {short} {plan} {bindings} {scope} {p} {n} e fits =
     subst (λ bindings. BindingsDone catalogue short plan bindings scope p n plan (record { count = n; scope = scope })) (sym e) (record { written = written-nothing plan n; fits = fits; stands = refl })
-
--- a node that is no binding reads as none
-pub no-bindings : (node : question.Node) (first second third : Reading) → OneOf (0 ∷ 1 ∷ 2 ∷ 4 ∷ 5 ∷ 6 ∷ 7 ∷ 8 ∷ 9 ∷ 10 ∷ 11 ∷ 12 ∷ 13 ∷ []) (tagOf the-type node) → readingOf node first second third .bindings ≡ noMore
-no-bindings (Table relation) first second third h = refl
-no-bindings (Alpha target binding condition) first second third h = refl
-no-bindings (Target variable number next) first second third h = refl
-no-bindings (Binding variable range next) first second third h = absurd (miss (0 ∷ 1 ∷ 2 ∷ 4 ∷ 5 ∷ 6 ∷ 7 ∷ 8 ∷ 9 ∷ 10 ∷ 11 ∷ 12 ∷ 13 ∷ []) 3 tt h)
-no-bindings (RangeOr left right) first second third h = refl
-no-bindings (RangeAnd left right) first second third h = refl
-no-bindings (RangeAndNot left right) first second third h = refl
-no-bindings (AtomNode atom) first second third h = refl
-no-bindings (And left right) first second third h = refl
-no-bindings (Or left right) first second third h = refl
-no-bindings (Not inner) first second third h = refl
-no-bindings (Some variable range condition) first second third h = refl
-no-bindings (Every variable range condition) first second third h = refl
-no-bindings IllFormed first second third h = refl

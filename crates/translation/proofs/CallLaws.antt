@@ -1,4 +1,5 @@
 -- An accepted question: what translating it asks for, and that what it leaves is the outcome named. Assumes nothing.
+use Rattle.conditions.specs.Readings.{Names}
 use Prim.Native.Nat.{ℕ, _+_, _*_, _/_, _≤_, _<_}
 use mathlib.Core.Path.{_≡_, refl, sym, ap, ap₂, _∙_}
 use mathlib.Core.Bool.{Bool, true, false, cond, not, So}
@@ -31,11 +32,11 @@ use Rattle.question.specs.declared.judgement.Judgement.the-variants.{Accepted, 
 use Rattle.question.proofs.Accepted.{accepted-right, accepted-passed}
 use Rattle.question.proofs.Counts.{counted}
 use Rattle.translation.specs.TranslateCall.{TranslateOutcome, planOf, planBufferWords, unwritten, written, judgedOutcome, behindCatalogue, isShort, translateOutcome}
-use Rattle.translation.specs.HeavyCount.{heavyIn}
+use Rattle.emission.specs.HeavyCount.{heavyIn}
 use Rattle.emission.specs.Written.{Room, Written}
-use Rattle.translation.specs.Translating.{Names, RangeReady, RangeDone}
+use Rattle.translation.specs.Translating.{RangeReady, RangeDone}
 use Rattle.translation.specs.declared.translate.Made.{Made}
-use Rattle.translation.proofs.HeavyLaws.{heavy-written}
+use Rattle.emission.proofs.HeavyLaws.{heavy-written}
 
 module _ (catalogue question : List ℕ) (ok : catalogueOk catalogue ≡ true) (accepted : judged catalogue question ≡ Accepted) where
   right : QuestionRight catalogue question

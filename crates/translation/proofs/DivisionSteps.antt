@@ -21,6 +21,7 @@ use Rattle.calculus.specs.Leaves.{isAndTree, leaves, aloneOn, equatesWith, equa
 use Rattle.calculus.specs.ShortRules.{projectNodes, shortRule5Atoms, shortRule5Fits, outsideTriples, divisionPairs, shortRule5Columns, shortRule5Nodes}
 use Rattle.calculus.specs.Translation.{divisionBy, translateRange, translateCondition}
 use Rattle.calculus.proofs.ScopeLaws.{columns-extend}
+use Rattle.calculus.proofs.SizeTheorem.{filter-size}
 use Rattle.catalogue.specs.Stored.{relationsOf, columnsOf}
 use Rattle.question.specs.Limits.{variableCount}
 use Rattle.question.specs.Nodes.{isRange, isCondition, kindNamed, nodeAt}
@@ -30,35 +31,17 @@ use Rattle.question.specs.declared.node.Node.the-variants.{Table, Alpha, Target
 use Rattle.question.proofs.node.Node.{the-type}
 use Rattle.question.proofs.Forms.{lower, second-of, third-of}
 use Rattle.conditions.specs.Leaves.{atomsOf, LeavesOf}
-use Rattle.conditions.specs.Readings.{rangeAt, conditionAt}
+use Rattle.conditions.specs.Readings.{Names, rangeAt, conditionAt}
 use Rattle.short_rules.specs.Rules.{selectsBehind, dividendBehind, divisionBehind, DividendFits}
 use Rattle.conditions.specs.Scopes.{scopeOf}
-use Rattle.translation.specs.Translating.{Names, RangeDone, DivisionReady}
+use Rattle.translation.specs.Translating.{RangeDone, DivisionReady}
 use Rattle.emission.specs.Written.{Written}
 use Rattle.conditions.specs.declared.leaves.Leaves.{Leaves}
 use Rattle.conditions.specs.declared.scope.Scope.{Scope}
 use Rattle.translation.specs.declared.translate.Made.{Made}
 use Rattle.conditions.proofs.Readings.{fits-in, condition-is}
-use Rattle.short_rules.proofs.RuleLaws.{written-as}
-use Rattle.emission.proofs.WrittenLaws.{room-less}
-use Rattle.translation.proofs.QuantifierSteps.{QuantifierReady, quantifier-ready, some-columns, few-columns, room-behind, leaves-few, filter-size, behind-range, written-behind}
-
--- S5 fits no condition but a "some"
-pub not-divided : (y : ℕ) (node : QuestionNode) (first second third : Reading) → OneOf (0 ∷ 1 ∷ 2 ∷ 3 ∷ 4 ∷ 5 ∷ 6 ∷ 7 ∷ 8 ∷ 9 ∷ 10 ∷ 12 ∷ 13 ∷ []) (tagOf the-type node) → shortRule5Fits y (readingOf node first second third .condition) ≡ false
-not-divided y (Table relation) first second third h = refl
-not-divided y (Alpha target binding condition) first second third h = refl
-not-divided y (Target variable number next) first second third h = refl
-not-divided y (Binding variable range next) first second third h = refl
-not-divided y (RangeOr left right) first second third h = refl
-not-divided y (RangeAnd left right) first second third h = refl
-not-divided y (RangeAndNot left right) first second third h = refl
-not-divided y (AtomNode comparison) first second third h = refl
-not-divided y (And left right) first second third h = refl
-not-divided y (Or left right) first second third h = refl
-not-divided y (Not inner) first second third h = refl
-not-divided y (Some variable range condition) first second third h = absurd (miss (0 ∷ 1 ∷ 2 ∷ 3 ∷ 4 ∷ 5 ∷ 6 ∷ 7 ∷ 8 ∷ 9 ∷ 10 ∷ 12 ∷ 13 ∷ []) 11 tt h)
-not-divided y (Every variable range condition) first second third h = refl
-not-divided y IllFormed first second third h = refl
+use Rattle.emission.proofs.WrittenLaws.{room-less, written-as}
+use Rattle.translation.proofs.QuantifierSteps.{QuantifierReady, quantifier-ready, some-columns, few-columns, room-behind, leaves-few, behind-range, written-behind}
 
 -- the equations of each kind are at most 8
 module _ (z y : ℕ) (tree : Bool) (atoms : List Atom) (h : (tree && shortRule5Atoms z y atoms) ≡ true) where
@@ -85,28 +68,10 @@ division-behind first s y k z width atoms p n =
     ap (λ dividend. dividend ++ nodes (n + length dividend)) (behind-range first (selectsBehind z width atoms (n + length first)) n (λ m. projectNodes true width (pred m) (shortRule5Columns z y atoms)))
     ∙ behind-range first (dividendBehind y z width atoms (n + length first)) n nodes
 
--- the parts of a "some"
+-- the "some"
 module _ (words : List ℕ) {reference z range condition : ℕ} (named : Names words reference) (e : Some z range condition ≡ nodeAt words (reference - 1)) where
-  pub some-is : conditionAt words reference ≡ forSome z (rangeAt words range) (conditionAt words condition)
+  some-is : conditionAt words reference ≡ forSome z (rangeAt words range) (conditionAt words condition)
   some-is = condition-is words reference (Some z range condition) (named .0) e
-
-  below : ((1 ≤ range) × (range ≤ reference - 1)) × ((1 ≤ condition) × (condition ≤ reference - 1))
-  below =
-      let i : ℕ = reference - 1 in
-      let v : Bool = ltb z variableCount in
-      let a : Bool = isRange (kindNamed words i range) in
-      let b : Bool = isCondition (kindNamed words i condition) in
-      let fits : (v && a && b) ≡ true = fits-in words i e in
-      (lower words i range isRange refl (second-of v a b fits), lower words i condition isCondition refl (third-of v a b fits))
-
-  pub range-below : range < reference
-  range-below = omega (arith, below .0 .1, named .0)
-
-  pub range-named : Names words range
-  range-named = (below .0 .0, omega (arith, range-below, named .1))
-
-  pub condition-named : Names words condition
-  condition-named = (below .1 .0, omega (arith, below .1 .1, named .0, named .1))
 
   module _ {catalogue plan : List ℕ} {y : ℕ} {scope : Scope} {n : ℕ} (r : DivisionReady catalogue plan y (conditionAt words reference) scope n) where
     pub divided-ready : QuantifierReady catalogue plan z (rangeAt words range) (conditionAt words condition) scope (calculus.extend (scopeOf scope) y (r .width)) n 2

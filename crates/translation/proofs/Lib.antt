@@ -4,11 +4,8 @@ pub mod TargetLaws
 pub mod RangeSteps
 pub mod BindingSteps
 pub mod AlphaSteps
+pub mod ConditionSteps
 pub mod QuantifierSteps
 pub mod DivisionSteps
-pub mod ConditionSteps
-pub mod OppositeSteps
--- Heavy operations
-pub mod HeavyLaws
 -- The call
 pub mod CallLaws

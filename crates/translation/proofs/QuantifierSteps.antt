@@ -17,10 +17,9 @@ use Rattle.calculus.specs.Scope as calculus
 use Rattle.calculus.specs.Form.{widthOfRange, alphaScope, GoodRange, GoodMaybe, GoodCondition}
 use Rattle.calculus.specs.Leaves.{isAndTree, isOrTree, leaves, oppositeAtom, aloneOn, comparesWithOther}
 use Rattle.calculus.specs.ShortRules.{lastNumber, shortRule2Atoms, shortRule2Fits, triplesOf, shortRule4Fits, shortRule5Fits}
-use Rattle.calculus.specs.Translation.{itself, divisionBy, translateRange, translateMaybe, translateCondition}
-use Rattle.calculus.proofs.ScopeLaws.{targets-width}
-use Rattle.calculus.proofs.LegalColumns.{targets-columns}
-use Rattle.calculus.proofs.SizeTheorem.{range-size, condition-size}
+use Rattle.calculus.specs.Translation.{itself, itsOpposite, divisionBy, translateRange, translateMaybe, translateCondition}
+use Rattle.calculus.proofs.LegalColumns.{few, few-opposite}
+use Rattle.calculus.proofs.SizeTheorem.{filter-size, leaves-size, range-size, condition-size}
 use Rattle.catalogue.specs.Stored.{relationsOf, columnsOf}
 use Rattle.question.specs.Accepted.{HasColumns}
 use Rattle.question.specs.Trees.{Tree, nothing, branch, treeOf, Reading, reading, readingOf}
@@ -28,58 +27,23 @@ use Rattle.question.specs.declared.node.Node.{Node as QuestionNode}
 use Rattle.question.specs.declared.node.Node.the-variants.{Table, Alpha, Target, Binding, RangeOr, RangeAnd, RangeAndNot, Atom as AtomNode, And, Or, Not, Some, Every, IllFormed}
 use Rattle.conditions.specs.Leaves.{atomsOf, LeavesFit, Collectable, LeavesOf, noLeaves, opposites}
 use Rattle.emission.specs.Listings.{listing, Longer, numbersOf}
-use Rattle.conditions.specs.Readings.{conditionAt, restrictionAt}
+use Rattle.conditions.specs.Readings.{Names, conditionAt, restrictionAt}
 use Rattle.short_rules.specs.Rules.{selectsBehind, semijoinBehind, antijoinBehind, RuleFits}
 use Rattle.conditions.specs.Scopes.{scopeOf, ScopeFits, Extended}
-use Rattle.translation.specs.Translating.{Names, RangeReady, RangeDone, ConditionReady, InsideReady, DivisionReady}
+use Rattle.translation.specs.Translating.{RangeReady, RangeDone, ConditionReady, InsideReady, DivisionReady}
 use Rattle.emission.specs.Written.{Room, Written}
-use Rattle.emission.specs.declared.emit.Listing.{Listing}
+use Rattle.emission.specs.declared.listing.Listing.{Listing}
 use Rattle.conditions.specs.declared.leaves.Leaves.{Leaves}
 use Rattle.conditions.specs.declared.scope.Scope.{Scope}
 use Rattle.translation.specs.declared.translate.Made.{Made}
-use Rattle.conditions.proofs.LeafLaws.{nothing-collected, opposite-atoms}
-use Rattle.short_rules.proofs.RuleLaws.{written-as}
-use Rattle.emission.proofs.WrittenLaws.{written-then, room-after, room-less, pred-is}
-
--- a condition of good form is one: a node of another sort reads as an atom of attribute 0, which no variable has
-module _ (columns : ℕ → ℕ) (relations : ℕ) (s : calculus.Scope) where
-  node-restricts : (node : QuestionNode) (first second third : Reading) → GoodCondition columns relations (readingOf node first second third .condition) s
-      → readingOf node first second third .restriction ≡ onCondition (readingOf node first second third .condition)
-  unfolding GoodCondition
-  node-restricts (Table relation) first second third g = absurd (omega (arith, g .0))
-  node-restricts (Alpha target binding condition) first second third g = absurd (omega (arith, g .0))
-  node-restricts (Target variable number next) first second third g = absurd (omega (arith, g .0))
-  node-restricts (Binding variable range next) first second third g = absurd (omega (arith, g .0))
-  node-restricts (RangeOr left right) first second third g = absurd (omega (arith, g .0))
-  node-restricts (RangeAnd left right) first second third g = absurd (omega (arith, g .0))
-  node-restricts (RangeAndNot left right) first second third g = absurd (omega (arith, g .0))
-  node-restricts (AtomNode comparison) first second third g = refl
-  node-restricts (And left right) first second third g = refl
-  node-restricts (Or left right) first second third g = refl
-  node-restricts (Not inner) first second third g = refl
-  node-restricts (Some variable range condition) first second third g = refl
-  node-restricts (Every variable range condition) first second third g = refl
-  node-restricts IllFormed first second third g = absurd (omega (arith, g .0))
-
-  reading-restricts : (tree : Tree) → GoodCondition columns relations (reading tree .condition) s → reading tree .restriction ≡ onCondition (reading tree .condition)
-  unfolding reading GoodCondition
-  reading-restricts nothing g = absurd (omega (arith, g .0))
-  reading-restricts (branch i node first second third) g = node-restricts node (reading first) (reading second) (reading third) g
+use Rattle.conditions.proofs.LeafLaws.{opposite-atoms}
+use Rattle.conditions.proofs.OtherNodes.{restriction-good}
+use Rattle.emission.proofs.WrittenLaws.{written-then, room-after, room-less, pred-is, written-as}
+use Rattle.translation.proofs.RangeSteps.{range-wide}
+use Rattle.translation.proofs.ConditionSteps.{chosen, passed-over}
 
 pub inside-restricts : (words : List ℕ) (reference : ℕ) {catalogue plan : List ℕ} {x width : ℕ} {scope : Scope} {n : ℕ} → InsideReady catalogue plan x width (conditionAt words reference) scope n → restrictionAt words reference ≡ onCondition (conditionAt words reference)
-inside-restricts words reference {catalogue} {x = x} {width = width} {scope = scope} r = reading-restricts (columnsOf catalogue) (relationsOf catalogue) (calculus.extend (scopeOf scope) x width) (treeOf words reference) (r .good)
-
--- a range of good form has a column
-module _ (catalogue : List ℕ) (stored : HasColumns catalogue) where
-  pub range-wide : (range : Range) → GoodRange (columnsOf catalogue) (relationsOf catalogue) range → 1 ≤ widthOfRange (columnsOf catalogue) range
-  unfolding GoodRange widthOfRange
-  range-wide (table relation) g = stored relation g
-  range-wide (alpha targets variable range bindings restriction) g =
-      let s : calculus.Scope = alphaScope (columnsOf catalogue) variable range bindings in
-      omega (arith, targets-columns s targets (g .5) (g .3) .0, targets-width s targets)
-  range-wide (rangeOr a b) g = range-wide a (g .0)
-  range-wide (rangeAnd a b) g = range-wide a (g .0)
-  range-wide (rangeAndNot a b) g = range-wide a (g .0)
+inside-restricts words reference {catalogue} {x = x} {width = width} {scope = scope} r = restriction-good (columnsOf catalogue) (relationsOf catalogue) (calculus.extend (scopeOf scope) x width) words reference (r .good)
 
 -- P's columns, which are those of the scope, listed for a project
 module _ {scope : Scope} (fits : ScopeFits scope) {list : Listing} (empty : list ≡ listing []) where
@@ -88,35 +52,6 @@ module _ {scope : Scope} (fits : ScopeFits scope) {list : Listing} (empty : list
 
   pub columns-listed : {columns : Listing} → Longer list (numbersOf (columnsFrom (scope .columns) 1)) columns → columns ≡ listing (numbersOf (allColumns (columnsIn (scopeOf scope))))
   columns-listed longer = longer .holds [] empty ∙ ap (λ (k : ℕ). listing (numbersOf (columnsFrom k 1))) (fits .counted)
-
--- a condition's leaves are among its nodes
-
-pub filter-size : (test : Atom → Bool) (atoms : List Atom) → length (filter test atoms) ≤ length atoms
-filter-size test [] = omega arith
-filter-size test (a ∷ atoms) = go (test a) (filter-size test atoms)
-  where
-    go : (b : Bool) → length (filter test atoms) ≤ length atoms → length (cond b (a ∷ filter test atoms) (filter test atoms)) ≤ suc (length atoms)
-    go true h = omega arith
-    go false h = omega arith
-
-leaves-size : (f : Condition) → length (leaves f) ≤ conditionNodes f
-unfolding conditionNodes
-leaves-size (atom a) = omega arith
-leaves-size (conditionAnd f g) = omega (arith, length-append (leaves f) (leaves g), leaves-size f, leaves-size g)
-leaves-size (conditionOr f g) = omega (arith, length-append (leaves f) (leaves g), leaves-size f, leaves-size g)
-leaves-size (conditionNot f) = omega arith
-leaves-size (forSome x range f) = omega arith
-leaves-size (forEvery x range f) = omega arith
-
-pub collectable : (words : List ℕ) (reference : ℕ) → Names words reference → conditionNodes (conditionAt words reference) ≤ questionNodeLimit → Collectable words reference noLeaves
-collectable words reference h few =
-    record {
-      named = h .0;
-      inside = h .1;
-      fits = nothing-collected words;
-      room = omega (arith, leaves-size (conditionAt words reference));
-      straight = refl;
-    }
 
 module _ (catalogue : List ℕ) where
   -- "some x" and "every x" ask for the same of a range and a condition on x; `s` is the scope that they stand in, which has P's columns and, for S5, y's
@@ -144,11 +79,12 @@ module _ {catalogue plan : List ℕ} {x : ℕ} {range : Range} {f : Condition} {
         room = room-less _ room (omega arith);
       }
 
-  pub some-ready : ConditionReady catalogue plan (onCondition (forSome x range f)) scope n extra → QuantifierReady catalogue plan x range f scope (scopeOf scope) n extra
+module _ {catalogue plan : List ℕ} {x : ℕ} {range : Range} {f : Condition} {scope : Scope} {n : ℕ} where
+  pub some-ready : ConditionReady catalogue plan (onCondition (forSome x range f)) scope n → QuantifierReady catalogue plan x range f scope (scopeOf scope) n 0
   unfolding GoodCondition conditionNodes
-  some-ready r = quantifier-ready (r .good) (omega arith) (r .fits) (r .stored) (r .some-nodes) (r .room)
+  some-ready r = quantifier-ready (r .good) (omega arith) (r .fits) (r .stored) (r .some-nodes) (room-less _ (r .room) (omega arith))
 
-  pub every-ready : ConditionReady catalogue plan (onCondition (forEvery x range f)) scope n extra → QuantifierReady catalogue plan x range f scope (scopeOf scope) n extra
+  pub every-ready : ConditionReady catalogue plan (onCondition (forEvery x range f)) scope n → QuantifierReady catalogue plan x range f scope (scopeOf scope) n 0
   unfolding GoodCondition conditionNodes
   every-ready r = quantifier-ready (r .good) (omega arith) (r .fits) (r .stored) (r .some-nodes) (room-less _ (r .room) (omega arith))
 
@@ -215,7 +151,7 @@ module _ {catalogue plan : List ℕ} {x : ℕ} {range : Range} {f : Condition} {
 
 -- the product of P with the range of x, and the condition on it
 module _ {catalogue plan : List ℕ} {x width : ℕ} {f : Condition} {scope : Scope} {n : ℕ} (r : InsideReady catalogue plan x width f scope n) {restriction : MaybeCondition} (e : restriction ≡ onCondition f) {inner : Scope} (extended : Extended scope x width inner) {p : ℕ} {after : List ℕ} {count : ℕ} (product : Written plan n (join p (n - 1) [] ∷ []) after count) where
-  pub inside-condition-ready : ConditionReady catalogue after restriction inner count 0
+  pub inside-condition-ready : ConditionReady catalogue after restriction inner count
   unfolding GoodMaybe maybeNodes
   inside-condition-ready =
       record {
@@ -253,44 +189,15 @@ module _ {words : List ℕ} {f : Condition} {collected : Leaves} (found : Leaves
   rule-test x short {tree} {kind} e d h =
       ap (λ b. short && (b && shortRule2Atoms x (leaves f))) (sym e) ∙ ap (λ atoms. short && (kind && shortRule2Atoms x atoms)) (sym (found .atoms)) ∙ ap (λ b. short && b) (sym d) ∙ h
 
-few-compared : (x : ℕ) (short tree : Bool) (atoms : List Atom) → (short && (tree && shortRule2Atoms x atoms)) ≡ true → length (filter (comparesWithOther x) atoms) ≤ tripleLimit
-few-compared x short tree atoms h = leb-true (length (filter (comparesWithOther x) atoms)) tripleLimit (and-right (all (λ a. aloneOn x a || comparesWithOther x a) atoms) (leb (length (filter (comparesWithOther x) atoms)) tripleLimit) (and-right tree (shortRule2Atoms x atoms) (and-right short (tree && shortRule2Atoms x atoms) h)))
-
-compares-opposite : (x : ℕ) (a : Atom) → comparesWithOther x (oppositeAtom a) ≡ comparesWithOther x a
-compares-opposite x (compare v a o (fixed c)) = refl
-compares-opposite x (compare v a o (ofVariable w b)) = refl
-
-opposites-compared : (x : ℕ) (atoms : List Atom) → length (filter (comparesWithOther x) (map oppositeAtom atoms)) ≡ length (filter (comparesWithOther x) atoms)
-opposites-compared x [] = refl
-opposites-compared x (a ∷ atoms) = rw (compares-opposite x a) (go (comparesWithOther x a) (opposites-compared x atoms))
-  where
-    go : (b : Bool) → length (filter (comparesWithOther x) (map oppositeAtom atoms)) ≡ length (filter (comparesWithOther x) atoms)
-        → length (cond b (oppositeAtom a ∷ filter (comparesWithOther x) (map oppositeAtom atoms)) (filter (comparesWithOther x) (map oppositeAtom atoms))) ≡ length (cond b (a ∷ filter (comparesWithOther x) atoms) (filter (comparesWithOther x) atoms))
-    go true h = ap suc h
-    go false h = h
-
--- what S2 and S4 ask for behind the range
+-- what S2, S3 and S4 ask for behind the range
 module _ {catalogue plan : List ℕ} {x : ℕ} {range : Range} {f : Condition} {scope : Scope} {n extra : ℕ} {s : calculus.Scope} (r : QuantifierReady catalogue plan x range f scope s n extra) {short : Bool} {after : List ℕ} {made : Made} (done : RangeDone catalogue short plan range n after made) {words : List ℕ} {collected : Leaves} (found : LeavesOf words f collected) where
-  pub rule-2-ready : (short && shortRule2Fits x f) ≡ true → RuleFits words after scope collected x (made .width) (made .count) 1 × (length (filter (comparesWithOther x) (atomsOf words collected)) ≤ tripleLimit)
+  pub rule-2-ready : shortRule2Fits x f ≡ true → RuleFits words after scope collected x (made .width) (made .count) 1 × (length (filter (comparesWithOther x) (atomsOf words collected)) ≤ tripleLimit)
   rule-2-ready h =
-      (rule-fits r done words collected (found .fits) (leaves-few found), omega (arith, few-compared x short (isAndTree f) (leaves f) h, ap (λ atoms. length (filter (comparesWithOther x) atoms)) (found .atoms)))
+      (rule-fits r done words collected (found .fits) (leaves-few found), omega (arith, few (isAndTree f) x (leaves f) h, ap (λ atoms. length (filter (comparesWithOther x) atoms)) (found .atoms)))
 
-  pub rule-4-ready : (short && shortRule4Fits x f) ≡ true → RuleFits words after scope (opposites collected) x (made .width) (made .count) 1 × (length (filter (comparesWithOther x) (atomsOf words (opposites collected))) ≤ tripleLimit)
+  pub rule-4-ready : shortRule4Fits x f ≡ true → RuleFits words after scope (opposites collected) x (made .width) (made .count) 1 × (length (filter (comparesWithOther x) (atomsOf words (opposites collected))) ≤ tripleLimit)
   rule-4-ready h =
-      (rule-fits r done words (opposites collected) (opposites-fit found) (opposites-few found), omega (arith, few-compared x short (isOrTree f) (leaves f) h, opposites-compared x (leaves f), ap (λ atoms. length (filter (comparesWithOther x) atoms)) (opposites-are found)))
-
--- one of two lists of nodes, by a test
-
-abbrev chosen : Bool → List Node → List Node → List Node
-chosen b yes-nodes no-nodes = elim b [ true ↦ yes-nodes | false ↦ no-nodes ]
-
-chosen-true : (b : Bool) (A B : List Node) → b ≡ true → chosen b A B ≡ A
-chosen-true true A B h = refl
-chosen-true false A B h = absurd (false≢true h)
-
-chosen-false : (b : Bool) (A B : List Node) → b ≡ false → chosen b A B ≡ B
-chosen-false true A B h = absurd (true≢false h)
-chosen-false false A B h = refl
+      (rule-fits r done words (opposites collected) (opposites-fit found) (opposites-few found), omega (arith, few (isOrTree f) x (leaves f) h, few-opposite x (leaves f), ap (λ atoms. length (filter (comparesWithOther x) atoms)) (opposites-are found)))
 
 -- nodes that go by the count of those before them, behind a range and more
 pub behind-range : (first more : List Node) (n : ℕ) (nodes : ℕ → List Node) → (first ++ more) ++ nodes (n + length (first ++ more)) ≡ first ++ (more ++ nodes (n + length first + length more))
@@ -316,15 +223,23 @@ module _ {catalogue : List ℕ} {short : Bool} {plan : List ℕ} {range : Range}
     unfolding translateCondition
     some-by-rule-2 h w =
         written-as
-        (chosen-true (short && shortRule2Fits x f) _ _ h ∙ behind-range first (selectsBehind x width (leaves f) (n + length first)) n (λ m. semijoin p (pred m) (triplesOf s x (leaves f)) ∷ []))
+        (chosen _ _ (short && shortRule2Fits x f) h ∙ behind-range first (selectsBehind x width (leaves f) (n + length first)) n (λ m. semijoin p (pred m) (triplesOf s x (leaves f)) ∷ []))
         (written-behind (λ k atoms q. semijoinBehind s x k atoms p q) (found .atoms) w)
+
+    pub some-by-rule-3 : {g : Condition} → g ≡ forSome x range f → Written after (made .count) (antijoinBehind s x (made .width) (atomsOf words collected) p (made .count)) end count
+        → Written plan n (translateCondition (columnsOf catalogue) short g itsOpposite s p n) end count
+    unfolding translateCondition
+    some-by-rule-3 e w =
+        written-as
+        (ap (λ (g : Condition). translateCondition (columnsOf catalogue) short g itsOpposite s p n) e ∙ behind-range first (selectsBehind x width (leaves f) (n + length first)) n (λ m. antijoin p (pred m) (triplesOf s x (leaves f)) ∷ []))
+        (written-behind (λ k atoms q. antijoinBehind s x k atoms p q) (found .atoms) w)
 
     pub every-by-rule-4 : (short && shortRule4Fits x f) ≡ true → Written after (made .count) (antijoinBehind s x (made .width) (atomsOf words (opposites collected)) p (made .count)) end count
         → Written plan n (translateCondition (columnsOf catalogue) short (forEvery x range f) itself s p n) end count
     unfolding translateCondition
     every-by-rule-4 h w =
         written-as
-        (chosen-true (short && shortRule4Fits x f) _ _ h ∙ behind-range first (selectsBehind x width (map oppositeAtom (leaves f)) (n + length first)) n (λ m. antijoin p (pred m) (triplesOf s x (map oppositeAtom (leaves f))) ∷ []))
+        (chosen _ _ (short && shortRule4Fits x f) h ∙ behind-range first (selectsBehind x width (map oppositeAtom (leaves f)) (n + length first)) n (λ m. antijoin p (pred m) (triplesOf s x (map oppositeAtom (leaves f))) ∷ []))
         (written-behind (λ k atoms q. antijoinBehind s x k atoms p q) (opposites-are found) w)
 
   -- the division by the range
@@ -333,7 +248,7 @@ module _ {catalogue : List ℕ} {short : Bool} {plan : List ℕ} {range : Range}
   unfolding translateCondition
   every-by-rule-5 f x s p h k w =
       written-as
-      (chosen-false (short && shortRule4Fits x f) _ _ h ∙ chosen-true (short && shortRule5Fits x f) _ _ k)
+      (passed-over _ _ (short && shortRule4Fits x f) h ∙ chosen _ _ (short && shortRule5Fits x f) k)
       (written-behind (λ v atoms m. translateCondition (columnsOf catalogue) short f (divisionBy x (pred m)) s p m) {atoms = []} refl (written-as (ap (λ (j : ℕ). translateCondition (columnsOf catalogue) short f (divisionBy x j) s p (made .count)) (pred-is (made .count))) w))
 
   -- the plain ways: the product Q with the range and the condition on it, then P's columns of what meets or fails it
@@ -357,7 +272,7 @@ module _ {catalogue : List ℕ} {short : Bool} {plan : List ℕ} {range : Range}
     unfolding translateCondition
     some-plain h w =
         written-as
-        (chosen-false (short && shortRule2Fits x f) _ _ h ∙ ap (λ (m : ℕ). (first ++ (join p (pred q) [] ∷ meetingNodes)) ++ (project m (allColumns (columnsIn s)) ∷ [])) last-meeting)
+        (passed-over _ _ (short && shortRule2Fits x f) h ∙ ap (λ (m : ℕ). (first ++ (join p (pred q) [] ∷ meetingNodes)) ++ (project m (allColumns (columnsIn s)) ∷ [])) last-meeting)
         (written-then inside-behind w)
 
     pub every-plain : {b₁ b₂ end : List ℕ} {failing failed count : ℕ} → (short && shortRule4Fits x f) ≡ false → (short && shortRule5Fits x f) ≡ false
@@ -369,7 +284,7 @@ module _ {catalogue : List ℕ} {short : Bool} {plan : List ℕ} {range : Range}
         let next : suc last ≡ meeting = omega (arith, last-meeting, meeting-is) in
         let next-but-one : suc (suc last) ≡ failing = omega (arith, next, fails .counted) in
         written-as
-        (chosen-false (short && shortRule4Fits x f) _ _ h ∙ chosen-false (short && shortRule5Fits x f) _ _ k ∙ ap (λ (nodes : List Node). (first ++ (join p (pred q) [] ∷ meetingNodes)) ++ nodes) (three-nodes (sym (done .written .counted)) last-meeting next next-but-one))
+        (passed-over _ _ (short && shortRule4Fits x f) h ∙ passed-over _ _ (short && shortRule5Fits x f) k ∙ ap (λ (nodes : List Node). (first ++ (join p (pred q) [] ∷ meetingNodes)) ++ nodes) (three-nodes (sym (done .written .counted)) last-meeting next next-but-one))
         (written-then inside-behind (written-then (written-then fails columns) differs))
       where
         three-nodes : {q q′ l l′ m m′ o o′ : ℕ} → q ≡ q′ → l ≡ l′ → m ≡ m′ → o ≡ o′ → subtract q l ∷ project m (allColumns (columnsIn s)) ∷ subtract p o ∷ [] ≡ subtract q′ l′ ∷ project m′ (allColumns (columnsIn s)) ∷ subtract p o′ ∷ []

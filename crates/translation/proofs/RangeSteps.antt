@@ -26,17 +26,12 @@ use Rattle.question.specs.declared.node.Node as question
 use Rattle.question.specs.declared.node.Node.the-variants.{Table, Alpha, Target, Binding, RangeOr, RangeAnd, RangeAndNot, Atom as AtomNode, And, Or, Not, Some, Every, IllFormed}
 use Rattle.question.proofs.Forms.{lower, second-of, references-lower}
 use Rattle.question.proofs.node.Node.{the-type}
-use Rattle.conditions.specs.Readings.{rangeAt, targetsAt, bindingsAt, restrictionAt}
-use Rattle.translation.specs.Translating.{Inside, Names, RangeReady, RangeDone}
+use Rattle.conditions.specs.Readings.{Inside, Names, rangeAt, targetsAt, bindingsAt, restrictionAt}
+use Rattle.translation.specs.Translating.{RangeReady, RangeDone}
 use Rattle.emission.specs.Written.{Room, Written}
 use Rattle.translation.specs.declared.translate.Made.{Made}
-use Rattle.conditions.proofs.Readings.{fits-in, range-is}
-use Rattle.short_rules.proofs.RuleLaws.{written-as}
-use Rattle.emission.proofs.WrittenLaws.{written-then, room-after, room-less, last-is}
-
--- nodes that go on behind those written, from the last of them
-pub going-on : {before middle after : List ℕ} {n m count : ℕ} {xs : List Node} (T : ℕ → ℕ → List Node) → Written before n xs middle m → Written middle m (T (m - 1) m) after count → Written before n (xs ++ T (lastNumber n xs) (n + length xs)) after count
-going-on T w v = written-then w (written-as (ap₂ T (last-is w) (sym (w .counted))) v)
+use Rattle.conditions.proofs.Readings.{Below, fits-in, two-lower, range-is}
+use Rattle.emission.proofs.WrittenLaws.{room-after, room-less, last-is, written-as, going-on}
 
 pub some-nodes : (range : Range) → 1 ≤ rangeNodes range
 unfolding rangeNodes
@@ -47,21 +42,17 @@ some-nodes (rangeAnd a b) = omega arith
 some-nodes (rangeAndNot a b) = omega arith
 
 -- no range is without columns
-pub some-columns : (catalogue : List ℕ) → HasColumns catalogue → (range : Range) → GoodRange (columnsOf catalogue) (relationsOf catalogue) range → 1 ≤ widthOfRange (columnsOf catalogue) range
+pub range-wide : (catalogue : List ℕ) → HasColumns catalogue → (range : Range) → GoodRange (columnsOf catalogue) (relationsOf catalogue) range → 1 ≤ widthOfRange (columnsOf catalogue) range
 unfolding GoodRange widthOfRange
-some-columns catalogue stored (table relation) good = stored relation good
-some-columns catalogue stored (alpha targets variable range bindings restriction) good =
+range-wide catalogue stored (table relation) good = stored relation good
+range-wide catalogue stored (alpha targets variable range bindings restriction) good =
     let s = alphaScope (columnsOf catalogue) variable range bindings in
     omega (arith, targets-columns s targets (good .5) (good .3) .0, targets-width s targets)
-some-columns catalogue stored (rangeOr a b) good = some-columns catalogue stored a (good .0)
-some-columns catalogue stored (rangeAnd a b) good = some-columns catalogue stored a (good .0)
-some-columns catalogue stored (rangeAndNot a b) good = some-columns catalogue stored a (good .0)
+range-wide catalogue stored (rangeOr a b) good = range-wide catalogue stored a (good .0)
+range-wide catalogue stored (rangeAnd a b) good = range-wide catalogue stored a (good .0)
+range-wide catalogue stored (rangeAndNot a b) good = range-wide catalogue stored a (good .0)
 
--- a reference of a node: it names a node, and a lower one
-abbrev pub Below : ℕ → ℕ → Type 0
-Below reference lower = (1 ≤ lower) × (lower ≤ reference - 1)
-
--- a call on it
+-- a call on a reference of a node
 pub lower-call : (words : List ℕ) {t reference lower : ℕ} {Ready : Type 0} → 3 * reference ≤ t → Names words reference → Below reference lower → Ready → (3 * lower < t) × (Names words lower × Ready)
 lower-call words h names below ready = (omega (arith, names .0, below .1), ((below .0, omega (arith, names .1, below .1)), ready))
 
@@ -79,20 +70,14 @@ module _ (catalogue words : List ℕ) where
     pub nodes : (short : Bool) (n : ℕ) → translateRange columns short (rangeAt words reference) n ≡ plainSides node (λ m. translateRange columns short (rangeAt words left) m) (λ m. translateRange columns short (rangeAt words right) m) n
 
   module _ {reference left right : ℕ} (named : 1 ≤ reference) where
-    two-below : (isRange (kindNamed words (reference - 1) left) && isRange (kindNamed words (reference - 1) right)) ≡ true → Below reference left × Below reference right
-    two-below h =
-        let a : Bool = isRange (kindNamed words (reference - 1) left) in
-        let b : Bool = isRange (kindNamed words (reference - 1) right) in
-        (lower words (reference - 1) left isRange refl (and-left a b h), lower words (reference - 1) right isRange refl (and-right a b h))
-
     -- the whole reads as a range that is made of the two
     sides-as : {node : ℕ → ℕ → Node} {whole : Range} → rangeAt words reference ≡ whole → (isRange (kindNamed words (reference - 1) left) && isRange (kindNamed words (reference - 1) right)) ≡ true → rangeNodes whole ≡ rangeNodes (rangeAt words left) + rangeNodes (rangeAt words right) + 1 → widthOfRange columns whole ≡ widthOfRange columns (rangeAt words left)
         → (GoodRange columns (relationsOf catalogue) whole → GoodRange columns (relationsOf catalogue) (rangeAt words left) × GoodRange columns (relationsOf catalogue) (rangeAt words right))
         → ((short : Bool) (n : ℕ) → translateRange columns short whole n ≡ plainSides node (λ m. translateRange columns short (rangeAt words left) m) (λ m. translateRange columns short (rangeAt words right) m) n) → Sides node reference left right
     sides-as e fit size wide good nodes =
         record {
-          left-below = two-below fit .0;
-          right-below = two-below fit .1;
+          left-below = two-lower words isRange refl (reference - 1) left right fit .0;
+          right-below = two-lower words isRange refl (reference - 1) left right fit .1;
           size = ap rangeNodes e ∙ size;
           wide = ap (widthOfRange columns) e ∙ wide;
           good = λ g. good (subst (GoodRange columns (relationsOf catalogue)) e g);
@@ -161,20 +146,3 @@ call-alpha catalogue words {t} {reference} {n} {target} {binding} {condition} {p
       omega (arith, asked .0, names .0, low .first-lower, low .third-lower),
       (omega (arith, names .1, low .second-lower), (some, omega (arith, names .1, low .first-lower)), omega (arith, names .1, low .third-lower), subst (λ range. RangeReady catalogue plan range n) (range-is words reference (Alpha target binding condition) (names .0) e) (asked .1 .1)),
     )
-
--- a node that is no range reads as relation 0
-pub no-range : (node : question.Node) (first second third : Reading) → OneOf (2 ∷ 3 ∷ 7 ∷ 8 ∷ 9 ∷ 10 ∷ 11 ∷ 12 ∷ 13 ∷ []) (tagOf the-type node) → readingOf node first second third .range ≡ table 0
-no-range (Table relation) first second third h = absurd (miss (2 ∷ 3 ∷ 7 ∷ 8 ∷ 9 ∷ 10 ∷ 11 ∷ 12 ∷ 13 ∷ []) 0 tt h)
-no-range (Alpha target binding condition) first second third h = absurd (miss (2 ∷ 3 ∷ 7 ∷ 8 ∷ 9 ∷ 10 ∷ 11 ∷ 12 ∷ 13 ∷ []) 1 tt h)
-no-range (Target variable number next) first second third h = refl
-no-range (Binding variable range next) first second third h = refl
-no-range (RangeOr left right) first second third h = absurd (miss (2 ∷ 3 ∷ 7 ∷ 8 ∷ 9 ∷ 10 ∷ 11 ∷ 12 ∷ 13 ∷ []) 4 tt h)
-no-range (RangeAnd left right) first second third h = absurd (miss (2 ∷ 3 ∷ 7 ∷ 8 ∷ 9 ∷ 10 ∷ 11 ∷ 12 ∷ 13 ∷ []) 5 tt h)
-no-range (RangeAndNot left right) first second third h = absurd (miss (2 ∷ 3 ∷ 7 ∷ 8 ∷ 9 ∷ 10 ∷ 11 ∷ 12 ∷ 13 ∷ []) 6 tt h)
-no-range (AtomNode atom) first second third h = refl
-no-range (And left right) first second third h = refl
-no-range (Or left right) first second third h = refl
-no-range (Not inner) first second third h = refl
-no-range (Some variable range condition) first second third h = refl
-no-range (Every variable range condition) first second third h = refl
-no-range IllFormed first second third h = refl

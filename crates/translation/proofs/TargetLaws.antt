@@ -1,4 +1,5 @@
 -- The columns of targets. Assumes nothing.
+use Rattle.emission.proofs.ListingLaws.{numbers-append}
 use Prim.Native.Nat.{ℕ, zero, suc, _+_, _-_, _≤_}
 use mathlib.Core.Path.{_≡_, refl, sym, ap, subst, _∙_}
 use mathlib.Core.Bool.{Bool, true, false, cond}
@@ -18,7 +19,6 @@ use Rattle.question.specs.declared.node.Node.{Node}
 use Rattle.question.specs.declared.node.Node.the-variants.{Table, Alpha, Target as TargetNode, Binding, RangeOr, RangeAnd, RangeAndNot, Atom as AtomNode, And, Or, Not, Some, Every, IllFormed}
 use Rattle.question.proofs.node.Node.{the-type}
 use Rattle.emission.specs.Listings.{numbersOf}
-use Rattle.short_rules.proofs.RuleLaws.{numbers-append}
 
 pub whole-target : (variable : ℕ) {number : ℕ} → number ≡ 0 → targetOf variable number ≡ wholeRow variable
 whole-target variable e = ap (targetOf variable) e
@@ -38,19 +38,3 @@ width-inside (entry x w ∷ s) v = go (eqb v x) (width-inside s v)
 -- the first target of several
 pub targets-next : (s : Scope) (t : Target) (targets : List Target) → numbersOf (flat (targetColumns s) (t ∷ targets)) ≡ numbersOf (targetColumns s t) ++ numbersOf (flat (targetColumns s) targets)
 targets-next s t targets = numbers-append (targetColumns s t) (flat (targetColumns s) targets)
-
-pub no-targets : (node : Node) (first second third : Reading) → OneOf (0 ∷ 1 ∷ 3 ∷ 4 ∷ 5 ∷ 6 ∷ 7 ∷ 8 ∷ 9 ∷ 10 ∷ 11 ∷ 12 ∷ 13 ∷ []) (tagOf the-type node) → readingOf node first second third .targets ≡ []
-no-targets (Table relation) first second third h = refl
-no-targets (Alpha target binding condition) first second third h = refl
-no-targets (TargetNode variable number next) first second third h = absurd (miss (0 ∷ 1 ∷ 3 ∷ 4 ∷ 5 ∷ 6 ∷ 7 ∷ 8 ∷ 9 ∷ 10 ∷ 11 ∷ 12 ∷ 13 ∷ []) 2 tt h)
-no-targets (Binding variable range next) first second third h = refl
-no-targets (RangeOr left right) first second third h = refl
-no-targets (RangeAnd left right) first second third h = refl
-no-targets (RangeAndNot left right) first second third h = refl
-no-targets (AtomNode atom) first second third h = refl
-no-targets (And left right) first second third h = refl
-no-targets (Or left right) first second third h = refl
-no-targets (Not inner) first second third h = refl
-no-targets (Some variable range condition) first second third h = refl
-no-targets (Every variable range condition) first second third h = refl
-no-targets IllFormed first second third h = refl

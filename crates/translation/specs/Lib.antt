@@ -2,4 +2,3 @@
 pub mod TranslateCall
 -- What translating asks for and leaves
 pub mod Translating
-pub mod HeavyCount

@@ -3,8 +3,7 @@ use Prim.Native.Nat.{ℕ, _+_, _*_, _≤_, _<_}
 use mathlib.Core.Path.{_≡_}
 use mathlib.Core.Bool.{Bool}
 use mathlib.Core.List.{List}
-use lib.ListN.{length}
-use Rattle.relations.specs.Limits.{columnLimit, questionNodeWords}
+use Rattle.relations.specs.Limits.{columnLimit}
 use Rattle.calculus.specs.Question.{Range, Bindings, MaybeCondition, Condition, rangeNodes, bindingNodes, maybeNodes, conditionNodes}
 use Rattle.calculus.specs.Scope.{extend}
 use Rattle.calculus.specs.Form.{widthOfRange, scopeOfBindings, GoodRange, GoodBindings, GoodMaybe, GoodCondition}
@@ -16,13 +15,6 @@ use Rattle.emission.specs.Written.{Room, Written}
 use Rattle.conditions.specs.declared.scope.Scope.{Scope}
 use Rattle.translation.specs.declared.translate.Made.{Made}
 use Rattle.translation.specs.declared.translate.Bound.{Bound}
-
--- a reference of the table, or none; one that names a node
-abbrev pub Inside : List ℕ → ℕ → Type 0
-Inside words reference = reference * questionNodeWords ≤ length words
-
-abbrev pub Names : List ℕ → ℕ → Type 0
-Names words reference = (1 ≤ reference) × Inside words reference
 
 -- Each node of the question has room for four of the plan.
 module _ (catalogue : List ℕ) where
@@ -48,13 +40,12 @@ module _ (catalogue : List ℕ) where
     pub fits : ScopeFits (bound .scope)
     pub stands : scopeOf (bound .scope) ≡ scopeOfBindings (columnsOf catalogue) bindings (scopeOf scope)
 
-  -- `extra`: S5 takes two nodes of the room of the "every" above it
-  pub record ConditionReady (plan : List ℕ) (restriction : MaybeCondition) (scope : Scope) (n extra : ℕ) : Type 0 where
+  pub record ConditionReady (plan : List ℕ) (restriction : MaybeCondition) (scope : Scope) (n : ℕ) : Type 0 where
     pub good : GoodMaybe (columnsOf catalogue) (relationsOf catalogue) restriction (scopeOf scope)
     pub fits : ScopeFits scope
     pub stored : HasColumns catalogue
     pub some-nodes : 1 ≤ n
-    pub room : Room plan n (4 * maybeNodes restriction + extra)
+    pub room : Room plan n (4 * maybeNodes restriction)
 
   -- a condition on the product of P with a range of x, which stands before node n
   pub record InsideReady (plan : List ℕ) (x width : ℕ) (f : Condition) (scope : Scope) (n : ℕ) : Type 0 where

@@ -7,7 +7,7 @@ ghost use Rattle.catalogue.specs.Judging.{catalogueOk};
 ghost use Rattle.question.specs.Judgement.{judged};
 ghost use Rattle.question.specs.declared.judgement.Judgement.the-variants.{Accepted};
 ghost use Rattle.translation.specs.TranslateCall.{translateNumbers, planBufferWords, written, behindCatalogue, translateOutcome};
-use crate::heavy::count_heavy;
+use emission::heavy::count_heavy;
 use emission::limits::PLAN_WORDS;
 use crate::translate::translate_range;
 use catalogue::judging::Judged;

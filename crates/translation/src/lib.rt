@@ -1,4 +1,3 @@
 // Translation: an accepted question's node table becomes exactly the plan words that the rules name.
 pub mod call;
-pub mod heavy;
 pub mod translate;

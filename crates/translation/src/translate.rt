@@ -15,25 +15,26 @@ ghost use Rattle.calculus.specs.ShortRules.{shortRule3Fits, shortRule5Fits, sho
 ghost use Rattle.calculus.specs.Translation.{itself, itsOpposite, divisionBy, translateMaybe, translateCondition};
 ghost use Rattle.catalogue.specs.Stored.{columnsOf};
 ghost use Rattle.question.specs.Trees.{alphaOf, targetOf};
-ghost use Rattle.conditions.specs.Readings.{rangeAt, targetsAt, bindingsAt, restrictionAt, conditionAt};
+ghost use Rattle.conditions.specs.Readings.{Inside, Names, rangeAt, targetsAt, bindingsAt, restrictionAt, conditionAt};
 ghost use Rattle.conditions.specs.Scopes.{scopeOf, ScopeFits};
 ghost use Rattle.emission.specs.Listings.{Longer, numbersOf};
 ghost use Rattle.emission.specs.Written.{Room, Written};
-ghost use Rattle.translation.specs.Translating.{Inside, Names, RangeReady, RangeDone, BindingsReady, BindingsDone, ConditionReady, InsideReady, DivisionReady};
-use emission::emit::Listing;
+ghost use Rattle.translation.specs.Translating.{RangeReady, RangeDone, BindingsReady, BindingsDone, ConditionReady, InsideReady, DivisionReady};
+use emission::listing::Listing;
 use emission::emit::intersect;
 use emission::emit::load;
-use emission::emit::no_list;
+use emission::listing::no_list;
 use emission::emit::product;
 use emission::emit::project;
 use emission::emit::subtract;
 use emission::emit::unite;
-use emission::emit::with_word;
+use emission::listing::with_word;
 use conditions::leaves::leaves_of;
-use short_rules::rules::short_rule_2_fits;
-use short_rules::rules::short_rule_4_fits;
-use short_rules::rules::short_rule_5_fits;
-use short_rules::rules::with_columns;
+use short_rules::fits::division_fits;
+use short_rules::fits::opposite_fits;
+use short_rules::fits::short_rule_2_fits;
+use short_rules::fits::short_rule_4_fits;
+use emission::listing::with_columns;
 use short_rules::rules::write_project;
 use short_rules::rules::write_select;
 use short_rules::rules::write_short_rule_2;
@@ -109,46 +110,6 @@ fn with_targets(words: &[u32], reference: u32, scope: Scope, list: Listing) -> L
             with_target(scope, variable, attribute, list),
         ),
         _ => list,
-    }
-}
-
-// S3 or S6 fits a "not" above the condition that a reference names.
-fn opposite_fits(words: &[u32], reference: u32) -> bool
-    requires { ⌜ Names (now words) reference × (calculus.conditionNodes (conditionAt (now words) reference) ≤ questionNodeLimit) ⌝ }
-    ensures { λ r. ⌜ r ≡ (shortRule3Fits (conditionAt (now (words .entry)) reference) || shortRule6Fits (conditionAt (now (words .entry)) reference)) ⌝ }
-{
-    let node = decode(words, (reference - 1) as usize);
-    match node {
-        Node::Some {
-            variable,
-            range: _,
-            condition,
-        } => short_rule_2_fits(words, variable, leaves_of(words, condition)),
-        Node::And { left: _, right: _ } => false,
-        Node::Or { left: _, right: _ } => false,
-        Node::Not { inner: _ } => false,
-        Node::Every {
-            variable: _,
-            range: _,
-            condition: _,
-        } => false,
-        _ => true,
-    }
-}
-
-// S5 fits an "every y" above the condition that a reference names.
-fn division_fits(words: &[u32], y: u32, reference: u32) -> bool
-    requires { ⌜ Names (now words) reference × (calculus.conditionNodes (conditionAt (now words) reference) ≤ questionNodeLimit) ⌝ }
-    ensures { λ r. ⌜ r ≡ shortRule5Fits y (conditionAt (now (words .entry)) reference) ⌝ }
-{
-    let node = decode(words, (reference - 1) as usize);
-    match node {
-        Node::Some {
-            variable,
-            range: _,
-            condition,
-        } => short_rule_5_fits(words, variable, y, leaves_of(words, condition)),
-        _ => false,
     }
 }
 
@@ -305,7 +266,7 @@ fn translate_condition(
     plan: &mut [u32],
     n: u32,
 ) -> u32
-    requires { ⌜ Inside (now words) reference × ConditionReady (now catalogue) (now plan) (restrictionAt (now words) reference) scope n 0 ⌝ }
+    requires { ⌜ Inside (now words) reference × ConditionReady (now catalogue) (now plan) (restrictionAt (now words) reference) scope n ⌝ }
     ensures { λ r. ⌜ Written (now (plan .entry)) n (translateMaybe (columnsOf (now (catalogue .entry))) short (restrictionAt (now (words .entry)) reference) (scopeOf scope) p n) (now (plan .exit)) r ⌝ }
 {
     if reference == 0 {
@@ -386,7 +347,7 @@ fn translate_opposite(
     plan: &mut [u32],
     n: u32,
 ) -> u32
-    requires { ⌜ Names (now words) reference × ConditionReady (now catalogue) (now plan) (calculus.onCondition (conditionAt (now words) reference)) scope n 0 × ((shortRule3Fits (conditionAt (now words) reference) || shortRule6Fits (conditionAt (now words) reference)) ≡ true) ⌝ }
+    requires { ⌜ Names (now words) reference × ConditionReady (now catalogue) (now plan) (calculus.onCondition (conditionAt (now words) reference)) scope n × ((shortRule3Fits (conditionAt (now words) reference) || shortRule6Fits (conditionAt (now words) reference)) ≡ true) ⌝ }
     ensures { λ r. ⌜ Written (now (plan .entry)) n (translateCondition (columnsOf (now (catalogue .entry))) short (conditionAt (now (words .entry)) reference) itsOpposite (scopeOf scope) p n) (now (plan .exit)) r ⌝ }
 {
     let node = decode(words, (reference - 1) as usize);
@@ -448,7 +409,7 @@ fn translate_some(
     plan: &mut [u32],
     n: u32,
 ) -> u32
-    requires { ⌜ Names (now words) range × Names (now words) condition × ConditionReady (now catalogue) (now plan) (calculus.onCondition (calculus.forSome x (rangeAt (now words) range) (conditionAt (now words) condition))) scope n 0 ⌝ }
+    requires { ⌜ Names (now words) range × Names (now words) condition × ConditionReady (now catalogue) (now plan) (calculus.onCondition (calculus.forSome x (rangeAt (now words) range) (conditionAt (now words) condition))) scope n ⌝ }
     ensures { λ r. ⌜ Written (now (plan .entry)) n (translateCondition (columnsOf (now (catalogue .entry))) short (calculus.forSome x (rangeAt (now (words .entry)) range) (conditionAt (now (words .entry)) condition)) itself (scopeOf scope) p n) (now (plan .exit)) r ⌝ }
 {
     let made = translate_range(catalogue, words, short, range, plan, n);
@@ -528,7 +489,7 @@ fn translate_every(
     plan: &mut [u32],
     n: u32,
 ) -> u32
-    requires { ⌜ Names (now words) range × Names (now words) condition × ConditionReady (now catalogue) (now plan) (calculus.onCondition (calculus.forEvery x (rangeAt (now words) range) (conditionAt (now words) condition))) scope n 0 ⌝ }
+    requires { ⌜ Names (now words) range × Names (now words) condition × ConditionReady (now catalogue) (now plan) (calculus.onCondition (calculus.forEvery x (rangeAt (now words) range) (conditionAt (now words) condition))) scope n ⌝ }
     ensures { λ r. ⌜ Written (now (plan .entry)) n (translateCondition (columnsOf (now (catalogue .entry))) short (calculus.forEvery x (rangeAt (now (words .entry)) range) (conditionAt (now (words .entry)) condition)) itself (scopeOf scope) p n) (now (plan .exit)) r ⌝ }
 {
     let made = translate_range(catalogue, words, short, range, plan, n);

@@ -8,19 +8,15 @@ use Rattle.conditions.proofs.atom.alone_on.Tie as tie
 use Rattle.conditions.proofs.atom.alone_on.Reads as reads
 use Rattle.conditions.proofs.atom.alone_on.Lts as lts
 
--- src/atom.rt:64:13
 enum-known-operand : tie.Need-enum-known-operand
 enum-known-operand c = search needs
 
--- src/atom.rt:67:30
 enum-told : tie.Need-enum-told
 enum-told c = search needs
 
--- src/atom.rt:58:1
 returns : tie.Need-returns
 returns c = sym (ap (aloneOn (c .before .before .before .before .args .x)) (read (c .before .before .before .before .args .atom) (c .before .before .operand .given .1)))
 
--- src/atom.rt:58:1
 returns-2 : tie.Need-returns-2
 returns-2 c = sym (ap (aloneOn (c .before .before .before .args .x)) (read (c .before .before .before .args .atom) (c .before .enum-told .given .1)))
 

@@ -9,19 +9,15 @@ use Rattle.conditions.proofs.atom.are_both.Tie as tie
 use Rattle.conditions.proofs.atom.are_both.Reads as reads
 use Rattle.conditions.proofs.atom.are_both.Lts as lts
 
--- src/atom.rt:97:13
 enum-known-operand : tie.Need-enum-known-operand
 enum-known-operand c = search needs
 
--- src/atom.rt:102:30
 enum-told : tie.Need-enum-told
 enum-told c = search needs
 
--- src/atom.rt:91:1
 returns : tie.Need-returns
 returns c = sym (ap (λ (o : Operand). areBoth (c .before .before .before .before .before .args .z) (c .before .before .before .before .before .args .y) (c .before .before .before .before .before .args .atom .variable) (operandOf o)) (c .before .before .before .operand .given .1))
 
--- src/atom.rt:91:1
 returns-2 : tie.Need-returns-2
 returns-2 c = search needs
 

@@ -8,23 +8,18 @@ use Rattle.conditions.proofs.atom.compares_with_other.Tie as tie
 use Rattle.conditions.proofs.atom.compares_with_other.Reads as reads
 use Rattle.conditions.proofs.atom.compares_with_other.Lts as lts
 
--- src/atom.rt:78:13
 enum-known-operand : tie.Need-enum-known-operand
 enum-known-operand c = search needs
 
--- src/atom.rt:82:17
 returns : tie.Need-returns
 returns c = sym (ap (comparesWithOther (c .before .before .before .before .before .args .x)) (read (c .before .before .before .before .before .args .atom) (c .before .before .before .operand .given .1)) ∙ taken _ _ (c .if1 .taken))
 
--- src/atom.rt:86:30
 enum-told : tie.Need-enum-told
 enum-told c = search needs
 
--- src/atom.rt:72:1
 returns-2 : tie.Need-returns-2
 returns-2 c = sym (ap (comparesWithOther (c .before .before .before .before .before .args .x)) (read (c .before .before .before .before .before .args .atom) (c .before .before .before .operand .given .1)) ∙ passed _ _ (c .if1 .left))
 
--- src/atom.rt:72:1
 returns-3 : tie.Need-returns-3
 returns-3 c = search needs
 

@@ -10,15 +10,12 @@ use Rattle.conditions.proofs.atom.equates_outside.Lts as lts
 use Rattle.conditions.proofs.atom.are_both.Reads as are-both-reads
 use Rattle.conditions.proofs.atom.compares_with_other.Reads as compares-with-other-reads
 
--- src/atom.rt:119:29
 compares-with-other-requires : tie.Need-compares-with-other-requires
 compares-with-other-requires c κs = search needs
 
--- src/atom.rt:119:61
 are-both-requires : tie.Need-are-both-requires
 are-both-requires c κs = search needs
 
--- src/atom.rt:115:1
 returns : tie.Need-returns
 returns c = ap₂ _&&_ (equal-number (c .before .before .before .args .atom .operator) (c .before .before .before .pre .operator)) (ap₂ _&&_ (c .before .compares-with-other .ensures) (ap not (c .are-both .ensures)))
 

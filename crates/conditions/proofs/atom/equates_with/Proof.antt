@@ -9,11 +9,9 @@ use Rattle.conditions.proofs.atom.equates_with.Reads as reads
 use Rattle.conditions.proofs.atom.equates_with.Lts as lts
 use Rattle.conditions.proofs.atom.are_both.Reads as are-both-reads
 
--- src/atom.rt:111:28
 are-both-requires : tie.Need-are-both-requires
 are-both-requires c κs = search needs
 
--- src/atom.rt:107:1
 returns : tie.Need-returns
 returns c = ap₂ _&&_ (equal-number (c .before .before .args .atom .operator) (c .before .before .pre .operator)) (c .are-both .ensures)
 

@@ -13,11 +13,9 @@ use Rattle.conditions.proofs.atom.opposite_atom.Reads as reads
 use Rattle.conditions.proofs.atom.opposite_atom.Lts as lts
 use Rattle.conditions.proofs.atom.opposite.Reads as opposite-reads
 
--- src/atom.rt:53:19
 opposite-requires : tie.Need-opposite-requires
 opposite-requires c κs = search needs
 
--- src/atom.rt:44:1
 returns : tie.Need-returns
 returns c =
     let s = c .before .before in

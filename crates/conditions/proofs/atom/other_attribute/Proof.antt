@@ -10,23 +10,18 @@ use Rattle.conditions.proofs.atom.other_attribute.Tie as tie
 use Rattle.conditions.proofs.atom.other_attribute.Reads as reads
 use Rattle.conditions.proofs.atom.other_attribute.Lts as lts
 
--- src/atom.rt:169:13
 enum-known-operand : tie.Need-enum-known-operand
 enum-known-operand c = search needs
 
--- src/atom.rt:172:17
 returns : tie.Need-returns
 returns c = (sym (ap (λ (a : calculus.Atom). otherAttribute (c .before .before .before .before .before .before .args .z) a .number) (read (c .before .before .before .before .before .before .args .atom) (c .before .before .before .operand .given .1)) ∙ ap (λ (a : Attribute). a .number) (taken _ _ (c .if1 .taken))), rw (c .before .before .before .operand .given .1) at (c .before .before .before .before .before .before .pre .operand))
 
--- src/atom.rt:176:30
 enum-told : tie.Need-enum-told
 enum-told c = search needs
 
--- src/atom.rt:160:1
 returns-2 : tie.Need-returns-2
 returns-2 c = (sym (ap (λ (a : calculus.Atom). otherAttribute (c .before .before .before .before .before .before .args .z) a .number) (read (c .before .before .before .before .before .before .args .atom) (c .before .before .before .operand .given .1)) ∙ ap (λ (a : Attribute). a .number) (passed _ _ (c .if1 .left))), c .before .before .before .before .before .before .pre .attribute)
 
--- src/atom.rt:160:1
 returns-3 : tie.Need-returns-3
 returns-3 c = (sym (ap (λ (a : calculus.Atom). otherAttribute (c .before .before .before .args .z) a .number) (read (c .before .before .before .args .atom) (c .enum-told .given .1))), c .before .before .before .pre .attribute)
 

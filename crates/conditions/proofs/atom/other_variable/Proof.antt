@@ -10,23 +10,18 @@ use Rattle.conditions.proofs.atom.other_variable.Tie as tie
 use Rattle.conditions.proofs.atom.other_variable.Reads as reads
 use Rattle.conditions.proofs.atom.other_variable.Lts as lts
 
--- src/atom.rt:148:13
 enum-known-operand : tie.Need-enum-known-operand
 enum-known-operand c = search needs
 
--- src/atom.rt:152:17
 returns : tie.Need-returns
 returns c = sym (ap (otherVariable (c .before .before .before .before .before .args .z)) (read (c .before .before .before .before .before .args .atom) (c .before .before .before .operand .given .1)) ∙ taken _ _ (c .if1 .taken))
 
--- src/atom.rt:156:30
 enum-told : tie.Need-enum-told
 enum-told c = search needs
 
--- src/atom.rt:142:1
 returns-2 : tie.Need-returns-2
 returns-2 c = sym (ap (otherVariable (c .before .before .before .before .before .args .z)) (read (c .before .before .before .before .before .args .atom) (c .before .before .before .operand .given .1)) ∙ passed _ _ (c .if1 .left))
 
--- src/atom.rt:142:1
 returns-3 : tie.Need-returns-3
 returns-3 c = search needs
 

@@ -10,23 +10,18 @@ use Rattle.conditions.proofs.atom.own_attribute.Tie as tie
 use Rattle.conditions.proofs.atom.own_attribute.Reads as reads
 use Rattle.conditions.proofs.atom.own_attribute.Lts as lts
 
--- src/atom.rt:131:13
 enum-known-operand : tie.Need-enum-known-operand
 enum-known-operand c = search needs
 
--- src/atom.rt:134:17
 returns : tie.Need-returns
 returns c = sym (ap (λ (a : calculus.Atom). ownAttribute (c .before .before .before .before .before .before .args .z) a .number) (read (c .before .before .before .before .before .before .args .atom) (c .before .before .before .operand .given .1)) ∙ ap (λ (a : Attribute). a .number) (taken _ _ (c .if1 .taken)))
 
--- src/atom.rt:138:30
 enum-told : tie.Need-enum-told
 enum-told c = search needs
 
--- src/atom.rt:123:1
 returns-2 : tie.Need-returns-2
 returns-2 c = sym (ap (λ (a : calculus.Atom). ownAttribute (c .before .before .before .before .before .before .args .z) a .number) (read (c .before .before .before .before .before .before .args .atom) (c .before .before .before .operand .given .1)) ∙ ap (λ (a : Attribute). a .number) (passed _ _ (c .if1 .left)))
 
--- src/atom.rt:123:1
 returns-3 : tie.Need-returns-3
 returns-3 c = search needs
 

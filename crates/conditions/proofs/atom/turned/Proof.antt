@@ -10,31 +10,24 @@ use Rattle.conditions.proofs.atom.turned.Tie as tie
 use Rattle.conditions.proofs.atom.turned.Reads as reads
 use Rattle.conditions.proofs.atom.turned.Lts as lts
 
--- src/atom.rt:30:1
 returns : tie.Need-returns
 returns c = sym (ap (λ (k : ℕ). operatorNumber (turned (operatorNamed k))) (c .match .keys1))
 
--- src/atom.rt:30:1
 returns-2 : tie.Need-returns-2
 returns-2 c = sym (ap (λ (k : ℕ). operatorNumber (turned (operatorNamed k))) (c .match .keys2))
 
--- src/atom.rt:30:1
 returns-3 : tie.Need-returns-3
 returns-3 c = sym (ap (λ (k : ℕ). operatorNumber (turned (operatorNamed k))) (c .match .keys3))
 
--- src/atom.rt:30:1
 returns-4 : tie.Need-returns-4
 returns-4 c = sym (ap (λ (k : ℕ). operatorNumber (turned (operatorNamed k))) (c .match .keys4))
 
--- src/atom.rt:30:1
 returns-5 : tie.Need-returns-5
 returns-5 c = sym (ap (λ (k : ℕ). operatorNumber (turned (operatorNamed k))) (c .match .keys5))
 
--- src/atom.rt:30:1
 returns-6 : tie.Need-returns-6
 returns-6 c = sym (ap (λ (k : ℕ). operatorNumber (turned (operatorNamed k))) (c .match .keys6))
 
--- src/atom.rt:30:1
 returns-7 : tie.Need-returns-7
 returns-7 c = sym (ap (λ (o : Operator). operatorNumber (turned o)) (no-operator (c .before .args .operator) (c .match .rest .0 .0 .0 .0 .0 .1) (c .match .rest .0 .0 .0 .0 .1) (c .match .rest .0 .0 .0 .1) (c .match .rest .0 .0 .1) (c .match .rest .0 .1) (c .match .rest .1)))
 

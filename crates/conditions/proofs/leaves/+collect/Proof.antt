@@ -1,10 +1,11 @@
+use Rattle.conditions.proofs.OtherNodes.{reads-as-leaf}
 use Rattle.question.specs.declared.node.Node.{Node}
 use Rattle.conditions.specs.Leaves.{leafOf}
 use Rattle.conditions.specs.Readings.{conditionAt}
 use Rattle.calculus.specs.Question as calculus
 use Rattle.question.specs.Nodes.{nodeAt}
 use Rattle.conditions.proofs.LeafLaws.{collected-and, collected-or, collected-none, collected-leaf, collected-as, collect-left, collect-right}
-use Rattle.conditions.proofs.Readings.{fits-in, two-conditions, condition-is, reads-as-leaf, readingIn}
+use Rattle.conditions.proofs.Readings.{fits-in, two-conditions, condition-is, readingIn}
 use Rattle.question.specs.declared.node.Node.the-variants.{And, Or, Not, Some, Every}
 use Rattle.calculus.specs.Leaves.{leaves}
 use lib.ListN.{length}

@@ -6,15 +6,12 @@ use Rattle.conditions.proofs.leaves.atom_in.Tie as tie
 use Rattle.conditions.proofs.leaves.atom_in.Reads as reads
 use Rattle.conditions.proofs.leaves.atom_in.Lts as lts
 
--- src/leaves.rt:75:20
 enum-known-node : tie.Need-enum-known-node
 enum-known-node c = search needs
 
--- src/leaves.rt:71:1
 returns : tie.Need-returns
 returns c = search needs
 
--- src/leaves.rt:71:1
 returns-2 : tie.Need-returns-2
 returns-2 c = no-atom (c .before .args .node) (c .match .keys2)
 

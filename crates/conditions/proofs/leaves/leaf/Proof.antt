@@ -12,35 +12,27 @@ use Rattle.question.proofs.node.decode.Reads as decode-reads
 use Rattle.conditions.proofs.atom.opposite_atom.Reads as opposite-atom-reads
 use Rattle.conditions.proofs.leaves.atom_in.Reads as atom-in-reads
 
--- src/leaves.rt:90:18
 mul-number : tie.Need-mul-number
 mul-number c = search needs
 
--- src/leaves.rt:90:18
 element-copy-out-number : tie.Need-element-copy-out-number
 element-copy-out-number c = search needs
 
--- src/leaves.rt:91:38
 cast-decode : tie.Need-cast-decode
 cast-decode c = search needs
 
--- src/leaves.rt:91:24
 decode-requires : tie.Need-decode-requires
 decode-requires c κs = c .before .before .pre .0 .inside (c .before .before .args .i) (c .before .before .pre .1)
 
--- src/leaves.rt:91:9
 atom-in-requires : tie.Need-atom-in-requires
 atom-in-requires c κs = search needs
 
--- src/leaves.rt:93:9
 opposite-atom-requires : tie.Need-opposite-atom-requires
 opposite-atom-requires c κs = found-narrow (c .before .before .before .before .before .args .words .now) (getD (c .before .before .before .before .before .args .t2 .numbers) (c .before .before .before .before .before .args .i) 0) (c .before .before .decode .ensures) (c .before .atom-in .ensures)
 
--- src/leaves.rt:93:9
 returns : tie.Need-returns
 returns c = (rw (c .before .if1 .taken) (c .opposite-atom .ensures .0 ∙ ap oppositeAtom (found-is (c .before .before .before .before .before .before .args .words .now) (getD (c .before .before .before .before .before .before .args .t2 .numbers) (c .before .before .before .before .before .before .args .i) 0) (c .before .before .before .decode .ensures) (c .before .before .atom-in .ensures))), c .opposite-atom .ensures .1)
 
--- src/leaves.rt:86:1
 returns-2 : tie.Need-returns-2
 returns-2 c = (rw (c .if1 .left) (found-is (c .before .before .before .before .before .args .words .now) (getD (c .before .before .before .before .before .args .t2 .numbers) (c .before .before .before .before .before .args .i) 0) (c .before .before .decode .ensures) (c .before .atom-in .ensures)), found-narrow (c .before .before .before .before .before .args .words .now) (getD (c .before .before .before .before .before .args .t2 .numbers) (c .before .before .before .before .before .args .i) 0) (c .before .before .decode .ensures) (c .before .atom-in .ensures))
 

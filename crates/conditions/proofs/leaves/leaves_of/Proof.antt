@@ -11,15 +11,12 @@ use Rattle.conditions.proofs.leaves.leaves_of.Lts as lts
 use Rattle.conditions.proofs.leaves.collect.Reads as collect-reads
 use Rattle.conditions.proofs.leaves.no_leaves.Reads as no-leaves-reads
 
--- src/leaves.rt:134:31
 no-leaves-requires : tie.Need-no-leaves-requires
 no-leaves-requires c κs = search needs
 
--- src/leaves.rt:134:5
 collect-requires : tie.Need-collect-requires
 collect-requires c κs = subst (λ l. Collectable (c .before .before .args .words .now) (c .before .before .args .reference) l) (sym (c .no-leaves .ensures)) (c .before .before .pre)
 
--- src/leaves.rt:130:1
 returns : tie.Need-returns
 returns c = leaves-of (c .before .before .before .args .words .now) (subst (λ l. Collected (c .before .before .before .args .words .now) l (conditionAt (c .before .before .before .args .words .now) (c .before .before .before .args .reference)) (c .collect .result)) (c .before .no-leaves .ensures) (c .collect .ensures))
 

@@ -20,57 +20,44 @@ Inv-loop variable n scope passed₀ i₀ left₀ passed i left = (i + left ≡ s
 abbrev μ-loop : tie.MeasureT-loop
 μ-loop variable n scope passed₀ i₀ left₀ passed i left = left
 
--- src/scope.rt:66:5
 loop-holds : tie.Need-loop-holds Inv-loop μ-loop
 loop-holds c = (omega arith, omega (arith, c .pre .0 .counted), omega arith)
 
--- src/scope.rt:67:12
 mul-if1 : tie.Need-mul-if1 Inv-loop μ-loop
 mul-if1 c = omega arith
 
--- src/scope.rt:67:12
 element-copy-out-if1 : tie.Need-element-copy-out-if1 Inv-loop μ-loop
 element-copy-out-if1 c = omega arith
 
--- src/scope.rt:68:20
 add-result : tie.Need-add-result Inv-loop μ-loop
 add-result c = omega arith
 
--- src/scope.rt:68:13
 returns : tie.Need-returns Inv-loop μ-loop
 returns c = omega (arith, c .before .before .before .loop .inv .2, column-here (c .before .before .before .before .args .t1) (c .before .before .before .before .args .variable) (c .before .before .before .loop .i) (c .before .before .before .loop .left) (omega arith) (c .before .before .before .before .args .n) (c .if1 .taken))
 
--- src/scope.rt:70:19
 mul-passed : tie.Need-mul-passed Inv-loop μ-loop
 mul-passed c = omega arith
 
--- src/scope.rt:70:19
 element-copy-out-passed : tie.Need-element-copy-out-passed Inv-loop μ-loop
 element-copy-out-passed c = omega arith
 
--- src/scope.rt:70:9
 add-passed : tie.Need-add-passed Inv-loop μ-loop
 add-passed c = omega (arith, columns-here (c .before .before .before .before .before .args .t1) (c .before .before .before .before .before .args .variable) (c .before .before .before .before .loop .i) (c .before .before .before .before .loop .left) (omega arith))
 
--- src/scope.rt:71:9
 add-i : tie.Need-add-i Inv-loop μ-loop
 add-i c = omega arith
 
--- src/scope.rt:72:9
 sub-left : tie.Need-sub-left Inv-loop μ-loop
 sub-left c = omega arith
 
--- src/scope.rt:66:5
 loop-less : tie.Need-loop-less Inv-loop μ-loop
 loop-less c = omega arith
 
--- src/scope.rt:66:5
 loop-again : tie.Need-loop-again Inv-loop μ-loop
 loop-again c = let s = c .before .before .before .before .before in
     let l = c .before .before .before .before .loop in
     (omega arith, omega (arith, columns-here (s .args .t1) (s .args .variable) (l .i) (l .left) (omega arith)), omega (arith, l .inv .2, column-later (s .args .t1) (s .args .variable) (l .i) (l .left) (omega arith) (s .args .n) (c .before .if1 .left)))
 
--- src/scope.rt:59:1
 returns-2 : tie.Need-returns-2 Inv-loop μ-loop
 returns-2 c = let e : c .before .loop .left ≡ 0 = omega arith in
     omega (arith, rw e at (c .before .loop .inv .2))

@@ -8,35 +8,27 @@ use Rattle.conditions.proofs.scope.extend.Tie as tie
 use Rattle.conditions.proofs.scope.extend.Reads as reads
 use Rattle.conditions.proofs.scope.extend.Lts as lts
 
--- src/scope.rt:33:14
 cast-at : tie.Need-cast-at
 cast-at c = search needs
 
--- src/scope.rt:34:5
 mul-longer : tie.Need-mul-longer
 mul-longer c = search needs
 
--- src/scope.rt:34:5
 element-write-longer : tie.Need-element-write-longer
 element-write-longer c = search needs
 
--- src/scope.rt:35:5
 mul-longer-2 : tie.Need-mul-longer-2
 mul-longer-2 c = search needs
 
--- src/scope.rt:35:5
 element-write-longer-2 : tie.Need-element-write-longer-2
 element-write-longer-2 c = search needs
 
--- src/scope.rt:36:20
 add-longer : tie.Need-add-longer
 add-longer c = search needs
 
--- src/scope.rt:37:22
 add-longer-2 : tie.Need-add-longer-2
 add-longer-2 c = search needs
 
--- src/scope.rt:28:1
 returns : tie.Need-returns
 returns c = let s = c .before .before .before in
     let l : length (s .args .scope .variables) ≡ 32 = search needs in

@@ -18,47 +18,36 @@ Inv-loop variable scope i₀ left₀ i left = (i + left ≡ scope .count) × (wi
 abbrev μ-loop : tie.MeasureT-loop
 μ-loop variable scope i₀ left₀ i left = left
 
--- src/scope.rt:48:5
 loop-holds : tie.Need-loop-holds Inv-loop μ-loop
 loop-holds c = (omega arith, refl)
 
--- src/scope.rt:49:12
 mul-if1 : tie.Need-mul-if1 Inv-loop μ-loop
 mul-if1 c = omega arith
 
--- src/scope.rt:49:12
 element-copy-out-if1 : tie.Need-element-copy-out-if1 Inv-loop μ-loop
 element-copy-out-if1 c = omega arith
 
--- src/scope.rt:50:20
 mul-result : tie.Need-mul-result Inv-loop μ-loop
 mul-result c = omega arith
 
--- src/scope.rt:50:20
 element-copy-out-result : tie.Need-element-copy-out-result Inv-loop μ-loop
 element-copy-out-result c = omega arith
 
--- src/scope.rt:50:13
 returns : tie.Need-returns Inv-loop μ-loop
 returns c = sym (c .before .before .before .before .loop .inv .1 ∙ width-here (c .before .before .before .before .before .args .t1) (c .before .before .before .before .before .args .variable) (c .before .before .before .before .loop .i) (c .before .before .before .before .loop .left) (omega arith) (c .before .if1 .taken))
 
--- src/scope.rt:52:9
 add-i : tie.Need-add-i Inv-loop μ-loop
 add-i c = omega arith
 
--- src/scope.rt:53:9
 sub-left : tie.Need-sub-left Inv-loop μ-loop
 sub-left c = omega arith
 
--- src/scope.rt:48:5
 loop-less : tie.Need-loop-less Inv-loop μ-loop
 loop-less c = omega arith
 
--- src/scope.rt:48:5
 loop-again : tie.Need-loop-again Inv-loop μ-loop
 loop-again c = (omega arith, c .before .before .before .loop .inv .1 ∙ width-later (c .before .before .before .before .args .t1) (c .before .before .before .before .args .variable) (c .before .before .before .loop .i) (c .before .before .before .loop .left) (omega arith) (c .if1 .left))
 
--- src/scope.rt:42:1
 returns-2 : tie.Need-returns-2 Inv-loop μ-loop
 returns-2 c = let e : c .before .loop .left ≡ 0 = omega arith in
     sym (rw e at (c .before .loop .inv .1))

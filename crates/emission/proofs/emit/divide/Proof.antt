@@ -11,15 +11,12 @@ use Rattle.emission.proofs.emit.divide.Reads as reads
 use Rattle.emission.proofs.emit.divide.Lts as lts
 use Rattle.emission.proofs.emit.push.Reads as push-reads
 
--- src/emit.rt:160:5
 push-requires : tie.Need-push-requires
 push-requires c κs = search needs
 
--- src/emit.rt:155:1
 same-length : tie.Need-same-length
 same-length c = search needs
 
--- src/emit.rt:155:1
 returns : tie.Need-returns
 returns c listed e =
     let s = c .before .before .before .before .before .before .before in

@@ -17,105 +17,80 @@ Inv-loop plan₀ n operation left right count list at j₀ plan j = (j ≤ 32) �
 abbrev μ-loop : tie.MeasureT-loop
 μ-loop plan₀ n operation left right count list at j₀ plan j = 32 - j
 
--- src/emit.rt:58:14
 mul-at : tie.Need-mul-at Inv-loop μ-loop
 mul-at c = omega arith
 
--- src/emit.rt:59:5
 mul-plan : tie.Need-mul-plan Inv-loop μ-loop
 mul-plan c = omega arith
 
--- src/emit.rt:59:5
 slice-write-plan : tie.Need-slice-write-plan Inv-loop μ-loop
 slice-write-plan c = omega arith
 
--- src/emit.rt:60:10
 add-plan : tie.Need-add-plan Inv-loop μ-loop
 add-plan c = omega arith
 
--- src/emit.rt:60:5
 mul-plan-2 : tie.Need-mul-plan-2 Inv-loop μ-loop
 mul-plan-2 c = omega arith
 
--- src/emit.rt:60:5
 slice-write-plan-2 : tie.Need-slice-write-plan-2 Inv-loop μ-loop
 slice-write-plan-2 c = simp length-set (omega arith)
 
--- src/emit.rt:61:10
 add-plan-2 : tie.Need-add-plan-2 Inv-loop μ-loop
 add-plan-2 c = omega arith
 
--- src/emit.rt:61:5
 mul-plan-3 : tie.Need-mul-plan-3 Inv-loop μ-loop
 mul-plan-3 c = omega arith
 
--- src/emit.rt:61:5
 slice-write-plan-3 : tie.Need-slice-write-plan-3 Inv-loop μ-loop
 slice-write-plan-3 c = simp length-set (omega arith)
 
--- src/emit.rt:62:10
 add-plan-3 : tie.Need-add-plan-3 Inv-loop μ-loop
 add-plan-3 c = omega arith
 
--- src/emit.rt:62:5
 mul-plan-4 : tie.Need-mul-plan-4 Inv-loop μ-loop
 mul-plan-4 c = omega arith
 
--- src/emit.rt:62:5
 slice-write-plan-4 : tie.Need-slice-write-plan-4 Inv-loop μ-loop
 slice-write-plan-4 c = simp length-set (omega arith)
 
--- src/emit.rt:64:5
 loop-holds : tie.Need-loop-holds Inv-loop μ-loop
 loop-holds c = (omega arith, refl)
 
--- src/emit.rt:65:37
 mul-plan-5 : tie.Need-mul-plan-5 Inv-loop μ-loop
 mul-plan-5 c = omega arith
 
--- src/emit.rt:65:37
 array-read-plan : tie.Need-array-read-plan Inv-loop μ-loop
 array-read-plan c = omega arith
 
--- src/emit.rt:65:14
 add-plan-4 : tie.Need-add-plan-4 Inv-loop μ-loop
 add-plan-4 c = omega arith
 
--- src/emit.rt:65:14
 add-plan-5 : tie.Need-add-plan-5 Inv-loop μ-loop
 add-plan-5 c = omega arith
 
--- src/emit.rt:65:9
 mul-plan-6 : tie.Need-mul-plan-6 Inv-loop μ-loop
 mul-plan-6 c = omega arith
 
--- src/emit.rt:65:9
 slice-write-plan-5 : tie.Need-slice-write-plan-5 Inv-loop μ-loop
 slice-write-plan-5 c = omega (arith, simp (length-sets, length-set) at (ap length (c .before .loop .inv .1)))
 
--- src/emit.rt:66:9
 add-j : tie.Need-add-j Inv-loop μ-loop
 add-j c = omega arith
 
--- src/emit.rt:64:5
 loop-less : tie.Need-loop-less Inv-loop μ-loop
 loop-less c = omega arith
 
--- src/emit.rt:64:5
 loop-again : tie.Need-loop-again Inv-loop μ-loop
 loop-again c = let s = c .before .before in
     let l : length (s .args .t7) ≡ 32 = search needs in
     (omega arith, sets-more _ _ (s .args .n * 36 + 4) (c .before .loop .j) (s .args .t7) (omega arith) (c .before .loop .inv .1))
 
--- src/emit.rt:68:5
 add-result : tie.Need-add-result Inv-loop μ-loop
 add-result c = omega arith
 
--- src/emit.rt:46:1
 same-length : tie.Need-same-length Inv-loop μ-loop
 same-length c = simp (length-sets, length-set) at (ap length (c .before .loop .inv .1))
 
--- src/emit.rt:46:1
 returns : tie.Need-returns Inv-loop μ-loop
 returns c = let s = c .before .before in
     let l : length (s .args .t7) ≡ 32 = search needs in

@@ -12,15 +12,12 @@ use Rattle.emission.proofs.emit.select_constant.Reads as reads
 use Rattle.emission.proofs.emit.select_constant.Lts as lts
 use Rattle.emission.proofs.emit.select.Reads as select-reads
 
--- src/emit.rt:122:5
 select-requires : tie.Need-select-requires
 select-requires c κs = search needs
 
--- src/emit.rt:111:1
 same-length : tie.Need-same-length
 same-length c = search needs
 
--- src/emit.rt:111:1
 returns : tie.Need-returns
 returns c o e =
     let s = c .before .before .before .before .before in

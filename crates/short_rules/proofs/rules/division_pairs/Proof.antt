@@ -3,7 +3,7 @@ use Rattle.calculus.specs.ShortRules.{divisionPairs}
 use Rattle.calculus.specs.Leaves.{equatesWith, otherAttribute}
 use Rattle.relations.specs.PlanWords.{pairWords}
 use Rattle.emission.proofs.ListingLaws.{longer-then, longer-none}
-use Rattle.emission.specs.declared.emit.Listing.{Listing}
+use Rattle.emission.specs.declared.listing.Listing.{Listing}
 use Rattle.emission.specs.Listings.{listing, Longer}
 use Rattle.conditions.specs.Leaves.{leafAt, atomsOf}
 use Rattle.calculus.specs.Question as calculus
@@ -21,10 +21,10 @@ use Rattle.short_rules.proofs.rules.division_pairs.Reads as reads
 use Rattle.short_rules.proofs.rules.division_pairs.Lts as lts
 use Rattle.conditions.proofs.atom.equates_with.Reads as equates-with-reads
 use Rattle.conditions.proofs.atom.other_attribute.Reads as other-attribute-reads
-use Rattle.emission.proofs.emit.no_list.Reads as no-list-reads
+use Rattle.emission.proofs.listing.no_list.Reads as no-list-reads
 use Rattle.conditions.proofs.leaves.leaf.Reads as leaf-reads
-use Rattle.short_rules.proofs.rules.once.Reads as once-reads
-use Rattle.short_rules.proofs.rules.with_pair_if.Reads as with-pair-if-reads
+use Rattle.short_rules.proofs.fits.once.Reads as once-reads
+use Rattle.emission.proofs.listing.with_pair_if.Reads as with-pair-if-reads
 
 abbrev Inv-loop : tie.InvT-loop
 Inv-loop words z y leaves first list₀ column₀ i₀ left₀ list column i left = (i + left ≡ leaves .count)
@@ -35,28 +35,22 @@ Inv-loop words z y leaves first list₀ column₀ i₀ left₀ list column i lef
 abbrev μ-loop : tie.MeasureT-loop
 μ-loop words z y leaves first list₀ column₀ i₀ left₀ list column i left = left
 
--- src/rules.rt:397:9
 no-list-requires : tie.Need-no-list-requires Inv-loop μ-loop
 no-list-requires c κs = tt
 
--- src/rules.rt:401:5
 loop-holds : tie.Need-loop-holds Inv-loop μ-loop
 loop-holds c = let s = c .before .before in
     (omega arith, omega arith, omega (arith, s .pre .1, ap (λ (l : Listing). l .used) (c .no-list .ensures), pairs-size (s .args .z) (filter (equatesWith (s .args .z) (s .args .y)) (atomsOf (s .args .words .now) (s .args .leaves))) (s .args .first)), λ r l. l .holds [] (c .no-list .ensures))
 
--- src/rules.rt:402:13
 leaf-requires : tie.Need-leaf-requires Inv-loop μ-loop
 leaf-requires c κs = (c .before .before .before .before .pre .0, omega arith)
 
--- src/rules.rt:403:13
 equates-with-requires : tie.Need-equates-with-requires Inv-loop μ-loop
 equates-with-requires c κs = c .leaf .ensures .1
 
--- src/rules.rt:404:13
 other-attribute-requires : tie.Need-other-attribute-requires Inv-loop μ-loop
 other-attribute-requires c κs = c .before .leaf .ensures .1
 
--- src/rules.rt:405:9
 with-pair-if-requires : tie.Need-with-pair-if-requires Inv-loop μ-loop
 with-pair-if-requires c κs = let s = c .before .before .before .before .before .before .before in
     let l = c .before .before .before .before .loop in
@@ -66,27 +60,21 @@ with-pair-if-requires c κs = let s = c .before .before .before .before .before 
     let e = pairs-next (s .args .words .now) (s .args .leaves) (l .i) (l .left) (omega arith) (equatesWith (s .args .z) (s .args .y)) (s .args .z) (l .column) _ _ t o in
     omega (arith, l .inv .2, ap length e, length-append (cond (c .before .equates-with .result) (l .column ∷ c .other-attribute .result .0 ∷ []) []) (flat pairWords (divisionPairs (s .args .z) (filter (equatesWith (s .args .z) (s .args .y)) (rest (s .args .words .now) (s .args .leaves) (l .i + 1) (l .left - 1))) (l .column + cond (c .before .equates-with .result) 1 0))))
 
--- src/rules.rt:406:19
 once-requires : tie.Need-once-requires Inv-loop μ-loop
 once-requires c κs = tt
 
--- src/rules.rt:406:9
 add-column : tie.Need-add-column Inv-loop μ-loop
 add-column c = omega (arith, c .once .ensures .1, c .before .before .before .before .before .before .before .before .before .pre .2)
 
--- src/rules.rt:407:9
 add-i : tie.Need-add-i Inv-loop μ-loop
 add-i c = omega arith
 
--- src/rules.rt:408:9
 sub-left : tie.Need-sub-left Inv-loop μ-loop
 sub-left c = omega arith
 
--- src/rules.rt:401:5
 loop-less : tie.Need-loop-less Inv-loop μ-loop
 loop-less c = omega arith
 
--- src/rules.rt:401:5
 loop-again : tie.Need-loop-again Inv-loop μ-loop
 loop-again c = let s = c .before .before .before .before .before .before .before .before .before in
     let l = c .before .before .before .before .before .before .loop in
@@ -102,7 +90,6 @@ loop-again c = let s = c .before .before .before .before .before .before .before
       λ r longer. l .inv .3 r (subst (λ (more : List ℕ). Longer (l .list) more r) (sym e) (longer-then (c .before .with-pair-if .ensures) (subst (λ (more : List ℕ). Longer (c .before .with-pair-if .result) more r) k longer))),
     )
 
--- src/rules.rt:393:1
 returns : tie.Need-returns Inv-loop μ-loop
 returns c = let l = c .before .loop in
     let e : l .left ≡ 0 = omega arith in

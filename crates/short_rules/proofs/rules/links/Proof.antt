@@ -11,19 +11,15 @@ use Rattle.short_rules.proofs.rules.links.Lts as lts
 use Rattle.conditions.proofs.atom.equates_outside.Reads as equates-outside-reads
 use Rattle.conditions.proofs.atom.equates_with.Reads as equates-with-reads
 
--- src/rules.rt:343:9
 equates-outside-requires : tie.Need-equates-outside-requires
 equates-outside-requires c κs = search needs
 
--- src/rules.rt:343:9
 returns : tie.Need-returns
 returns c = c .equates-outside .ensures ∙ sym (ap (λ (b : Bool). links b (c .before .before .args .z) (c .before .before .args .y) (atomOf (c .before .before .args .atom))) (c .before .if1 .taken))
 
--- src/rules.rt:345:5
 equates-with-requires : tie.Need-equates-with-requires
 equates-with-requires c κs = search needs
 
--- src/rules.rt:338:1
 returns-2 : tie.Need-returns-2
 returns-2 c = c .equates-with .ensures ∙ sym (ap (λ (b : Bool). links b (c .before .before .args .z) (c .before .before .args .y) (atomOf (c .before .before .args .atom))) (c .before .if1 .left))
 

@@ -5,7 +5,7 @@ use Rattle.calculus.specs.Scope.{columnNumber}
 use Rattle.calculus.specs.Leaves.{equatesOutside, otherVariable, otherAttribute}
 use Rattle.relations.specs.PlanWords.{tripleWords}
 use Rattle.emission.proofs.ListingLaws.{longer-then, longer-none}
-use Rattle.emission.specs.declared.emit.Listing.{Listing}
+use Rattle.emission.specs.declared.listing.Listing.{Listing}
 use Rattle.emission.specs.Listings.{listing, Longer}
 use Rattle.conditions.specs.Leaves.{leafAt, atomsOf}
 use Rattle.calculus.specs.Question as calculus
@@ -24,10 +24,10 @@ use Rattle.short_rules.proofs.rules.outside_triples.Lts as lts
 use Rattle.conditions.proofs.atom.equates_outside.Reads as equates-outside-reads
 use Rattle.conditions.proofs.atom.other_attribute.Reads as other-attribute-reads
 use Rattle.conditions.proofs.atom.other_variable.Reads as other-variable-reads
-use Rattle.emission.proofs.emit.no_list.Reads as no-list-reads
+use Rattle.emission.proofs.listing.no_list.Reads as no-list-reads
 use Rattle.conditions.proofs.leaves.leaf.Reads as leaf-reads
-use Rattle.short_rules.proofs.rules.once.Reads as once-reads
-use Rattle.short_rules.proofs.rules.with_triple_if.Reads as with-triple-if-reads
+use Rattle.short_rules.proofs.fits.once.Reads as once-reads
+use Rattle.emission.proofs.listing.with_triple_if.Reads as with-triple-if-reads
 use Rattle.conditions.proofs.scope.column_of.Reads as column-of-reads
 
 abbrev Inv-loop : tie.InvT-loop
@@ -39,36 +39,28 @@ Inv-loop words scope z y leaves list₀ column₀ i₀ left₀ list column i lef
 abbrev μ-loop : tie.MeasureT-loop
 μ-loop words scope z y leaves list₀ column₀ i₀ left₀ list column i left = left
 
--- src/rules.rt:418:9
 no-list-requires : tie.Need-no-list-requires Inv-loop μ-loop
 no-list-requires c κs = tt
 
--- src/rules.rt:422:5
 loop-holds : tie.Need-loop-holds Inv-loop μ-loop
 loop-holds c = let s = c .before .before in
     (omega arith, omega arith, omega (arith, s .pre .2, ap (λ (l : Listing). l .used) (c .no-list .ensures), outside-size (scopeOf (s .args .scope)) (s .args .z) (filter (equatesOutside (s .args .z) (s .args .y)) (atomsOf (s .args .words .now) (s .args .leaves))) 1), λ r l. l .holds [] (c .no-list .ensures))
 
--- src/rules.rt:423:13
 leaf-requires : tie.Need-leaf-requires Inv-loop μ-loop
 leaf-requires c κs = (c .before .before .before .before .pre .1, omega arith)
 
--- src/rules.rt:424:13
 equates-outside-requires : tie.Need-equates-outside-requires Inv-loop μ-loop
 equates-outside-requires c κs = c .leaf .ensures .1
 
--- src/rules.rt:425:38
 other-variable-requires : tie.Need-other-variable-requires Inv-loop μ-loop
 other-variable-requires c κs = tt
 
--- src/rules.rt:425:63
 other-attribute-requires : tie.Need-other-attribute-requires Inv-loop μ-loop
 other-attribute-requires c κs = c .before .before .leaf .ensures .1
 
--- src/rules.rt:425:13
 column-of-requires : tie.Need-column-of-requires Inv-loop μ-loop
 column-of-requires c κs = (c .before .before .before .before .before .before .before .before .pre .0, c .other-attribute .ensures .1)
 
--- src/rules.rt:426:9
 with-triple-if-requires : tie.Need-with-triple-if-requires Inv-loop μ-loop
 with-triple-if-requires c κs = let s = c .before .before .before .before .before .before .before .before .before in
     let l = c .before .before .before .before .before .before .loop in
@@ -78,27 +70,21 @@ with-triple-if-requires c κs = let s = c .before .before .before .before .befor
     let e = outside-next (s .args .words .now) (s .args .leaves) (l .i) (l .left) (omega arith) (equatesOutside (s .args .z) (s .args .y)) (scopeOf (s .args .scope)) (s .args .z) (l .column) _ _ t o in
     omega (arith, l .inv .2, ap length e, length-append (cond (c .before .before .before .equates-outside .result) (c .column-of .result .0 ∷ 1 ∷ l .column ∷ []) []) (flat tripleWords (outsideTriples (scopeOf (s .args .scope)) (s .args .z) (filter (equatesOutside (s .args .z) (s .args .y)) (rest (s .args .words .now) (s .args .leaves) (l .i + 1) (l .left - 1))) (l .column + cond (c .before .before .before .equates-outside .result) 1 0))))
 
--- src/rules.rt:427:19
 once-requires : tie.Need-once-requires Inv-loop μ-loop
 once-requires c κs = tt
 
--- src/rules.rt:427:9
 add-column : tie.Need-add-column Inv-loop μ-loop
 add-column c = omega (arith, c .once .ensures .1)
 
--- src/rules.rt:428:9
 add-i : tie.Need-add-i Inv-loop μ-loop
 add-i c = omega arith
 
--- src/rules.rt:429:9
 sub-left : tie.Need-sub-left Inv-loop μ-loop
 sub-left c = omega arith
 
--- src/rules.rt:422:5
 loop-less : tie.Need-loop-less Inv-loop μ-loop
 loop-less c = omega arith
 
--- src/rules.rt:422:5
 loop-again : tie.Need-loop-again Inv-loop μ-loop
 loop-again c = let s = c .before .before .before .before .before .before .before .before .before .before .before in
     let l = c .before .before .before .before .before .before .before .before .loop in
@@ -114,7 +100,6 @@ loop-again c = let s = c .before .before .before .before .before .before .before
       λ r longer. l .inv .3 r (subst (λ (more : List ℕ). Longer (l .list) more r) (sym e) (longer-then (c .before .with-triple-if .ensures) (subst (λ (more : List ℕ). Longer (c .before .with-triple-if .result) more r) k longer))),
     )
 
--- src/rules.rt:414:1
 returns : tie.Need-returns Inv-loop μ-loop
 returns c = let l = c .before .loop in
     let e : l .left ≡ 0 = omega arith in

@@ -3,7 +3,7 @@ use Rattle.calculus.specs.Question as calculus
 use Prim.Native.Nat.{ℕ, _-_}
 use Rattle.short_rules.proofs.RuleLaws.{rest, triples-next, triples-fit}
 use Rattle.emission.proofs.ListingLaws.{longer-then, longer-none}
-use Rattle.emission.specs.declared.emit.Listing.{Listing}
+use Rattle.emission.specs.declared.listing.Listing.{Listing}
 use Rattle.emission.specs.Listings.{listing, Longer}
 use Rattle.conditions.specs.Leaves.{atomsOf}
 use Rattle.conditions.specs.Scopes.{scopeOf}
@@ -20,7 +20,7 @@ use Rattle.short_rules.proofs.rules.triples_of.Statement.{statement}
 use Rattle.short_rules.proofs.rules.triples_of.Tie as tie
 use Rattle.short_rules.proofs.rules.triples_of.Reads as reads
 use Rattle.short_rules.proofs.rules.triples_of.Lts as lts
-use Rattle.emission.proofs.emit.no_list.Reads as no-list-reads
+use Rattle.emission.proofs.listing.no_list.Reads as no-list-reads
 use Rattle.conditions.proofs.leaves.leaf.Reads as leaf-reads
 use Rattle.short_rules.proofs.rules.with_triple_of.Reads as with-triple-of-reads
 
@@ -32,19 +32,15 @@ Inv-loop words scope x leaves list₀ i₀ left₀ list i left = (i + left ≡ l
 abbrev μ-loop : tie.MeasureT-loop
 μ-loop words scope x leaves list₀ i₀ left₀ list i left = left
 
--- src/rules.rt:142:9
 no-list-requires : tie.Need-no-list-requires Inv-loop μ-loop
 no-list-requires c κs = tt
 
--- src/rules.rt:145:5
 loop-holds : tie.Need-loop-holds Inv-loop μ-loop
 loop-holds c = (omega arith, omega (arith, ap (λ (l : Listing). l .used) (c .no-list .ensures), triples-fit (scopeOf (c .before .before .args .scope)) (c .before .before .args .x) (atomsOf (c .before .before .args .words .now) (c .before .before .args .leaves)) (c .before .before .pre .2)), λ r l. l .holds [] (c .no-list .ensures))
 
--- src/rules.rt:146:47
 leaf-requires : tie.Need-leaf-requires Inv-loop μ-loop
 leaf-requires c κs = (c .before .before .before .before .pre .1, omega arith)
 
--- src/rules.rt:146:9
 with-triple-of-requires : tie.Need-with-triple-of-requires Inv-loop μ-loop
 with-triple-of-requires c κs = let s = c .before .before .before .before .before in
     let l = c .before .before .loop in
@@ -54,19 +50,15 @@ with-triple-of-requires c κs = let s = c .before .before .before .before .befor
     let m = length-append (flat tripleWords (triplesOf (scopeOf (s .args .scope)) (s .args .x) (leafAt words (s .args .leaves) (l .i) ∷ []))) (flat tripleWords (triplesOf (scopeOf (s .args .scope)) (s .args .x) (rest words (s .args .leaves) (l .i + 1) (l .left - 1)))) in
     (s .pre .0, c .leaf .ensures .1, omega (arith, l .inv .1, ap length e, ap length a, m))
 
--- src/rules.rt:147:9
 add-i : tie.Need-add-i Inv-loop μ-loop
 add-i c = omega arith
 
--- src/rules.rt:148:9
 sub-left : tie.Need-sub-left Inv-loop μ-loop
 sub-left c = omega arith
 
--- src/rules.rt:145:5
 loop-less : tie.Need-loop-less Inv-loop μ-loop
 loop-less c = omega arith
 
--- src/rules.rt:145:5
 loop-again : tie.Need-loop-again Inv-loop μ-loop
 loop-again c = let s = c .before .before .before .before .before .before in
     let l = c .before .before .before .loop in
@@ -79,7 +71,6 @@ loop-again c = let s = c .before .before .before .before .before .before in
       λ r longer. l .inv .2 r (subst (λ (more : List ℕ). Longer (l .list) more r) (sym e) (longer-then (subst (λ (more : List ℕ). Longer (l .list) more (c .with-triple-of .result)) a (c .with-triple-of .ensures)) longer)),
     )
 
--- src/rules.rt:138:1
 returns : tie.Need-returns Inv-loop μ-loop
 returns c = let l = c .before .loop in
     let e : l .left ≡ 0 = omega arith in

@@ -1,6 +1,6 @@
 use Rattle.short_rules.proofs.RuleLaws.{rest, own-next, own-count}
 use Rattle.emission.proofs.ListingLaws.{longer-then, longer-none}
-use Rattle.emission.specs.declared.emit.Listing.{Listing}
+use Rattle.emission.specs.declared.listing.Listing.{Listing}
 use Rattle.emission.specs.Listings.{Longer, numbersOf}
 use Rattle.short_rules.specs.Rules.{links}
 use Rattle.conditions.specs.Leaves.{leafAt, atomsOf}
@@ -20,7 +20,7 @@ use Rattle.short_rules.proofs.rules.with_own_columns.Lts as lts
 use Rattle.conditions.proofs.atom.own_attribute.Reads as own-attribute-reads
 use Rattle.conditions.proofs.leaves.leaf.Reads as leaf-reads
 use Rattle.short_rules.proofs.rules.links.Reads as links-reads
-use Rattle.short_rules.proofs.rules.with_word_if.Reads as with-word-if-reads
+use Rattle.emission.proofs.listing.with_word_if.Reads as with-word-if-reads
 
 abbrev Inv-loop : tie.InvT-loop
 Inv-loop words outside z y leaves longer₀ i₀ left₀ longer i left = (i + left ≡ leaves .count)
@@ -30,23 +30,18 @@ Inv-loop words outside z y leaves longer₀ i₀ left₀ longer i left = (i + le
 abbrev μ-loop : tie.MeasureT-loop
 μ-loop words outside z y leaves longer₀ i₀ left₀ longer i left = left
 
--- src/rules.rt:380:5
 loop-holds : tie.Need-loop-holds Inv-loop μ-loop
 loop-holds c = (omega arith, c .before .pre .1, λ r l. l)
 
--- src/rules.rt:381:13
 leaf-requires : tie.Need-leaf-requires Inv-loop μ-loop
 leaf-requires c κs = (c .before .before .before .pre .0, omega arith)
 
--- src/rules.rt:382:13
 own-attribute-requires : tie.Need-own-attribute-requires Inv-loop μ-loop
 own-attribute-requires c κs = tt
 
--- src/rules.rt:383:39
 links-requires : tie.Need-links-requires Inv-loop μ-loop
 links-requires c κs = c .before .leaf .ensures .1
 
--- src/rules.rt:383:9
 with-word-if-requires : tie.Need-with-word-if-requires Inv-loop μ-loop
 with-word-if-requires c κs = let s = c .before .before .before .before .before .before in
     let l = c .before .before .before .before .loop in
@@ -54,19 +49,15 @@ with-word-if-requires c κs = let s = c .before .before .before .before .before 
     let t = c .links .ensures ∙ ap (links (s .args .outside) (s .args .z) (s .args .y)) a in
     omega (arith, l .inv .1, own-count (s .args .words .now) (s .args .leaves) (l .i) (l .left) (omega arith) (links (s .args .outside) (s .args .z) (s .args .y)) (c .before .own-attribute .result .0) _ t)
 
--- src/rules.rt:384:9
 add-i : tie.Need-add-i Inv-loop μ-loop
 add-i c = omega arith
 
--- src/rules.rt:385:9
 sub-left : tie.Need-sub-left Inv-loop μ-loop
 sub-left c = omega arith
 
--- src/rules.rt:380:5
 loop-less : tie.Need-loop-less Inv-loop μ-loop
 loop-less c = omega arith
 
--- src/rules.rt:380:5
 loop-again : tie.Need-loop-again Inv-loop μ-loop
 loop-again c = let s = c .before .before .before .before .before .before .before in
     let l = c .before .before .before .before .before .loop in
@@ -78,7 +69,6 @@ loop-again c = let s = c .before .before .before .before .before .before .before
       λ r longer. l .inv .2 r (subst (λ (more : List ℕ). Longer (l .longer) more r) (sym (own-next (s .args .words .now) (s .args .leaves) (l .i) (l .left) (omega arith) (links (s .args .outside) (s .args .z) (s .args .y)) (s .args .z) _ _ t o)) (longer-then (c .with-word-if .ensures) longer)),
     )
 
--- src/rules.rt:373:1
 returns : tie.Need-returns Inv-loop μ-loop
 returns c = let l = c .before .loop in
     let e : l .left ≡ 0 = omega arith in

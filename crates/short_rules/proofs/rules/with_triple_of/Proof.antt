@@ -1,6 +1,7 @@
+use Rattle.relations.proofs.BoolLaws.{not-so-false}
 use mathlib.Core.Bool.{true}
 use Rattle.calculus.specs.Leaves.{comparesWithOther}
-use Rattle.short_rules.proofs.RuleLaws.{not-true, not-false, three, triple-turned, triple-straight, triple-none}
+use Rattle.short_rules.proofs.RuleLaws.{not-false, three, triple-turned, triple-straight, triple-none}
 use Rattle.emission.proofs.ListingLaws.{longer-none}
 use Rattle.emission.specs.Listings.{Longer}
 use Rattle.conditions.specs.Scopes.{scopeOf}
@@ -23,39 +24,31 @@ use Rattle.conditions.proofs.atom.other_attribute.Reads as other-attribute-read
 use Rattle.conditions.proofs.atom.other_variable.Reads as other-variable-reads
 use Rattle.conditions.proofs.atom.own_attribute.Reads as own-attribute-reads
 use Rattle.conditions.proofs.atom.turned.Reads as turned-reads
-use Rattle.emission.proofs.emit.with_triple.Reads as with-triple-reads
+use Rattle.emission.proofs.listing.with_triple.Reads as with-triple-reads
 use Rattle.conditions.proofs.scope.column_of.Reads as column-of-reads
 
--- src/rules.rt:127:9
 compares-with-other-requires : tie.Need-compares-with-other-requires
 compares-with-other-requires c κs = search needs
 
--- src/rules.rt:128:9
 returns : tie.Need-returns
 returns c = let s = c .before .before in
-    subst (λ (more : List ℕ). Longer (s .args .list) more (s .args .list)) (sym (triple-none (scopeOf (s .args .scope)) (s .args .x) (atomOf (s .args .atom)) (sym (c .before .compares-with-other .ensures) ∙ not-true _ (c .if1 .taken)))) (longer-none (s .args .list))
+    subst (λ (more : List ℕ). Longer (s .args .list) more (s .args .list)) (sym (triple-none (scopeOf (s .args .scope)) (s .args .x) (atomOf (s .args .atom)) (sym (c .before .compares-with-other .ensures) ∙ not-so-false _ (c .if1 .taken)))) (longer-none (s .args .list))
 
--- src/rules.rt:130:9
 own-attribute-requires : tie.Need-own-attribute-requires
 own-attribute-requires c κs = search needs
 
--- src/rules.rt:131:34
 other-variable-requires : tie.Need-other-variable-requires
 other-variable-requires c κs = search needs
 
--- src/rules.rt:131:59
 other-attribute-requires : tie.Need-other-attribute-requires
 other-attribute-requires c κs = search needs
 
--- src/rules.rt:131:9
 column-of-requires : tie.Need-column-of-requires
 column-of-requires c κs = search needs
 
--- src/rules.rt:133:41
 turned-requires : tie.Need-turned-requires
 turned-requires c κs = search needs
 
--- src/rules.rt:133:9
 with-triple-requires : tie.Need-with-triple-requires
 with-triple-requires c κs = let s = c .before .before .before .before .before .before .before .before .before in
     let a = s .args .atom in
@@ -63,7 +56,6 @@ with-triple-requires c κs = let s = c .before .before .before .before .before .
     let e = triple-turned (scopeOf (s .args .scope)) (s .args .x) (a .variable) (attribute (a .attribute .0)) (operatorNamed (a .operator)) (operandOf (a .operand)) h (c .before .if2 .taken) in
     omega (arith, s .pre .2, ap length e)
 
--- src/rules.rt:133:9
 returns-2 : tie.Need-returns-2
 returns-2 c = let s = c .before .before .before .before .before .before .before .before .before .before in
     let a = s .args .atom in
@@ -71,7 +63,6 @@ returns-2 c = let s = c .before .before .before .before .before .before .before 
     let e = triple-turned (scopeOf (s .args .scope)) (s .args .x) (a .variable) (attribute (a .attribute .0)) (operatorNamed (a .operator)) (operandOf (a .operand)) h (c .before .before .if2 .taken) in
     subst (λ (more : List ℕ). Longer (s .args .list) more (c .with-triple .result)) (sym (e ∙ three (sym (c .before .before .before .before .column-of .ensures ∙ ap₂ (columnNumber (scopeOf (s .args .scope))) (c .before .before .before .before .before .before .other-variable .ensures) (c .before .before .before .before .before .other-attribute .ensures .0))) (sym (c .before .turned .ensures)) (sym (c .before .before .before .before .before .before .before .own-attribute .ensures)))) (c .with-triple .ensures)
 
--- src/rules.rt:135:5
 with-triple-requires-2 : tie.Need-with-triple-requires-2
 with-triple-requires-2 c κs = let s = c .before .before .before .before .before .before .before .before in
     let a = s .args .atom in
@@ -79,7 +70,6 @@ with-triple-requires-2 c κs = let s = c .before .before .before .before .before
     let e = triple-straight (scopeOf (s .args .scope)) (s .args .x) (a .variable) (attribute (a .attribute .0)) (operatorNamed (a .operator)) (operandOf (a .operand)) h (c .if2 .left) in
     omega (arith, s .pre .2, ap length e)
 
--- src/rules.rt:123:1
 returns-3 : tie.Need-returns-3
 returns-3 c = let s = c .before .before .before .before .before .before .before .before .before in
     let a = s .args .atom in

@@ -1,7 +1,7 @@
-use Rattle.short_rules.proofs.RuleLaws.{written-as, own-size, numbers-append, behind-size}
-use Rattle.emission.proofs.WrittenLaws.{written-then, room-after, room-less, last-is}
-use Rattle.emission.proofs.ListingLaws.{longer-then}
-use Rattle.emission.specs.declared.emit.Listing.{Listing}
+use Rattle.short_rules.proofs.RuleLaws.{own-size, behind-size}
+use Rattle.emission.proofs.WrittenLaws.{written-then, room-after, room-less, last-is, written-as}
+use Rattle.emission.proofs.ListingLaws.{longer-then, numbers-append}
+use Rattle.emission.specs.declared.listing.Listing.{Listing}
 use Rattle.emission.specs.Listings.{listing, numbersOf}
 use Rattle.short_rules.specs.Rules.{links}
 use Rattle.conditions.specs.Leaves.{atomsOf}

@@ -1,4 +1,4 @@
-use Rattle.short_rules.proofs.RuleLaws.{written-as}
+use Rattle.emission.proofs.WrittenLaws.{written-as}
 use Rattle.conditions.proofs.ScopeLaws.{empty-fits}
 use Rattle.conditions.specs.declared.scope.Scope.{Scope}
 use Rattle.conditions.specs.Leaves.{atomsOf}
@@ -19,23 +19,18 @@ use Rattle.short_rules.proofs.rules.write_selects.Reads as write-select
 use Rattle.conditions.proofs.scope.empty.Reads as empty-reads
 use Rattle.conditions.proofs.scope.extend.Reads as extend-reads
 
--- src/rules.rt:193:22
 empty-requires : tie.Need-empty-requires
 empty-requires c κs = search needs
 
--- src/rules.rt:193:9
 extend-requires : tie.Need-extend-requires
 extend-requires c κs = (subst ScopeFits (sym (c .empty .ensures)) empty-fits, c .before .before .before .pre .1, omega (arith, c .before .before .before .pre .2, ap (λ (s : Scope). s .columns) (c .empty .ensures)))
 
--- src/rules.rt:194:5
 write-selects-requires : tie.Need-write-selects-requires
 write-selects-requires c κs = search needs
 
--- src/rules.rt:189:1
 same-length : tie.Need-same-length
 same-length c = search needs
 
--- src/rules.rt:189:1
 returns : tie.Need-returns
 returns c = let s = c .before .before .before .before .before .before .before .before in
     let e = c .before .before .before .before .extend .ensures .stands ∙ ap (λ (o : Scope). calculus.extend (scopeOf o) (s .args .x) (s .args .width)) (c .before .before .before .before .before .empty .ensures) in

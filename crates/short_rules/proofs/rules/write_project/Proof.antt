@@ -1,5 +1,4 @@
-use Rattle.short_rules.proofs.RuleLaws.{written-as}
-use Rattle.emission.proofs.WrittenLaws.{written-nothing}
+use Rattle.emission.proofs.WrittenLaws.{written-nothing, written-as}
 use Rattle.relations.specs.Nodes.{project}
 use mathlib.Core.List.{[], _∷_}
 use mathlib.Core.Bool.{Bool, _&&_, cond}
@@ -11,25 +10,20 @@ use Rattle.short_rules.proofs.rules.write_project.Tie as tie
 use Rattle.short_rules.proofs.rules.write_project.Reads as reads
 use Rattle.short_rules.proofs.rules.write_project.Lts as lts
 use Rattle.emission.proofs.emit.project.Reads as project-reads
-use Rattle.short_rules.proofs.rules.short_rule_1_fits.Reads as short-rule-1-fits-reads
+use Rattle.short_rules.proofs.fits.short_rule_1_fits.Reads as short-rule-1-fits-reads
 
--- src/rules.rt:289:16
 short-rule-1-fits-requires : tie.Need-short-rule-1-fits-requires
 short-rule-1-fits-requires c κs = search needs
 
--- src/rules.rt:290:9
 returns : tie.Need-returns
 returns c = λ listed e. written-as (ap (λ b. cond b [] (project (c .before .before .before .args .p) listed ∷ [])) (ap (λ b. c .before .before .before .args .short && b) (sym (c .before .short-rule-1-fits .ensures listed e)) ∙ c .if1 .taken)) (written-nothing (c .before .before .before .args .plan .now) (c .before .before .before .args .n))
 
--- src/rules.rt:292:5
 project-requires : tie.Need-project-requires
 project-requires c κs = search needs
 
--- src/rules.rt:278:1
 same-length : tie.Need-same-length
 same-length c = search needs
 
--- src/rules.rt:278:1
 returns-2 : tie.Need-returns-2
 returns-2 c = λ listed e. written-as (ap (λ b. cond b [] (project (c .before .before .before .before .before .before .before .args .p) listed ∷ [])) (ap (λ b. c .before .before .before .before .before .before .before .args .short && b) (sym (c .before .before .before .before .before .short-rule-1-fits .ensures listed e)) ∙ c .before .before .before .before .if1 .left)) (c .before .before .project .ensures listed e)
 

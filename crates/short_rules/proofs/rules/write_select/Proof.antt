@@ -1,4 +1,4 @@
-use Rattle.short_rules.proofs.RuleLaws.{written-as}
+use Rattle.emission.proofs.WrittenLaws.{written-as}
 use Rattle.conditions.proofs.AtomLaws.{read}
 use Rattle.conditions.specs.Scopes.{scopeOf}
 use Rattle.conditions.specs.Atoms.{operatorNamed}
@@ -19,35 +19,27 @@ use Rattle.emission.proofs.emit.select_attribute.Reads as select-attribute-read
 use Rattle.emission.proofs.emit.select_constant.Reads as select-constant-reads
 use Rattle.conditions.proofs.scope.column_of.Reads as column-of-reads
 
--- src/rules.rt:49:9
 column-of-requires : tie.Need-column-of-requires
 column-of-requires c κs = search needs
 
--- src/rules.rt:52:13
 enum-known-operand : tie.Need-enum-known-operand
 enum-known-operand c = search needs
 
--- src/rules.rt:55:17
 column-of-requires-2 : tie.Need-column-of-requires-2
 column-of-requires-2 c κs = (c .before .before .before .before .before .before .pre .0, rw (c .before .operand .given .1) at (c .before .before .before .before .before .before .pre .1 .operand))
 
--- src/rules.rt:56:13
 select-attribute-requires : tie.Need-select-attribute-requires
 select-attribute-requires c κs = search needs
 
--- src/rules.rt:58:24
 enum-known-operand-2 : tie.Need-enum-known-operand-2
 enum-known-operand-2 c = search needs
 
--- src/rules.rt:58:37
 select-constant-requires : tie.Need-select-constant-requires
 select-constant-requires c κs = search needs
 
--- src/rules.rt:42:1
 same-length : tie.Need-same-length
 same-length c = search needs
 
--- src/rules.rt:42:1
 returns : tie.Need-returns
 returns c = let s = c .before .before .before .before .before .before .before .before .before .before .before in
     let a = s .args .atom in
@@ -57,11 +49,9 @@ returns c = let s = c .before .before .before .before .before .before .before .b
     ∙ ap₂ (λ (x y : ℕ). selectAttribute (s .args .p) (attribute x) o (attribute y) ∷ []) (sym (c .before .before .before .before .before .before .before .before .column-of .ensures)) (sym (c .before .before .before .before .column-of2 .ensures)))
     (c .before .before .select-attribute .ensures o (s .pre .1 .operator))
 
--- src/rules.rt:42:1
 same-length-2 : tie.Need-same-length-2
 same-length-2 c = search needs
 
--- src/rules.rt:42:1
 returns-2 : tie.Need-returns-2
 returns-2 c = let s = c .before .before .before .before .before .before .before .before .before .before in
     let a = s .args .atom in

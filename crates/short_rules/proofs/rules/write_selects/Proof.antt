@@ -1,8 +1,9 @@
+use Rattle.calculus.proofs.SizeTheorem.{selects-size}
 use Rattle.short_rules.proofs.RuleLaws.{alone-count}
 use Rattle.calculus.specs.Question as calculus
 use Prim.Native.Nat.{_-_}
-use Rattle.short_rules.proofs.RuleLaws.{rest, selects-next, selects-size, count-next, written-as}
-use Rattle.emission.proofs.WrittenLaws.{written-then, written-nothing, written-length, room-after, room-less}
+use Rattle.short_rules.proofs.RuleLaws.{rest, selects-next, count-next}
+use Rattle.emission.proofs.WrittenLaws.{written-then, written-nothing, written-length, room-after, room-less, written-as}
 use Rattle.emission.specs.Written.{Room, Written}
 use Rattle.conditions.specs.Leaves.{leafAt, atomsOf}
 use Rattle.conditions.specs.Scopes.{scopeOf}
@@ -31,15 +32,12 @@ Inv-loop words own x leaves plan₀ n count₀ i₀ left₀ plan count i left = 
 abbrev μ-loop : tie.MeasureT-loop
 μ-loop words own x leaves plan₀ n count₀ i₀ left₀ plan count i left = left
 
--- src/rules.rt:172:5
 loop-holds : tie.Need-loop-holds Inv-loop μ-loop
 loop-holds c = (omega arith, c .before .before .pre .2, c .before .before .pre .3, λ after r w. w)
 
--- src/rules.rt:173:40
 leaf-requires : tie.Need-leaf-requires Inv-loop μ-loop
 leaf-requires c κs = (c .before .before .before .before .pre .1, omega arith)
 
--- src/rules.rt:173:9
 write-if-alone-requires : tie.Need-write-if-alone-requires Inv-loop μ-loop
 write-if-alone-requires c κs = let s = c .before .before .before .before .before .before in
     let l = c .before .before .before .loop in
@@ -50,19 +48,15 @@ write-if-alone-requires c κs = let s = c .before .before .before .before .befor
     let g = alone-count (s .args .x) (leafAt words (s .args .leaves) (l .i)) in
     (s .pre .0, c .before .leaf .ensures .1, l .inv .1, room-less _ (l .inv .2) (omega (arith, ap length f, g, k)))
 
--- src/rules.rt:174:9
 add-i : tie.Need-add-i Inv-loop μ-loop
 add-i c = omega arith
 
--- src/rules.rt:175:9
 sub-left : tie.Need-sub-left Inv-loop μ-loop
 sub-left c = omega arith
 
--- src/rules.rt:172:5
 loop-less : tie.Need-loop-less Inv-loop μ-loop
 loop-less c = omega arith
 
--- src/rules.rt:172:5
 loop-again : tie.Need-loop-again Inv-loop μ-loop
 loop-again c = let s = c .before .before .before .before .before .before .before .before .before in
     let l = c .before .before .before .before .before .before .loop in
@@ -79,14 +73,12 @@ loop-again c = let s = c .before .before .before .before .before .before .before
       λ after r v. l .inv .3 after r (written-as (selects-next words (s .args .leaves) (l .i) (l .left) (omega arith) own (s .args .x) (l .count) (l .inv .1)) (written-then w (written-as (ap (λ (m : ℕ). selectNodes own (filter (aloneOn (s .args .x)) (rest words (s .args .leaves) (l .i + 1) (l .left - 1))) (pred m) m) (sym (w .counted))) v))),
     )
 
--- src/rules.rt:165:1
 same-length : tie.Need-same-length Inv-loop μ-loop
 same-length c = let l = c .before .loop in
     let e : l .left ≡ 0 = omega arith in
     let w = l .inv .3 (l .plan) (l .count) (rw e (written-nothing (l .plan) (l .count))) in
     written-length w
 
--- src/rules.rt:165:1
 returns : tie.Need-returns Inv-loop μ-loop
 returns c = let l = c .before .loop in
     let e : l .left ≡ 0 = omega arith in

@@ -1,5 +1,5 @@
-use Rattle.short_rules.proofs.RuleLaws.{written-as, behind-size}
-use Rattle.emission.proofs.WrittenLaws.{written-then, room-after, last-is}
+use Rattle.short_rules.proofs.RuleLaws.{behind-size}
+use Rattle.emission.proofs.WrittenLaws.{written-then, room-after, last-is, written-as}
 use Rattle.conditions.specs.Leaves.{atomsOf}
 use Rattle.conditions.specs.Scopes.{scopeOf}
 use Rattle.calculus.specs.ShortRules.{triplesOf}
@@ -18,28 +18,22 @@ use Rattle.emission.proofs.emit.semijoin.Reads as semijoin-reads
 use Rattle.short_rules.proofs.rules.triples_of.Reads as triples-of-reads
 use Rattle.short_rules.proofs.rules.write_own_selects.Reads as write-own-selects-reads
 
--- src/rules.rt:211:9
 triples-of-requires : tie.Need-triples-of-requires
 triples-of-requires c κs = search needs
 
--- src/rules.rt:212:9
 write-own-selects-requires : tie.Need-write-own-selects-requires
 write-own-selects-requires c κs = search needs
 
--- src/rules.rt:213:30
 sub-semijoin : tie.Need-sub-semijoin
 sub-semijoin c = search needs
 
--- src/rules.rt:213:5
 semijoin-requires : tie.Need-semijoin-requires
 semijoin-requires c κs = let s = c .before .before .before .before .before .before .before .before in
     room-after 1 (s .pre .0 .room) (c .before .before .before .write-own-selects .ensures) (omega (arith, behind-size (s .args .x) (s .args .width) (atomsOf (s .args .words .now) (s .args .leaves)) (s .args .n)))
 
--- src/rules.rt:198:1
 same-length : tie.Need-same-length
 same-length c = search needs
 
--- src/rules.rt:198:1
 returns : tie.Need-returns
 returns c = let s = c .before .before .before .before .before .before .before .before .before .before .before in
     let atoms = atomsOf (s .args .words .now) (s .args .leaves) in

@@ -1,5 +1,5 @@
-use Rattle.short_rules.proofs.RuleLaws.{written-as, behind-size}
-use Rattle.emission.proofs.WrittenLaws.{written-then, room-after, last-is}
+use Rattle.short_rules.proofs.RuleLaws.{behind-size}
+use Rattle.emission.proofs.WrittenLaws.{written-then, room-after, last-is, written-as}
 use Rattle.conditions.specs.Leaves.{atomsOf}
 use Rattle.conditions.specs.Scopes.{scopeOf}
 use Rattle.calculus.specs.ShortRules.{triplesOf}
@@ -18,28 +18,22 @@ use Rattle.emission.proofs.emit.antijoin.Reads as antijoin-reads
 use Rattle.short_rules.proofs.rules.triples_of.Reads as triples-of-reads
 use Rattle.short_rules.proofs.rules.write_own_selects.Reads as write-own-selects-reads
 
--- src/rules.rt:230:9
 triples-of-requires : tie.Need-triples-of-requires
 triples-of-requires c κs = search needs
 
--- src/rules.rt:231:9
 write-own-selects-requires : tie.Need-write-own-selects-requires
 write-own-selects-requires c κs = search needs
 
--- src/rules.rt:232:30
 sub-antijoin : tie.Need-sub-antijoin
 sub-antijoin c = search needs
 
--- src/rules.rt:232:5
 antijoin-requires : tie.Need-antijoin-requires
 antijoin-requires c κs = let s = c .before .before .before .before .before .before .before .before in
     room-after 1 (s .pre .0 .room) (c .before .before .before .write-own-selects .ensures) (omega (arith, behind-size (s .args .x) (s .args .width) (atomsOf (s .args .words .now) (s .args .leaves)) (s .args .n)))
 
--- src/rules.rt:217:1
 same-length : tie.Need-same-length
 same-length c = search needs
 
--- src/rules.rt:217:1
 returns : tie.Need-returns
 returns c = let s = c .before .before .before .before .before .before .before .before .before .before .before in
     let atoms = atomsOf (s .args .words .now) (s .args .leaves) in

@@ -1,5 +1,5 @@
+use Rattle.emission.proofs.WrittenLaws.{written-as}
 use Rattle.conditions.specs.declared.leaves.Leaves.{Leaves}
-use Rattle.short_rules.proofs.RuleLaws.{written-as}
 use Rattle.short_rules.specs.Rules.{antijoinBehind, RuleFits}
 use Rattle.conditions.specs.Leaves.{atomsOf}
 use Rattle.conditions.specs.Scopes.{scopeOf}
@@ -18,20 +18,16 @@ use Rattle.short_rules.proofs.rules.write_short_rule_4.Lts as lts
 use Rattle.conditions.proofs.leaves.opposites.Reads as opposites-reads
 use Rattle.short_rules.proofs.rules.write_short_rule_3.Reads as write-short-rule-3-reads
 
--- src/rules.rt:249:48
 opposites-requires : tie.Need-opposites-requires
 opposites-requires c κs = search needs
 
--- src/rules.rt:249:5
 write-short-rule-3-requires : tie.Need-write-short-rule-3-requires
 write-short-rule-3-requires c κs = let s = c .before .before .before .before in
     subst (λ (l : Leaves). RuleFits (s .args .words .now) (s .args .plan .now) (s .args .scope) l (s .args .x) (s .args .width) (s .args .n) 1 × (length (filter (comparesWithOther (s .args .x)) (atomsOf (s .args .words .now) l)) ≤ tripleLimit)) (sym (c .before .opposites .ensures)) (s .pre)
 
--- src/rules.rt:236:1
 same-length : tie.Need-same-length
 same-length c = search needs
 
--- src/rules.rt:236:1
 returns : tie.Need-returns
 returns c = let s = c .before .before .before .before .before .before .before in
     written-as (ap (λ (l : Leaves). antijoinBehind (scopeOf (s .args .scope)) (s .args .x) (s .args .width) (atomsOf (s .args .words .now) l) (s .args .p) (s .args .n)) (sym (c .before .before .before .before .opposites .ensures))) (c .before .before .write-short-rule-3 .ensures)

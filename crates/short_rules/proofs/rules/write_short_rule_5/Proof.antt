@@ -1,6 +1,6 @@
 use Rattle.short_rules.proofs.RuleLaws.{outside-size, dividend-size, division-written}
 use Rattle.emission.proofs.WrittenLaws.{room-after, room-less}
-use Rattle.emission.specs.declared.emit.Listing.{Listing}
+use Rattle.emission.specs.declared.listing.Listing.{Listing}
 use Rattle.emission.specs.Listings.{listing}
 use Rattle.conditions.specs.Leaves.{atomsOf}
 use Rattle.conditions.specs.Scopes.{scopeOf}

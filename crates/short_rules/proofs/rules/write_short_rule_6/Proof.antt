@@ -1,4 +1,4 @@
-use Rattle.short_rules.proofs.RuleLaws.{written-as}
+use Rattle.emission.proofs.WrittenLaws.{written-as}
 use Rattle.conditions.specs.Scopes.{scopeOf}
 use Rattle.calculus.specs.ShortRules.{selectNode}
 use Rattle.calculus.specs.Question as calculus
@@ -13,19 +13,15 @@ use Rattle.short_rules.proofs.rules.write_short_rule_6.Lts as lts
 use Rattle.conditions.proofs.atom.opposite_atom.Reads as opposite-atom-reads
 use Rattle.short_rules.proofs.rules.write_select.Reads as write-select-reads
 
--- src/rules.rt:257:25
 opposite-atom-requires : tie.Need-opposite-atom-requires
 opposite-atom-requires c κs = search needs
 
--- src/rules.rt:257:5
 write-select-requires : tie.Need-write-select-requires
 write-select-requires c κs = search needs
 
--- src/rules.rt:253:1
 same-length : tie.Need-same-length
 same-length c = search needs
 
--- src/rules.rt:253:1
 returns : tie.Need-returns
 returns c = let s = c .before .before .before .before .before .before in
     written-as (ap (λ (a : calculus.Atom). selectNode (scopeOf (s .args .scope)) (s .args .p) a ∷ []) (sym (c .before .before .before .before .opposite-atom .ensures .0))) (c .before .before .write-select .ensures)

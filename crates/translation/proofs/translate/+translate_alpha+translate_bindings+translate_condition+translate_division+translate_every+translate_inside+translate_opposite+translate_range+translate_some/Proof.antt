@@ -33,15 +33,15 @@ use Rattle.translation.proofs.translate.translate_some.Kinds as transla
 use Rattle.translation.proofs.translate.+translate_alpha+translate_bindings+translate_condition+translate_division+translate_every+translate_inside+translate_opposite+translate_range+translate_some.Lts-translate_some as translate-some-lts
 use Rattle.question.proofs.node.decode.Reads as decode-reads
 use Rattle.emission.proofs.emit.intersect.Reads as intersect-reads
-use Rattle.emission.proofs.emit.no_list.Reads as no-list-reads
+use Rattle.emission.proofs.listing.no_list.Reads as no-list-reads
 use Rattle.emission.proofs.emit.product.Reads as product-reads
 use Rattle.emission.proofs.emit.project.Reads as project-reads
 use Rattle.emission.proofs.emit.subtract.Reads as subtract-reads
 use Rattle.emission.proofs.emit.unite.Reads as unite-reads
 use Rattle.conditions.proofs.leaves.leaves_of.Reads as leaves-of-reads
-use Rattle.short_rules.proofs.rules.short_rule_2_fits.Reads as short-rule-2-fits-reads
-use Rattle.short_rules.proofs.rules.short_rule_4_fits.Reads as short-rule-4-fits-reads
-use Rattle.short_rules.proofs.rules.with_columns.Reads as with-columns-reads
+use Rattle.short_rules.proofs.fits.short_rule_2_fits.Reads as short-rule-2-fits-reads
+use Rattle.short_rules.proofs.fits.short_rule_4_fits.Reads as short-rule-4-fits-reads
+use Rattle.emission.proofs.listing.with_columns.Reads as with-columns-reads
 use Rattle.short_rules.proofs.rules.write_project.Reads as write-project-reads
 use Rattle.short_rules.proofs.rules.write_select.Reads as write-select-reads
 use Rattle.short_rules.proofs.rules.write_short_rule_2.Reads as write-short-rule-2-reads
@@ -51,8 +51,8 @@ use Rattle.short_rules.proofs.rules.write_short_rule_5.Reads as write-short-rul
 use Rattle.short_rules.proofs.rules.write_short_rule_6.Reads as write-short-rule-6-reads
 use Rattle.conditions.proofs.scope.empty.Reads as empty-reads
 use Rattle.conditions.proofs.scope.extend.Reads as extend-reads
-use Rattle.translation.proofs.translate.division_fits.Reads as division-fits-reads
-use Rattle.translation.proofs.translate.opposite_fits.Reads as opposite-fits-reads
+use Rattle.short_rules.proofs.fits.division_fits.Reads as division-fits-reads
+use Rattle.short_rules.proofs.fits.opposite_fits.Reads as opposite-fits-reads
 use Rattle.translation.proofs.translate.translate_table.Reads as translate-table-reads
 use Rattle.translation.proofs.translate.with_targets.Reads as with-targets-reads
 use Rattle.translation.proofs.translate.+translate_alpha+translate_bindings+translate_condition+translate_division+translate_every+translate_inside+translate_opposite+translate_range+translate_some.{
@@ -61,12 +61,11 @@ use Rattle.translation.proofs.translate.+translate_alpha+translate_bind
 use Rattle.translation.proofs.translate.+translate_alpha+translate_bindings+translate_condition+translate_division+translate_every+translate_inside+translate_opposite+translate_range+translate_some.Tie.{
   close,
 }
-use Rattle.translation.proofs.RangeSteps.{Sides, or-sides, and-sides, and-not-sides, call-left, call-right, room-last, sides-done, room-one, done-as, call-alpha, no-range}
+use Rattle.translation.proofs.RangeSteps.{Sides, or-sides, and-sides, and-not-sides, call-left, call-right, room-last, sides-done, room-one, done-as, call-alpha}
 use Rattle.question.specs.declared.node.Node.the-variants.{Table, Alpha}
 use Rattle.relations.specs.Nodes.{unite, intersect, subtract}
 use mathlib.Core.Path.{sym, _∙_}
-use Rattle.translation.proofs.BindingSteps.{Chain, chain, call-bound, room-product, scope-grows, call-next, bindings-done, no-more-done, no-bindings}
-use Rattle.conditions.proofs.Readings.{named, range-is, bindings-is, bindings-none}
+use Rattle.translation.proofs.BindingSteps.{Chain, chain, call-bound, room-product, scope-grows, call-next, bindings-done, no-more-done}
 use Rattle.translation.proofs.AlphaSteps.{AlphaAsked, alpha-asked, call-first, scope-starts, call-rest, some-joined, call-condition, some-kept, list-targets, room-project, alpha-done, no-alpha}
 use Prim.Native.Nat.{_-_}
 use mathlib.Core.Path.{_≡_, sym, ap, _∙_}
@@ -76,17 +75,17 @@ use Rattle.calculus.specs.Scope.{columnsIn, allColumns}
 use Rattle.calculus.specs.ShortRules.{shortRule5Fits}
 use Rattle.question.specs.Nodes.{nodeAt}
 use Rattle.question.specs.declared.node.Node.the-variants.{Some}
-use Rattle.conditions.specs.Readings.{conditionAt}
+use Rattle.conditions.specs.Readings.{Names, conditionAt}
 use Rattle.conditions.specs.Scopes.{scopeOf}
-use Rattle.conditions.proofs.Readings.{condition-is}
 use Rattle.emission.proofs.WrittenLaws.{room-after, room-less}
-use Rattle.translation.proofs.QuantifierSteps.{inside-restricts, columns-room, columns-listed, collectable, some-ready, every-ready, range-ready, few-nodes, inside-ready, division-ready, room-plain, inside-condition-ready, inside-written, rule-test, rule-2-ready, rule-4-ready, some-by-rule-2, every-by-rule-4, every-by-rule-5, some-plain, every-plain}
-use Rattle.translation.proofs.DivisionSteps.{not-divided, range-below, range-named, condition-named, divided-ready, dividend-fits, division-written}
-use Rattle.translation.proofs.ConditionSteps.{TwoSides, OneInner, Quantified, AtomHere, atom-step, and-step, or-step, not-step, some-step, every-step, no-restriction, few-nodes as few-below, good-of, ready-at, ready-less, left-ready, left-written, right-ready, right-written, room-behind-both, inner-ready, inner-written, room-behind-inner, written-restriction, written-none, atom-written, and-written, or-written, not-written, opposite-written}
-use Rattle.conditions.proofs.Readings.{named, condition-is, restriction-is, restriction-none}
+use Rattle.translation.proofs.QuantifierSteps.{inside-restricts, columns-room, columns-listed, some-ready, every-ready, range-ready, few-nodes, inside-ready, division-ready, room-plain, inside-condition-ready, inside-written, rule-test, rule-2-ready, rule-4-ready, some-by-rule-2, some-by-rule-3, every-by-rule-4, every-by-rule-5, some-plain, every-plain}
+use Rattle.translation.proofs.DivisionSteps.{divided-ready, dividend-fits, division-written}
+use Rattle.translation.proofs.ConditionSteps.{TwoSides, OneInner, Quantified, AtomHere, atom-step, and-step, or-step, not-step, some-step, every-step, good-of, ready-at, left-ready, left-written, right-ready, right-written, room-behind-both, inner-ready, inner-few, inner-written, room-behind-inner, written-restriction, written-none, atom-written, and-written, or-written, not-written, opposite-written, atom-opposite-written}
+use Rattle.conditions.proofs.Readings.{named, range-is, bindings-is, bindings-none, condition-is, restriction-is, restriction-none, some-parts}
+use Rattle.conditions.proofs.OtherNodes.{no-range, no-bindings, no-restriction}
+use Rattle.conditions.proofs.LeafLaws.{collectable}
 use Rattle.conditions.specs.Readings.{rangeAt, conditionAt}
 use Rattle.conditions.specs.Scopes.{scopeOf}
-use Rattle.translation.specs.Translating.{Names}
 use Rattle.catalogue.specs.Stored.{relationsOf, columnsOf}
 use Rattle.question.specs.Nodes.{nodeAt}
 use Rattle.question.specs.declared.node.Node.the-variants.{Atom as AtomNode, Some}
@@ -99,7 +98,7 @@ use mathlib.Core.List.{List}
 use mathlib.Core.Bool.{_&&_}
 use mathlib.Core.Path.{_≡_, sym, ap, subst, _∙_}
 use Prim.Native.Nat.{_-_}
-use Rattle.translation.proofs.OppositeSteps.{collectable-below, some-nodes-below, oppositeFits, some-opposite, no-opposite, some-range, some-rule, few-compared, some-opposite-written, atom-opposite-written}
+use Rattle.short_rules.proofs.FitLaws.{oppositeFits, some-opposite, not-divided, no-opposite}
 
 abbrev μ-translate-alpha : Measures 3 translate-alpha-kinds.ps ℕ
 μ-translate-alpha κs a = 3 * max (a .1 .1 .1 .1 .0) (a .1 .1 .1 .1 .1 .0) + 2
@@ -315,29 +314,7 @@ translate-alpha-decode-requires t c κs = omega (arith, c .before .before .befor
 translate-alpha-enum-known-node : (t : ℕ) → translate-alpha-lts.Need-enum-known-node (translate-alpha-calls t) (translate-alpha-at t) translate-alpha.Post
 translate-alpha-enum-known-node t c = c .match .keys1
 
-translate-alpha-translate-range-requires :
-    (t : ℕ) → translate-alpha-lts.Need-translate-range-requires (
-      decode-reads.Asked,
-      decode-reads.Learnt,
-      translate-range-below t,
-      translate-range.Post,
-      empty-reads.Asked,
-      empty-reads.Learnt,
-      extend-reads.Asked,
-      extend-reads.Learnt,
-      translate-bindings-below t,
-      translate-bindings.Post,
-      translate-condition-below t,
-      translate-condition.Post,
-      no-list-reads.Asked,
-      no-list-reads.Learnt,
-      with-targets-reads.Asked,
-      with-targets-reads.Learnt,
-      write-project-reads.Asked,
-      write-project-reads.Learnt,
-      translate-table-reads.Asked,
-      translate-table-reads.Learnt,
-    ) (translate-alpha-at t) translate-alpha.Post
+translate-alpha-translate-range-requires : (t : ℕ) → translate-alpha-lts.Need-translate-range-requires (translate-alpha-calls t) (translate-alpha-at t) translate-alpha.Post
 translate-alpha-translate-range-requires t c κs = call-first (alpha-at t (c .before .before))
 
 translate-alpha-empty-requires : (t : ℕ) → translate-alpha-lts.Need-empty-requires (translate-alpha-calls t) (translate-alpha-at t) translate-alpha.Post
@@ -349,79 +326,13 @@ translate-alpha-extend-requires t c κs = scope-starts (alpha-at t (c .before .b
 translate-alpha-sub-p : (t : ℕ) → translate-alpha-lts.Need-sub-p (translate-alpha-calls t) (translate-alpha-at t) translate-alpha.Post
 translate-alpha-sub-p t c = omega (arith, c .before .before .before .before .before .translate-range .ensures .more)
 
-translate-alpha-translate-bindings-requires :
-    (t : ℕ) → translate-alpha-lts.Need-translate-bindings-requires (
-      decode-reads.Asked,
-      decode-reads.Learnt,
-      translate-range-below t,
-      translate-range.Post,
-      empty-reads.Asked,
-      empty-reads.Learnt,
-      extend-reads.Asked,
-      extend-reads.Learnt,
-      translate-bindings-below t,
-      translate-bindings.Post,
-      translate-condition-below t,
-      translate-condition.Post,
-      no-list-reads.Asked,
-      no-list-reads.Learnt,
-      with-targets-reads.Asked,
-      with-targets-reads.Learnt,
-      write-project-reads.Asked,
-      write-project-reads.Learnt,
-      translate-table-reads.Asked,
-      translate-table-reads.Learnt,
-    ) (translate-alpha-at t) translate-alpha.Post
+translate-alpha-translate-bindings-requires : (t : ℕ) → translate-alpha-lts.Need-translate-bindings-requires (translate-alpha-calls t) (translate-alpha-at t) translate-alpha.Post
 translate-alpha-translate-bindings-requires t c κs = call-rest (alpha-at t (c .before .before .before .before .before .before .before .before .before)) (c .before .before .before .before .before .before .translate-range .ensures) (c .before .before .before .empty .ensures) (c .before .before .extend .ensures)
 
-translate-alpha-sub-translate-condition :
-    (t : ℕ) → translate-alpha-lts.Need-sub-translate-condition (
-      decode-reads.Asked,
-      decode-reads.Learnt,
-      translate-range-below t,
-      translate-range.Post,
-      empty-reads.Asked,
-      empty-reads.Learnt,
-      extend-reads.Asked,
-      extend-reads.Learnt,
-      translate-bindings-below t,
-      translate-bindings.Post,
-      translate-condition-below t,
-      translate-condition.Post,
-      no-list-reads.Asked,
-      no-list-reads.Learnt,
-      with-targets-reads.Asked,
-      with-targets-reads.Learnt,
-      write-project-reads.Asked,
-      write-project-reads.Learnt,
-      translate-table-reads.Asked,
-      translate-table-reads.Learnt,
-    ) (translate-alpha-at t) translate-alpha.Post
+translate-alpha-sub-translate-condition : (t : ℕ) → translate-alpha-lts.Need-sub-translate-condition (translate-alpha-calls t) (translate-alpha-at t) translate-alpha.Post
 translate-alpha-sub-translate-condition t c = some-joined (alpha-at t (c .before .before .before .before .before .before .before .before .before .before .before .before .before)) (c .before .before .before .before .before .before .before .before .before .before .translate-range .ensures) (c .before .before .before .before .before .before .before .empty .ensures) (c .before .before .before .before .before .before .extend .ensures) (c .before .before .before .translate-bindings .ensures)
 
-translate-alpha-translate-condition-requires :
-    (t : ℕ) → translate-alpha-lts.Need-translate-condition-requires (
-      decode-reads.Asked,
-      decode-reads.Learnt,
-      translate-range-below t,
-      translate-range.Post,
-      empty-reads.Asked,
-      empty-reads.Learnt,
-      extend-reads.Asked,
-      extend-reads.Learnt,
-      translate-bindings-below t,
-      translate-bindings.Post,
-      translate-condition-below t,
-      translate-condition.Post,
-      no-list-reads.Asked,
-      no-list-reads.Learnt,
-      with-targets-reads.Asked,
-      with-targets-reads.Learnt,
-      write-project-reads.Asked,
-      write-project-reads.Learnt,
-      translate-table-reads.Asked,
-      translate-table-reads.Learnt,
-    ) (translate-alpha-at t) translate-alpha.Post
+translate-alpha-translate-condition-requires : (t : ℕ) → translate-alpha-lts.Need-translate-condition-requires (translate-alpha-calls t) (translate-alpha-at t) translate-alpha.Post
 translate-alpha-translate-condition-requires t c κs = call-condition (alpha-at t (c .before .before .before .before .before .before .before .before .before .before .before .before .before .before)) (c .before .before .before .before .before .before .before .before .before .before .before .translate-range .ensures) (c .before .before .before .before .before .before .before .before .empty .ensures) (c .before .before .before .before .before .before .before .extend .ensures) (c .before .before .before .before .translate-bindings .ensures)
 
 translate-alpha-no-list-requires : (t : ℕ) → translate-alpha-lts.Need-no-list-requires (translate-alpha-calls t) (translate-alpha-at t) translate-alpha.Post
@@ -436,29 +347,7 @@ translate-alpha-sub-write-project t c = some-kept (alpha-at t (c .before .before
 translate-alpha-write-project-requires : (t : ℕ) → translate-alpha-lts.Need-write-project-requires (translate-alpha-calls t) (translate-alpha-at t) translate-alpha.Post
 translate-alpha-write-project-requires t c κs = room-project (alpha-at t (c .before .before .before .before .before .before .before .before .before .before .before .before .before .before .before .before .before .before .before .before)) (c .before .before .before .before .before .before .before .before .before .before .before .before .before .before .before .before .before .translate-range .ensures) (c .before .before .before .before .before .before .before .before .before .before .before .before .before .before .empty .ensures) (c .before .before .before .before .before .before .before .before .before .before .before .before .before .extend .ensures) (c .before .before .before .before .before .before .before .before .before .before .translate-bindings .ensures) (c .before .before .before .before .before .translate-condition .ensures) (c .before .before .no-list .ensures) (c .before .with-targets .ensures)
 
-translate-alpha-translate-table-requires :
-    (t : ℕ) → translate-alpha-lts.Need-translate-table-requires (
-      decode-reads.Asked,
-      decode-reads.Learnt,
-      translate-range-below t,
-      translate-range.Post,
-      empty-reads.Asked,
-      empty-reads.Learnt,
-      extend-reads.Asked,
-      extend-reads.Learnt,
-      translate-bindings-below t,
-      translate-bindings.Post,
-      translate-condition-below t,
-      translate-condition.Post,
-      no-list-reads.Asked,
-      no-list-reads.Learnt,
-      with-targets-reads.Asked,
-      with-targets-reads.Learnt,
-      write-project-reads.Asked,
-      write-project-reads.Learnt,
-      translate-table-reads.Asked,
-      translate-table-reads.Learnt,
-    ) (translate-alpha-at t) translate-alpha.Post
+translate-alpha-translate-table-requires : (t : ℕ) → translate-alpha-lts.Need-translate-table-requires (translate-alpha-calls t) (translate-alpha-at t) translate-alpha.Post
 translate-alpha-translate-table-requires t c κs = room-one (c .before .before .before .before .before .before .pre .1 .3)
 
 translate-alpha-same-length : (t : ℕ) → translate-alpha-lts.Need-same-length (translate-alpha-calls t) (translate-alpha-at t) translate-alpha.Post
@@ -493,19 +382,7 @@ translate-bindings-decode-requires t c κs = let h = named (c .if1 .left) in ome
 translate-bindings-enum-known-node : (t : ℕ) → translate-bindings-lts.Need-enum-known-node (translate-bindings-calls t) (translate-bindings-at t) translate-bindings.Post
 translate-bindings-enum-known-node t c = c .match .keys1
 
-translate-bindings-translate-range-requires :
-    (t : ℕ) → translate-bindings-lts.Need-translate-range-requires (
-      decode-reads.Asked,
-      decode-reads.Learnt,
-      translate-range-below t,
-      translate-range.Post,
-      product-reads.Asked,
-      product-reads.Learnt,
-      extend-reads.Asked,
-      extend-reads.Learnt,
-      translate-bindings-below t,
-      translate-bindings.Post,
-    ) (translate-bindings-at t) translate-bindings.Post
+translate-bindings-translate-range-requires : (t : ℕ) → translate-bindings-lts.Need-translate-range-requires (translate-bindings-calls t) (translate-bindings-at t) translate-bindings.Post
 translate-bindings-translate-range-requires t c κs = call-bound (binding-at t (c .before .before)) (c .before .before .before .before .before .before .before .before .before .pre)
 
 translate-bindings-sub-product : (t : ℕ) → translate-bindings-lts.Need-sub-product (translate-bindings-calls t) (translate-bindings-at t) translate-bindings.Post
@@ -517,19 +394,7 @@ translate-bindings-product-requires t c κs = room-product (binding-at t (c .bef
 translate-bindings-extend-requires : (t : ℕ) → translate-bindings-lts.Need-extend-requires (translate-bindings-calls t) (translate-bindings-at t) translate-bindings.Post
 translate-bindings-extend-requires t c κs = scope-grows (binding-at t (c .before .before .before .before .before .before .before .before .before)) (c .before .before .before .before .before .before .before .before .before .before .before .before .before .before .before .before .pre) (c .before .before .before .before .before .before .translate-range .ensures)
 
-translate-bindings-translate-bindings-requires :
-    (t : ℕ) → translate-bindings-lts.Need-translate-bindings-requires (
-      decode-reads.Asked,
-      decode-reads.Learnt,
-      translate-range-below t,
-      translate-range.Post,
-      product-reads.Asked,
-      product-reads.Learnt,
-      extend-reads.Asked,
-      extend-reads.Learnt,
-      translate-bindings-below t,
-      translate-bindings.Post,
-    ) (translate-bindings-at t) translate-bindings.Post
+translate-bindings-translate-bindings-requires : (t : ℕ) → translate-bindings-lts.Need-translate-bindings-requires (translate-bindings-calls t) (translate-bindings-at t) translate-bindings.Post
 translate-bindings-translate-bindings-requires t c κs = call-next (binding-at t (c .before .before .before .before .before .before .before .before .before .before .before)) (c .before .before .before .before .before .before .before .before .before .before .before .before .before .before .before .before .before .before .pre) (c .before .before .before .before .before .before .before .before .translate-range .ensures) (c .before .before .before .before .product .ensures) (c .before .extend .ensures)
 
 translate-bindings-same-length : (t : ℕ) → translate-bindings-lts.Need-same-length (translate-bindings-calls t) (translate-bindings-at t) translate-bindings.Post
@@ -582,99 +447,19 @@ translate-condition-decode-requires t c κs = let h = translate-condition-named 
 translate-condition-enum-known-node : (t : ℕ) → translate-condition-lts.Need-enum-known-node (translate-condition-calls t) (translate-condition-at t) translate-condition.Post
 translate-condition-enum-known-node t c = c .match .keys1
 
-translate-condition-write-select-requires :
-    (t : ℕ) → translate-condition-lts.Need-write-select-requires (
-      decode-reads.Asked,
-      decode-reads.Learnt,
-      write-select-reads.Asked,
-      write-select-reads.Learnt,
-      translate-condition-below t,
-      translate-condition.Post,
-      unite-reads.Asked,
-      unite-reads.Learnt,
-      opposite-fits-reads.Asked,
-      opposite-fits-reads.Learnt,
-      translate-opposite-below t,
-      translate-opposite.Post,
-      subtract-reads.Asked,
-      subtract-reads.Learnt,
-      translate-some-below t,
-      translate-some.Post,
-      translate-every-below t,
-      translate-every.Post,
-    ) (translate-condition-at t) translate-condition.Post
+translate-condition-write-select-requires : (t : ℕ) → translate-condition-lts.Need-write-select-requires (translate-condition-calls t) (translate-condition-at t) translate-condition.Post
 translate-condition-write-select-requires t c κs = let b = translate-condition-atom t (c .before) in (c .before .before .before .before .before .before .before .before .before .pre .1 .1 .fits, b .narrow, b .room)
 
 translate-condition-enum-known-node-2 : (t : ℕ) → translate-condition-lts.Need-enum-known-node-2 (translate-condition-calls t) (translate-condition-at t) translate-condition.Post
 translate-condition-enum-known-node-2 t c = c .match .keys2
 
-translate-condition-translate-condition-requires :
-    (t : ℕ) → translate-condition-lts.Need-translate-condition-requires (
-      decode-reads.Asked,
-      decode-reads.Learnt,
-      write-select-reads.Asked,
-      write-select-reads.Learnt,
-      translate-condition-below t,
-      translate-condition.Post,
-      unite-reads.Asked,
-      unite-reads.Learnt,
-      opposite-fits-reads.Asked,
-      opposite-fits-reads.Learnt,
-      translate-opposite-below t,
-      translate-opposite.Post,
-      subtract-reads.Asked,
-      subtract-reads.Learnt,
-      translate-some-below t,
-      translate-some.Post,
-      translate-every-below t,
-      translate-every.Post,
-    ) (translate-condition-at t) translate-condition.Post
+translate-condition-translate-condition-requires : (t : ℕ) → translate-condition-lts.Need-translate-condition-requires (translate-condition-calls t) (translate-condition-at t) translate-condition.Post
 translate-condition-translate-condition-requires t c κs = let b = translate-condition-and t (c .before) in (omega (arith, c .before .before .before .before .before .before .before .before .before .pre .0, b .parts .0 .1), (b .parts .0 .0 .1, left-ready b))
 
-translate-condition-sub-translate-condition :
-    (t : ℕ) → translate-condition-lts.Need-sub-translate-condition (
-      decode-reads.Asked,
-      decode-reads.Learnt,
-      write-select-reads.Asked,
-      write-select-reads.Learnt,
-      translate-condition-below t,
-      translate-condition.Post,
-      unite-reads.Asked,
-      unite-reads.Learnt,
-      opposite-fits-reads.Asked,
-      opposite-fits-reads.Learnt,
-      translate-opposite-below t,
-      translate-opposite.Post,
-      subtract-reads.Asked,
-      subtract-reads.Learnt,
-      translate-some-below t,
-      translate-some.Post,
-      translate-every-below t,
-      translate-every.Post,
-    ) (translate-condition-at t) translate-condition.Post
+translate-condition-sub-translate-condition : (t : ℕ) → translate-condition-lts.Need-sub-translate-condition (translate-condition-calls t) (translate-condition-at t) translate-condition.Post
 translate-condition-sub-translate-condition t c = omega (arith, c .before .before .before .before .before .before .before .before .before .before .before .before .pre .1 .1 .some-nodes, c .before .before .translate-condition .ensures .counted)
 
-translate-condition-translate-condition-requires-2 :
-    (t : ℕ) → translate-condition-lts.Need-translate-condition-requires-2 (
-      decode-reads.Asked,
-      decode-reads.Learnt,
-      write-select-reads.Asked,
-      write-select-reads.Learnt,
-      translate-condition-below t,
-      translate-condition.Post,
-      unite-reads.Asked,
-      unite-reads.Learnt,
-      opposite-fits-reads.Asked,
-      opposite-fits-reads.Learnt,
-      translate-opposite-below t,
-      translate-opposite.Post,
-      subtract-reads.Asked,
-      subtract-reads.Learnt,
-      translate-some-below t,
-      translate-some.Post,
-      translate-every-below t,
-      translate-every.Post,
-    ) (translate-condition-at t) translate-condition.Post
+translate-condition-translate-condition-requires-2 : (t : ℕ) → translate-condition-lts.Need-translate-condition-requires-2 (translate-condition-calls t) (translate-condition-at t) translate-condition.Post
 translate-condition-translate-condition-requires-2 t c κs = let s = c .before .before .before .before .before .before .before .before .before .before .before .before .before in
     let b = translate-condition-and t (c .before .before .before .before .before) in
     (omega (arith, s .pre .0, b .parts .1 .1), (b .parts .1 .0 .1, right-ready b (s .args .short) (s .args .p) (c .before .before .before .translate-condition .ensures)))
@@ -682,50 +467,10 @@ translate-condition-translate-condition-requires-2 t c κs = let s = c .before .
 translate-condition-enum-known-node-3 : (t : ℕ) → translate-condition-lts.Need-enum-known-node-3 (translate-condition-calls t) (translate-condition-at t) translate-condition.Post
 translate-condition-enum-known-node-3 t c = c .match .keys3
 
-translate-condition-translate-condition-requires-3 :
-    (t : ℕ) → translate-condition-lts.Need-translate-condition-requires-3 (
-      decode-reads.Asked,
-      decode-reads.Learnt,
-      write-select-reads.Asked,
-      write-select-reads.Learnt,
-      translate-condition-below t,
-      translate-condition.Post,
-      unite-reads.Asked,
-      unite-reads.Learnt,
-      opposite-fits-reads.Asked,
-      opposite-fits-reads.Learnt,
-      translate-opposite-below t,
-      translate-opposite.Post,
-      subtract-reads.Asked,
-      subtract-reads.Learnt,
-      translate-some-below t,
-      translate-some.Post,
-      translate-every-below t,
-      translate-every.Post,
-    ) (translate-condition-at t) translate-condition.Post
+translate-condition-translate-condition-requires-3 : (t : ℕ) → translate-condition-lts.Need-translate-condition-requires-3 (translate-condition-calls t) (translate-condition-at t) translate-condition.Post
 translate-condition-translate-condition-requires-3 t c κs = let b = translate-condition-or t (c .before) in (omega (arith, c .before .before .before .before .before .before .before .before .before .pre .0, b .parts .0 .1), (b .parts .0 .0 .1, left-ready b))
 
-translate-condition-translate-condition-requires-4 :
-    (t : ℕ) → translate-condition-lts.Need-translate-condition-requires-4 (
-      decode-reads.Asked,
-      decode-reads.Learnt,
-      write-select-reads.Asked,
-      write-select-reads.Learnt,
-      translate-condition-below t,
-      translate-condition.Post,
-      unite-reads.Asked,
-      unite-reads.Learnt,
-      opposite-fits-reads.Asked,
-      opposite-fits-reads.Learnt,
-      translate-opposite-below t,
-      translate-opposite.Post,
-      subtract-reads.Asked,
-      subtract-reads.Learnt,
-      translate-some-below t,
-      translate-some.Post,
-      translate-every-below t,
-      translate-every.Post,
-    ) (translate-condition-at t) translate-condition.Post
+translate-condition-translate-condition-requires-4 : (t : ℕ) → translate-condition-lts.Need-translate-condition-requires-4 (translate-condition-calls t) (translate-condition-at t) translate-condition.Post
 translate-condition-translate-condition-requires-4 t c κs = let s = c .before .before .before .before .before .before .before .before .before .before .before .before .before in
     let b = translate-condition-or t (c .before .before .before .before .before) in
     (omega (arith, s .pre .0, b .parts .1 .1), (b .parts .1 .0 .1, right-ready b (s .args .short) (s .args .p) (c .before .before .before .translate-condition3 .ensures)))
@@ -743,53 +488,13 @@ translate-condition-unite-requires t c κs = let s = c .before .before .before .
 translate-condition-enum-known-node-4 : (t : ℕ) → translate-condition-lts.Need-enum-known-node-4 (translate-condition-calls t) (translate-condition-at t) translate-condition.Post
 translate-condition-enum-known-node-4 t c = c .match .keys4
 
-translate-condition-opposite-fits-requires :
-    (t : ℕ) → translate-condition-lts.Need-opposite-fits-requires (
-      decode-reads.Asked,
-      decode-reads.Learnt,
-      write-select-reads.Asked,
-      write-select-reads.Learnt,
-      translate-condition-below t,
-      translate-condition.Post,
-      unite-reads.Asked,
-      unite-reads.Learnt,
-      opposite-fits-reads.Asked,
-      opposite-fits-reads.Learnt,
-      translate-opposite-below t,
-      translate-opposite.Post,
-      subtract-reads.Asked,
-      subtract-reads.Learnt,
-      translate-some-below t,
-      translate-some.Post,
-      translate-every-below t,
-      translate-every.Post,
-    ) (translate-condition-at t) translate-condition.Post
-translate-condition-opposite-fits-requires t c κs = let b = translate-condition-not t c in (b .part .0, few-below (b .ready))
+translate-condition-opposite-fits-requires : (t : ℕ) → translate-condition-lts.Need-opposite-fits-requires (translate-condition-calls t) (translate-condition-at t) translate-condition.Post
+translate-condition-opposite-fits-requires t c κs = let b = translate-condition-not t c in (b .part .0, inner-few b)
 
-translate-condition-translate-opposite-requires :
-    (t : ℕ) → translate-condition-lts.Need-translate-opposite-requires (
-      decode-reads.Asked,
-      decode-reads.Learnt,
-      write-select-reads.Asked,
-      write-select-reads.Learnt,
-      translate-condition-below t,
-      translate-condition.Post,
-      unite-reads.Asked,
-      unite-reads.Learnt,
-      opposite-fits-reads.Asked,
-      opposite-fits-reads.Learnt,
-      translate-opposite-below t,
-      translate-opposite.Post,
-      subtract-reads.Asked,
-      subtract-reads.Learnt,
-      translate-some-below t,
-      translate-some.Post,
-      translate-every-below t,
-      translate-every.Post,
-    ) (translate-condition-at t) translate-condition.Post
+translate-condition-translate-opposite-requires : (t : ℕ) → translate-condition-lts.Need-translate-opposite-requires (translate-condition-calls t) (translate-condition-at t) translate-condition.Post
 translate-condition-translate-opposite-requires t c κs = let s = c .before .before .before .before .before .before .before .before .before .before .before in
     let b = translate-condition-not t (c .before .before .before) in
-    (omega (arith, s .pre .0, b .part .1), (b .part .0, ready-less (b .ready), sym (c .before .before .opposite-fits .ensures) ∙ and-right (s .args .short) (c .before .before .opposite-fits .result) (c .before .if2 .taken)))
+    (omega (arith, s .pre .0, b .part .1), (b .part .0, b .ready .ready, sym (c .before .before .opposite-fits .ensures) ∙ and-right (s .args .short) (c .before .before .opposite-fits .result) (c .before .if2 .taken)))
 
 translate-condition-same-length : (t : ℕ) → translate-condition-lts.Need-same-length (translate-condition-calls t) (translate-condition-at t) translate-condition.Post
 translate-condition-same-length t c = search needs
@@ -799,27 +504,7 @@ translate-condition-returns-2 t c = let s = c .before .before .before .before .b
     let b = translate-condition-not t (c .before .before .before .before .before .before) in
     written-restriction _ _ _ _ (b .reads) (opposite-written _ _ _ _ _ (ap (λ fits. s .args .short && fits) (sym (c .before .before .before .before .before .opposite-fits .ensures)) ∙ c .before .before .before .before .if2 .taken) (c .before .before .translate-opposite .ensures))
 
-translate-condition-translate-condition-requires-5 :
-    (t : ℕ) → translate-condition-lts.Need-translate-condition-requires-5 (
-      decode-reads.Asked,
-      decode-reads.Learnt,
-      write-select-reads.Asked,
-      write-select-reads.Learnt,
-      translate-condition-below t,
-      translate-condition.Post,
-      unite-reads.Asked,
-      unite-reads.Learnt,
-      opposite-fits-reads.Asked,
-      opposite-fits-reads.Learnt,
-      translate-opposite-below t,
-      translate-opposite.Post,
-      subtract-reads.Asked,
-      subtract-reads.Learnt,
-      translate-some-below t,
-      translate-some.Post,
-      translate-every-below t,
-      translate-every.Post,
-    ) (translate-condition-at t) translate-condition.Post
+translate-condition-translate-condition-requires-5 : (t : ℕ) → translate-condition-lts.Need-translate-condition-requires-5 (translate-condition-calls t) (translate-condition-at t) translate-condition.Post
 translate-condition-translate-condition-requires-5 t c κs = let b = translate-condition-not t (c .before .before .before) in (omega (arith, c .before .before .before .before .before .before .before .before .before .before .before .pre .0, b .part .1), (b .part .0 .1, inner-ready b))
 
 translate-condition-sub-subtract : (t : ℕ) → translate-condition-lts.Need-sub-subtract (translate-condition-calls t) (translate-condition-at t) translate-condition.Post
@@ -832,27 +517,7 @@ translate-condition-subtract-requires t c κs = let s = c .before .before .befor
 translate-condition-enum-known-node-5 : (t : ℕ) → translate-condition-lts.Need-enum-known-node-5 (translate-condition-calls t) (translate-condition-at t) translate-condition.Post
 translate-condition-enum-known-node-5 t c = c .match .keys5
 
-translate-condition-translate-some-requires :
-    (t : ℕ) → translate-condition-lts.Need-translate-some-requires (
-      decode-reads.Asked,
-      decode-reads.Learnt,
-      write-select-reads.Asked,
-      write-select-reads.Learnt,
-      translate-condition-below t,
-      translate-condition.Post,
-      unite-reads.Asked,
-      unite-reads.Learnt,
-      opposite-fits-reads.Asked,
-      opposite-fits-reads.Learnt,
-      translate-opposite-below t,
-      translate-opposite.Post,
-      subtract-reads.Asked,
-      subtract-reads.Learnt,
-      translate-some-below t,
-      translate-some.Post,
-      translate-every-below t,
-      translate-every.Post,
-    ) (translate-condition-at t) translate-condition.Post
+translate-condition-translate-some-requires : (t : ℕ) → translate-condition-lts.Need-translate-some-requires (translate-condition-calls t) (translate-condition-at t) translate-condition.Post
 translate-condition-translate-some-requires t c κs = let s = c .before .before .before .before .before .before .before .before .before in
     let b = translate-condition-some t (c .before) in
     (omega (arith, s .pre .0, b .parts .0 .1, b .parts .1 .1), (b .parts .0 .0, b .parts .1 .0, b .ready))
@@ -860,27 +525,7 @@ translate-condition-translate-some-requires t c κs = let s = c .before .before 
 translate-condition-enum-known-node-6 : (t : ℕ) → translate-condition-lts.Need-enum-known-node-6 (translate-condition-calls t) (translate-condition-at t) translate-condition.Post
 translate-condition-enum-known-node-6 t c = c .match .keys6
 
-translate-condition-translate-every-requires :
-    (t : ℕ) → translate-condition-lts.Need-translate-every-requires (
-      decode-reads.Asked,
-      decode-reads.Learnt,
-      write-select-reads.Asked,
-      write-select-reads.Learnt,
-      translate-condition-below t,
-      translate-condition.Post,
-      unite-reads.Asked,
-      unite-reads.Learnt,
-      opposite-fits-reads.Asked,
-      opposite-fits-reads.Learnt,
-      translate-opposite-below t,
-      translate-opposite.Post,
-      subtract-reads.Asked,
-      subtract-reads.Learnt,
-      translate-some-below t,
-      translate-some.Post,
-      translate-every-below t,
-      translate-every.Post,
-    ) (translate-condition-at t) translate-condition.Post
+translate-condition-translate-every-requires : (t : ℕ) → translate-condition-lts.Need-translate-every-requires (translate-condition-calls t) (translate-condition-at t) translate-condition.Post
 translate-condition-translate-every-requires t c κs = let s = c .before .before .before .before .before .before .before .before .before in
     let b = translate-condition-every t (c .before) in
     (omega (arith, s .pre .0, b .parts .0 .1, b .parts .1 .1), (b .parts .0 .0, b .parts .1 .0, b .ready))
@@ -952,39 +597,20 @@ translate-division-decode-requires t c κs = omega (arith, c .before .before .be
 translate-division-enum-known-node : (t : ℕ) → translate-division-lts.Need-enum-known-node (translate-division-calls t) (translate-division-at t) translate-division.Post
 translate-division-enum-known-node t c = c .match .keys1
 
-translate-division-translate-range-requires :
-    (t : ℕ) → translate-division-lts.Need-translate-range-requires (
-      decode-reads.Asked,
-      decode-reads.Learnt,
-      translate-range-below t,
-      translate-range.Post,
-      leaves-of-reads.Asked,
-      leaves-of-reads.Learnt,
-      write-short-rule-5-reads.Asked,
-      write-short-rule-5-reads.Learnt,
-    ) (translate-division-at t) translate-division.Post
+translate-division-translate-range-requires : (t : ℕ) → translate-division-lts.Need-translate-range-requires (translate-division-calls t) (translate-division-at t) translate-division.Post
 translate-division-translate-range-requires t c κs = let s = c .before .before .before .before .before .before .before .before in
     let words = s .args .words .now in
     let e = translate-division-some t (c .before .before) in
-    (omega (arith, s .pre .0, range-below words (s .pre .1 .0) e), (range-named words (s .pre .1 .0) e, range-ready (divided-ready words (s .pre .1 .0) e (s .pre .1 .1))))
+    let parts = some-parts words (s .args .reference) (s .pre .1 .0) e in
+    (omega (arith, s .pre .0, parts .0 .1), (parts .0 .0, range-ready (divided-ready words (s .pre .1 .0) e (s .pre .1 .1))))
 
 translate-division-leaves-of-requires : (t : ℕ) → translate-division-lts.Need-leaves-of-requires (translate-division-calls t) (translate-division-at t) translate-division.Post
 translate-division-leaves-of-requires t c κs = let s = c .before .before .before .before .before .before .before .before .before .before .before in
     let words = s .args .words .now in
     let e = translate-division-some t (c .before .before .before .before .before) in
-    collectable words (c .before .before .before .before .before .node .given .0 .1 .1 .0) (condition-named words (s .pre .1 .0) e) (few-nodes (divided-ready words (s .pre .1 .0) e (s .pre .1 .1)))
+    collectable words (c .before .before .before .before .before .node .given .0 .1 .1 .0) (some-parts words (s .args .reference) (s .pre .1 .0) e .1 .0) (few-nodes (divided-ready words (s .pre .1 .0) e (s .pre .1 .1)))
 
-translate-division-write-short-rule-5-requires :
-    (t : ℕ) → translate-division-lts.Need-write-short-rule-5-requires (
-      decode-reads.Asked,
-      decode-reads.Learnt,
-      translate-range-below t,
-      translate-range.Post,
-      leaves-of-reads.Asked,
-      leaves-of-reads.Learnt,
-      write-short-rule-5-reads.Asked,
-      write-short-rule-5-reads.Learnt,
-    ) (translate-division-at t) translate-division.Post
+translate-division-write-short-rule-5-requires : (t : ℕ) → translate-division-lts.Need-write-short-rule-5-requires (translate-division-calls t) (translate-division-at t) translate-division.Post
 translate-division-write-short-rule-5-requires t c κs = let s = c .before .before .before .before .before .before .before .before .before .before .before .before .before in
     (s .pre .1 .1 .fits, dividend-fits (s .args .words .now) (s .pre .1 .0) (translate-division-some t (c .before .before .before .before .before .before .before)) (s .pre .1 .1) (c .before .before .before .before .translate-range .ensures) (c .before .leaves-of .ensures) (s .pre .1 .2))
 
@@ -1000,431 +626,81 @@ translate-division-returns-2 t c = let s = c .before .before .before .before .be
     let f = condition-is (s .args .words .now) (s .args .reference) (c .before .decode .result) (s .pre .1 .0 .0) (c .before .decode .ensures) in
     true-and-false (s .pre .1 .2) (ap (shortRule5Fits (s .args .y)) f ∙ not-divided (s .args .y) (c .before .decode .result) _ _ _ (c .match .keys2))
 
-translate-every-translate-range-requires :
-    (t : ℕ) → translate-every-lts.Need-translate-range-requires (translate-every-calls t) (translate-every-at t) translate-every.Post
+translate-every-translate-range-requires : (t : ℕ) → translate-every-lts.Need-translate-range-requires (translate-every-calls t) (translate-every-at t) translate-every.Post
 translate-every-translate-range-requires t c κs = let s = c .before .before .before .before in
     (omega (arith, s .pre .0), (s .pre .1 .0, range-ready (every-ready (s .pre .1 .2))))
 
-translate-every-leaves-of-requires : (t : ℕ) → translate-every-lts.Need-leaves-of-requires (
-  translate-range-below t,
-  translate-range.Post,
-  leaves-of-reads.Asked,
-  leaves-of-reads.Learnt,
-  short-rule-4-fits-reads.Asked,
-  short-rule-4-fits-reads.Learnt,
-  write-short-rule-4-reads.Asked,
-  write-short-rule-4-reads.Learnt,
-  division-fits-reads.Asked,
-  division-fits-reads.Learnt,
-  translate-division-below t,
-  translate-division.Post,
-  no-list-reads.Asked,
-  no-list-reads.Learnt,
-  with-columns-reads.Asked,
-  with-columns-reads.Learnt,
-  translate-inside-below t,
-  translate-inside.Post,
-  subtract-reads.Asked,
-  subtract-reads.Learnt,
-  project-reads.Asked,
-  project-reads.Learnt,
-) (translate-every-at t) translate-every.Post
+translate-every-leaves-of-requires : (t : ℕ) → translate-every-lts.Need-leaves-of-requires (translate-every-calls t) (translate-every-at t) translate-every.Post
 translate-every-leaves-of-requires t c κs = let s = c .before .before .before .before .before .before .before in
     collectable (s .args .words .now) (s .args .condition) (s .pre .1 .1) (few-nodes (every-ready (s .pre .1 .2)))
 
-translate-every-short-rule-4-fits-requires :
-    (t : ℕ) → translate-every-lts.Need-short-rule-4-fits-requires (translate-every-calls t) (translate-every-at t) translate-every.Post
+translate-every-short-rule-4-fits-requires : (t : ℕ) → translate-every-lts.Need-short-rule-4-fits-requires (translate-every-calls t) (translate-every-at t) translate-every.Post
 translate-every-short-rule-4-fits-requires t c κs = c .leaves-of .ensures .fits
 
-translate-every-write-short-rule-4-requires :
-    (t : ℕ) → translate-every-lts.Need-write-short-rule-4-requires (translate-every-calls t) (translate-every-at t) translate-every.Post
+translate-every-write-short-rule-4-requires : (t : ℕ) → translate-every-lts.Need-write-short-rule-4-requires (translate-every-calls t) (translate-every-at t) translate-every.Post
 translate-every-write-short-rule-4-requires t c κs = let s = c .before .before .before .before .before .before .before .before .before .before .before in
     let found = c .before .before .before .leaves-of .ensures in
-    rule-4-ready (every-ready (s .pre .1 .2)) (c .before .before .before .before .before .before .translate-range .ensures) found (rule-test found (s .args .x) (s .args .short) (found .or-tree) (c .before .before .short-rule-4-fits .ensures) (c .before .if1 .taken))
+    rule-4-ready (every-ready (s .pre .1 .2)) (c .before .before .before .before .before .before .translate-range .ensures) found (and-right (s .args .short) _ (rule-test found (s .args .x) (s .args .short) (found .or-tree) (c .before .before .short-rule-4-fits .ensures) (c .before .if1 .taken)))
 
-translate-every-same-length : (t : ℕ) → translate-every-lts.Need-same-length (
-  translate-range-below t,
-  translate-range.Post,
-  leaves-of-reads.Asked,
-  leaves-of-reads.Learnt,
-  short-rule-4-fits-reads.Asked,
-  short-rule-4-fits-reads.Learnt,
-  write-short-rule-4-reads.Asked,
-  write-short-rule-4-reads.Learnt,
-  division-fits-reads.Asked,
-  division-fits-reads.Learnt,
-  translate-division-below t,
-  translate-division.Post,
-  no-list-reads.Asked,
-  no-list-reads.Learnt,
-  with-columns-reads.Asked,
-  with-columns-reads.Learnt,
-  translate-inside-below t,
-  translate-inside.Post,
-  subtract-reads.Asked,
-  subtract-reads.Learnt,
-  project-reads.Asked,
-  project-reads.Learnt,
-) (translate-every-at t) translate-every.Post
+translate-every-same-length : (t : ℕ) → translate-every-lts.Need-same-length (translate-every-calls t) (translate-every-at t) translate-every.Post
 translate-every-same-length t c = search needs
 
-translate-every-returns : (t : ℕ) → translate-every-lts.Need-returns (
-  translate-range-below t,
-  translate-range.Post,
-  leaves-of-reads.Asked,
-  leaves-of-reads.Learnt,
-  short-rule-4-fits-reads.Asked,
-  short-rule-4-fits-reads.Learnt,
-  write-short-rule-4-reads.Asked,
-  write-short-rule-4-reads.Learnt,
-  division-fits-reads.Asked,
-  division-fits-reads.Learnt,
-  translate-division-below t,
-  translate-division.Post,
-  no-list-reads.Asked,
-  no-list-reads.Learnt,
-  with-columns-reads.Asked,
-  with-columns-reads.Learnt,
-  translate-inside-below t,
-  translate-inside.Post,
-  subtract-reads.Asked,
-  subtract-reads.Learnt,
-  project-reads.Asked,
-  project-reads.Learnt,
-) (translate-every-at t) translate-every.Post
+translate-every-returns : (t : ℕ) → translate-every-lts.Need-returns (translate-every-calls t) (translate-every-at t) translate-every.Post
 translate-every-returns t c = let s = c .before .before .before .before .before .before .before .before .before .before .before .before .before .before in
     let found = c .before .before .before .before .before .before .leaves-of .ensures in
     every-by-rule-4 (c .before .before .before .before .before .before .before .before .before .translate-range .ensures) found (s .args .x) (scopeOf (s .args .scope)) (s .args .p) (rule-test found (s .args .x) (s .args .short) (found .or-tree) (c .before .before .before .before .before .short-rule-4-fits .ensures) (c .before .before .before .before .if1 .taken)) (c .before .before .write-short-rule-4 .ensures)
 
-translate-every-division-fits-requires : (t : ℕ) → translate-every-lts.Need-division-fits-requires (
-  translate-range-below t,
-  translate-range.Post,
-  leaves-of-reads.Asked,
-  leaves-of-reads.Learnt,
-  short-rule-4-fits-reads.Asked,
-  short-rule-4-fits-reads.Learnt,
-  write-short-rule-4-reads.Asked,
-  write-short-rule-4-reads.Learnt,
-  division-fits-reads.Asked,
-  division-fits-reads.Learnt,
-  translate-division-below t,
-  translate-division.Post,
-  no-list-reads.Asked,
-  no-list-reads.Learnt,
-  with-columns-reads.Asked,
-  with-columns-reads.Learnt,
-  translate-inside-below t,
-  translate-inside.Post,
-  subtract-reads.Asked,
-  subtract-reads.Learnt,
-  project-reads.Asked,
-  project-reads.Learnt,
-) (translate-every-at t) translate-every.Post
+translate-every-division-fits-requires : (t : ℕ) → translate-every-lts.Need-division-fits-requires (translate-every-calls t) (translate-every-at t) translate-every.Post
 translate-every-division-fits-requires t c κs = let s = c .before .before .before .before .before .before .before .before .before .before in
     (s .pre .1 .1, few-nodes (every-ready (s .pre .1 .2)))
 
-translate-every-sub-translate-division : (t : ℕ) → translate-every-lts.Need-sub-translate-division (
-  translate-range-below t,
-  translate-range.Post,
-  leaves-of-reads.Asked,
-  leaves-of-reads.Learnt,
-  short-rule-4-fits-reads.Asked,
-  short-rule-4-fits-reads.Learnt,
-  write-short-rule-4-reads.Asked,
-  write-short-rule-4-reads.Learnt,
-  division-fits-reads.Asked,
-  division-fits-reads.Learnt,
-  translate-division-below t,
-  translate-division.Post,
-  no-list-reads.Asked,
-  no-list-reads.Learnt,
-  with-columns-reads.Asked,
-  with-columns-reads.Learnt,
-  translate-inside-below t,
-  translate-inside.Post,
-  subtract-reads.Asked,
-  subtract-reads.Learnt,
-  project-reads.Asked,
-  project-reads.Learnt,
-) (translate-every-at t) translate-every.Post
+translate-every-sub-translate-division : (t : ℕ) → translate-every-lts.Need-sub-translate-division (translate-every-calls t) (translate-every-at t) translate-every.Post
 translate-every-sub-translate-division t c = omega (arith, c .before .before .before .before .before .before .before .translate-range .ensures .more)
 
-translate-every-translate-division-requires :
-    (t : ℕ) → translate-every-lts.Need-translate-division-requires (translate-every-calls t) (translate-every-at t) translate-every.Post
+translate-every-translate-division-requires : (t : ℕ) → translate-every-lts.Need-translate-division-requires (translate-every-calls t) (translate-every-at t) translate-every.Post
 translate-every-translate-division-requires t c κs = let s = c .before .before .before .before .before .before .before .before .before .before .before .before .before in
     let h : (s .args .short && c .before .before .division-fits .result) ≡ true = c .before .if2 .taken in
     (omega (arith, s .pre .0), (s .pre .1 .1, division-ready (every-ready (s .pre .1 .2)) (c .before .before .before .before .before .before .before .before .translate-range .ensures), sym (c .before .before .division-fits .ensures) ∙ and-right (s .args .short) (c .before .before .division-fits .result) h))
 
-translate-every-same-length-2 : (t : ℕ) → translate-every-lts.Need-same-length-2 (
-  translate-range-below t,
-  translate-range.Post,
-  leaves-of-reads.Asked,
-  leaves-of-reads.Learnt,
-  short-rule-4-fits-reads.Asked,
-  short-rule-4-fits-reads.Learnt,
-  write-short-rule-4-reads.Asked,
-  write-short-rule-4-reads.Learnt,
-  division-fits-reads.Asked,
-  division-fits-reads.Learnt,
-  translate-division-below t,
-  translate-division.Post,
-  no-list-reads.Asked,
-  no-list-reads.Learnt,
-  with-columns-reads.Asked,
-  with-columns-reads.Learnt,
-  translate-inside-below t,
-  translate-inside.Post,
-  subtract-reads.Asked,
-  subtract-reads.Learnt,
-  project-reads.Asked,
-  project-reads.Learnt,
-) (translate-every-at t) translate-every.Post
+translate-every-same-length-2 : (t : ℕ) → translate-every-lts.Need-same-length-2 (translate-every-calls t) (translate-every-at t) translate-every.Post
 translate-every-same-length-2 t c = search needs
 
-translate-every-returns-2 : (t : ℕ) → translate-every-lts.Need-returns-2 (
-  translate-range-below t,
-  translate-range.Post,
-  leaves-of-reads.Asked,
-  leaves-of-reads.Learnt,
-  short-rule-4-fits-reads.Asked,
-  short-rule-4-fits-reads.Learnt,
-  write-short-rule-4-reads.Asked,
-  write-short-rule-4-reads.Learnt,
-  division-fits-reads.Asked,
-  division-fits-reads.Learnt,
-  translate-division-below t,
-  translate-division.Post,
-  no-list-reads.Asked,
-  no-list-reads.Learnt,
-  with-columns-reads.Asked,
-  with-columns-reads.Learnt,
-  translate-inside-below t,
-  translate-inside.Post,
-  subtract-reads.Asked,
-  subtract-reads.Learnt,
-  project-reads.Asked,
-  project-reads.Learnt,
-) (translate-every-at t) translate-every.Post
+translate-every-returns-2 : (t : ℕ) → translate-every-lts.Need-returns-2 (translate-every-calls t) (translate-every-at t) translate-every.Post
 translate-every-returns-2 t c = let s = c .before .before .before .before .before .before .before .before .before .before .before .before .before .before .before .before in
     let found = c .before .before .before .before .before .before .before .before .leaves-of .ensures in
     every-by-rule-5 (c .before .before .before .before .before .before .before .before .before .before .before .translate-range .ensures) (conditionAt (s .args .words .now) (s .args .condition)) (s .args .x) (scopeOf (s .args .scope)) (s .args .p) (rule-test found (s .args .x) (s .args .short) (found .or-tree) (c .before .before .before .before .before .before .before .short-rule-4-fits .ensures) (c .before .before .before .before .before .before .if1 .left)) (ap (λ (b : Bool). s .args .short && b) (sym (c .before .before .before .before .before .division-fits .ensures)) ∙ c .before .before .before .before .if2 .taken) (c .before .before .translate-division .ensures)
 
-translate-every-no-list-requires : (t : ℕ) → translate-every-lts.Need-no-list-requires (
-  translate-range-below t,
-  translate-range.Post,
-  leaves-of-reads.Asked,
-  leaves-of-reads.Learnt,
-  short-rule-4-fits-reads.Asked,
-  short-rule-4-fits-reads.Learnt,
-  write-short-rule-4-reads.Asked,
-  write-short-rule-4-reads.Learnt,
-  division-fits-reads.Asked,
-  division-fits-reads.Learnt,
-  translate-division-below t,
-  translate-division.Post,
-  no-list-reads.Asked,
-  no-list-reads.Learnt,
-  with-columns-reads.Asked,
-  with-columns-reads.Learnt,
-  translate-inside-below t,
-  translate-inside.Post,
-  subtract-reads.Asked,
-  subtract-reads.Learnt,
-  project-reads.Asked,
-  project-reads.Learnt,
-) (translate-every-at t) translate-every.Post
+translate-every-no-list-requires : (t : ℕ) → translate-every-lts.Need-no-list-requires (translate-every-calls t) (translate-every-at t) translate-every.Post
 translate-every-no-list-requires t c κs = tt
 
-translate-every-with-columns-requires : (t : ℕ) → translate-every-lts.Need-with-columns-requires (
-  translate-range-below t,
-  translate-range.Post,
-  leaves-of-reads.Asked,
-  leaves-of-reads.Learnt,
-  short-rule-4-fits-reads.Asked,
-  short-rule-4-fits-reads.Learnt,
-  write-short-rule-4-reads.Asked,
-  write-short-rule-4-reads.Learnt,
-  division-fits-reads.Asked,
-  division-fits-reads.Learnt,
-  translate-division-below t,
-  translate-division.Post,
-  no-list-reads.Asked,
-  no-list-reads.Learnt,
-  with-columns-reads.Asked,
-  with-columns-reads.Learnt,
-  translate-inside-below t,
-  translate-inside.Post,
-  subtract-reads.Asked,
-  subtract-reads.Learnt,
-  project-reads.Asked,
-  project-reads.Learnt,
-) (translate-every-at t) translate-every.Post
+translate-every-with-columns-requires : (t : ℕ) → translate-every-lts.Need-with-columns-requires (translate-every-calls t) (translate-every-at t) translate-every.Post
 translate-every-with-columns-requires t c κs = columns-room (c .before .before .before .before .before .before .before .before .before .before .before .before .before .pre .1 .2 .fits) (c .no-list .ensures)
 
-translate-every-translate-inside-requires :
-    (t : ℕ) → translate-every-lts.Need-translate-inside-requires (translate-every-calls t) (translate-every-at t) translate-every.Post
+translate-every-translate-inside-requires : (t : ℕ) → translate-every-lts.Need-translate-inside-requires (translate-every-calls t) (translate-every-at t) translate-every.Post
 translate-every-translate-inside-requires t c κs = let s = c .before .before .before .before .before .before .before .before .before .before .before .before .before .before .before in
     (omega (arith, s .pre .0), (s .pre .1 .1, inside-ready (every-ready (s .pre .1 .2)) (c .before .before .before .before .before .before .before .before .before .before .translate-range .ensures)))
 
-translate-every-sub-subtract : (t : ℕ) → translate-every-lts.Need-sub-subtract (
-  translate-range-below t,
-  translate-range.Post,
-  leaves-of-reads.Asked,
-  leaves-of-reads.Learnt,
-  short-rule-4-fits-reads.Asked,
-  short-rule-4-fits-reads.Learnt,
-  write-short-rule-4-reads.Asked,
-  write-short-rule-4-reads.Learnt,
-  division-fits-reads.Asked,
-  division-fits-reads.Learnt,
-  translate-division-below t,
-  translate-division.Post,
-  no-list-reads.Asked,
-  no-list-reads.Learnt,
-  with-columns-reads.Asked,
-  with-columns-reads.Learnt,
-  translate-inside-below t,
-  translate-inside.Post,
-  subtract-reads.Asked,
-  subtract-reads.Learnt,
-  project-reads.Asked,
-  project-reads.Learnt,
-) (translate-every-at t) translate-every.Post
+translate-every-sub-subtract : (t : ℕ) → translate-every-lts.Need-sub-subtract (translate-every-calls t) (translate-every-at t) translate-every.Post
 translate-every-sub-subtract t c = omega (arith, c .before .before .before .translate-inside .ensures .counted)
 
-translate-every-subtract-requires : (t : ℕ) → translate-every-lts.Need-subtract-requires (
-  translate-range-below t,
-  translate-range.Post,
-  leaves-of-reads.Asked,
-  leaves-of-reads.Learnt,
-  short-rule-4-fits-reads.Asked,
-  short-rule-4-fits-reads.Learnt,
-  write-short-rule-4-reads.Asked,
-  write-short-rule-4-reads.Learnt,
-  division-fits-reads.Asked,
-  division-fits-reads.Learnt,
-  translate-division-below t,
-  translate-division.Post,
-  no-list-reads.Asked,
-  no-list-reads.Learnt,
-  with-columns-reads.Asked,
-  with-columns-reads.Learnt,
-  translate-inside-below t,
-  translate-inside.Post,
-  subtract-reads.Asked,
-  subtract-reads.Learnt,
-  project-reads.Asked,
-  project-reads.Learnt,
-) (translate-every-at t) translate-every.Post
+translate-every-subtract-requires : (t : ℕ) → translate-every-lts.Need-subtract-requires (translate-every-calls t) (translate-every-at t) translate-every.Post
 translate-every-subtract-requires t c κs = let s = c .before .before .before .before .before .before .before .before .before .before .before .before .before .before .before .before .before .before .before in
     room-less 1 (room-plain (every-ready (s .pre .1 .2)) (c .before .before .before .before .before .before .before .before .before .before .before .before .before .before .translate-range .ensures) (s .args .p) (c .before .before .before .translate-inside .ensures)) (omega arith)
 
-translate-every-project-requires : (t : ℕ) → translate-every-lts.Need-project-requires (
-  translate-range-below t,
-  translate-range.Post,
-  leaves-of-reads.Asked,
-  leaves-of-reads.Learnt,
-  short-rule-4-fits-reads.Asked,
-  short-rule-4-fits-reads.Learnt,
-  write-short-rule-4-reads.Asked,
-  write-short-rule-4-reads.Learnt,
-  division-fits-reads.Asked,
-  division-fits-reads.Learnt,
-  translate-division-below t,
-  translate-division.Post,
-  no-list-reads.Asked,
-  no-list-reads.Learnt,
-  with-columns-reads.Asked,
-  with-columns-reads.Learnt,
-  translate-inside-below t,
-  translate-inside.Post,
-  subtract-reads.Asked,
-  subtract-reads.Learnt,
-  project-reads.Asked,
-  project-reads.Learnt,
-) (translate-every-at t) translate-every.Post
+translate-every-project-requires : (t : ℕ) → translate-every-lts.Need-project-requires (translate-every-calls t) (translate-every-at t) translate-every.Post
 translate-every-project-requires t c κs = let s = c .before .before .before .before .before .before .before .before .before .before .before .before .before .before .before .before .before .before .before .before .before .before .before in
     room-after 1 (room-plain (every-ready (s .pre .1 .2)) (c .before .before .before .before .before .before .before .before .before .before .before .before .before .before .before .before .before .before .translate-range .ensures) (s .args .p) (c .before .before .before .before .before .before .before .translate-inside .ensures)) (c .before .before .before .subtract .ensures) (omega arith)
 
-translate-every-subtract-requires-2 : (t : ℕ) → translate-every-lts.Need-subtract-requires-2 (
-  translate-range-below t,
-  translate-range.Post,
-  leaves-of-reads.Asked,
-  leaves-of-reads.Learnt,
-  short-rule-4-fits-reads.Asked,
-  short-rule-4-fits-reads.Learnt,
-  write-short-rule-4-reads.Asked,
-  write-short-rule-4-reads.Learnt,
-  division-fits-reads.Asked,
-  division-fits-reads.Learnt,
-  translate-division-below t,
-  translate-division.Post,
-  no-list-reads.Asked,
-  no-list-reads.Learnt,
-  with-columns-reads.Asked,
-  with-columns-reads.Learnt,
-  translate-inside-below t,
-  translate-inside.Post,
-  subtract-reads.Asked,
-  subtract-reads.Learnt,
-  project-reads.Asked,
-  project-reads.Learnt,
-) (translate-every-at t) translate-every.Post
+translate-every-subtract-requires-2 : (t : ℕ) → translate-every-lts.Need-subtract-requires-2 (translate-every-calls t) (translate-every-at t) translate-every.Post
 translate-every-subtract-requires-2 t c κs = let s = c .before .before .before .before .before .before .before .before .before .before .before .before .before .before .before .before .before .before .before .before .before .before .before .before .before .before .before in
     let listed = columns-listed (s .pre .1 .2 .fits) (c .before .before .before .before .before .before .before .before .before .before .before .before .before .before .no-list .ensures) (c .before .before .before .before .before .before .before .before .before .before .before .before .before .with-columns .ensures) in
     let room = room-after 2 (room-plain (every-ready (s .pre .1 .2)) (c .before .before .before .before .before .before .before .before .before .before .before .before .before .before .before .before .before .before .before .before .before .before .translate-range .ensures) (s .args .p) (c .before .before .before .before .before .before .before .before .before .before .before .translate-inside .ensures)) (c .before .before .before .before .before .before .before .subtract .ensures) (omega arith) in
     room-after 1 room (c .before .before .before .project .ensures (allColumns (columnsIn (scopeOf (s .args .scope)))) listed) (omega arith)
 
-translate-every-same-length-3 : (t : ℕ) → translate-every-lts.Need-same-length-3 (
-  translate-range-below t,
-  translate-range.Post,
-  leaves-of-reads.Asked,
-  leaves-of-reads.Learnt,
-  short-rule-4-fits-reads.Asked,
-  short-rule-4-fits-reads.Learnt,
-  write-short-rule-4-reads.Asked,
-  write-short-rule-4-reads.Learnt,
-  division-fits-reads.Asked,
-  division-fits-reads.Learnt,
-  translate-division-below t,
-  translate-division.Post,
-  no-list-reads.Asked,
-  no-list-reads.Learnt,
-  with-columns-reads.Asked,
-  with-columns-reads.Learnt,
-  translate-inside-below t,
-  translate-inside.Post,
-  subtract-reads.Asked,
-  subtract-reads.Learnt,
-  project-reads.Asked,
-  project-reads.Learnt,
-) (translate-every-at t) translate-every.Post
+translate-every-same-length-3 : (t : ℕ) → translate-every-lts.Need-same-length-3 (translate-every-calls t) (translate-every-at t) translate-every.Post
 translate-every-same-length-3 t c = c .before .before .subtract2 .kept .0 ∙ c .before .before .before .before .before .before .project .kept .0 ∙ c .before .before .before .before .before .before .before .before .before .before .subtract .kept .0 ∙ c .before .before .before .before .before .before .before .before .before .before .before .before .before .before .translate-inside .kept .1 .1 .1 .1 .1 .1 .1 .1 .0 ∙ c .before .before .before .before .before .before .before .before .before .before .before .before .before .before .before .before .before .before .before .before .before .before .before .before .before .translate-range .kept .1 .1 .1 .1 .0
 
-translate-every-returns-3 : (t : ℕ) → translate-every-lts.Need-returns-3 (
-  translate-range-below t,
-  translate-range.Post,
-  leaves-of-reads.Asked,
-  leaves-of-reads.Learnt,
-  short-rule-4-fits-reads.Asked,
-  short-rule-4-fits-reads.Learnt,
-  write-short-rule-4-reads.Asked,
-  write-short-rule-4-reads.Learnt,
-  division-fits-reads.Asked,
-  division-fits-reads.Learnt,
-  translate-division-below t,
-  translate-division.Post,
-  no-list-reads.Asked,
-  no-list-reads.Learnt,
-  with-columns-reads.Asked,
-  with-columns-reads.Learnt,
-  translate-inside-below t,
-  translate-inside.Post,
-  subtract-reads.Asked,
-  subtract-reads.Learnt,
-  project-reads.Asked,
-  project-reads.Learnt,
-) (translate-every-at t) translate-every.Post
+translate-every-returns-3 : (t : ℕ) → translate-every-lts.Need-returns-3 (translate-every-calls t) (translate-every-at t) translate-every.Post
 translate-every-returns-3 t c = let s = c .before .before .before .before .before .before .before .before .before .before .before .before .before .before .before .before .before .before .before .before .before .before .before .before .before .before .before .before .before .before in
     let found = c .before .before .before .before .before .before .before .before .before .before .before .before .before .before .before .before .before .before .before .before .before .before .leaves-of .ensures in
     let listed = columns-listed (s .pre .1 .2 .fits) (c .before .before .before .before .before .before .before .before .before .before .before .before .before .before .before .before .before .no-list .ensures) (c .before .before .before .before .before .before .before .before .before .before .before .before .before .before .before .before .with-columns .ensures) in
@@ -1439,15 +715,7 @@ translate-inside-sub-product t c = search needs
 translate-inside-product-requires : (t : ℕ) → translate-inside-lts.Need-product-requires (translate-inside-calls t) (translate-inside-at t) translate-inside.Post
 translate-inside-product-requires t c κs = room-less 1 (c .before .before .before .before .before .pre .1 .1 .room) (omega arith)
 
-translate-inside-translate-condition-requires :
-    (t : ℕ) → translate-inside-lts.Need-translate-condition-requires (
-      extend-reads.Asked,
-      extend-reads.Learnt,
-      product-reads.Asked,
-      product-reads.Learnt,
-      translate-condition-below t,
-      translate-condition.Post,
-    ) (translate-inside-at t) translate-inside.Post
+translate-inside-translate-condition-requires : (t : ℕ) → translate-inside-lts.Need-translate-condition-requires (translate-inside-calls t) (translate-inside-at t) translate-inside.Post
 translate-inside-translate-condition-requires t c κs = let s = c .before .before .before .before .before .before .before .before .before in
     let e = inside-restricts (s .args .words .now) (s .args .condition) (s .pre .1 .1) in
     (omega (arith, s .pre .0), (s .pre .1 .0 .1, inside-condition-ready (s .pre .1 .1) e (c .before .before .before .before .before .extend .ensures) (c .before .before .before .product .ensures)))
@@ -1485,58 +753,22 @@ translate-opposite-decode-requires t c κs = omega (arith, c .before .before .be
 translate-opposite-enum-known-node : (t : ℕ) → translate-opposite-lts.Need-enum-known-node (translate-opposite-calls t) (translate-opposite-at t) translate-opposite.Post
 translate-opposite-enum-known-node t c = c .match .keys1
 
-translate-opposite-translate-range-requires :
-    (t : ℕ) → translate-opposite-lts.Need-translate-range-requires (
-      decode-reads.Asked,
-      decode-reads.Learnt,
-      translate-range-below t,
-      translate-range.Post,
-      leaves-of-reads.Asked,
-      leaves-of-reads.Learnt,
-      write-short-rule-3-reads.Asked,
-      write-short-rule-3-reads.Learnt,
-      write-short-rule-6-reads.Asked,
-      write-short-rule-6-reads.Learnt,
-    ) (translate-opposite-at t) translate-opposite.Post
+translate-opposite-translate-range-requires : (t : ℕ) → translate-opposite-lts.Need-translate-range-requires (translate-opposite-calls t) (translate-opposite-at t) translate-opposite.Post
 translate-opposite-translate-range-requires t c κs = let b = translate-opposite-some t (c .before) in
-    (omega (arith, c .before .before .before .before .before .before .before .before .pre .0, b .parts .0 .1), (b .parts .0 .0, some-range (b .ready)))
+    (omega (arith, c .before .before .before .before .before .before .before .before .pre .0, b .parts .0 .1), (b .parts .0 .0, range-ready (some-ready (b .ready))))
 
 translate-opposite-leaves-of-requires : (t : ℕ) → translate-opposite-lts.Need-leaves-of-requires (translate-opposite-calls t) (translate-opposite-at t) translate-opposite.Post
-translate-opposite-leaves-of-requires t c κs = let words = c .before .before .before .before .before .before .before .before .before .before .before .args .words .now in
-    collectable-below words (translate-opposite-some t (c .before .before .before .before) .parts .1 .0) (some-nodes-below (translate-opposite-some-reads t (c .before .before .before .before)) (few-below (c .before .before .before .before .before .before .before .before .before .before .before .pre .1 .1)))
+translate-opposite-leaves-of-requires t c κs = let b = translate-opposite-some t (c .before .before .before .before) in
+    collectable (c .before .before .before .before .before .before .before .before .before .before .before .args .words .now) _ (b .parts .1 .0) (few-nodes (some-ready (b .ready)))
 
-translate-opposite-write-short-rule-3-requires :
-    (t : ℕ) → translate-opposite-lts.Need-write-short-rule-3-requires (
-      decode-reads.Asked,
-      decode-reads.Learnt,
-      translate-range-below t,
-      translate-range.Post,
-      leaves-of-reads.Asked,
-      leaves-of-reads.Learnt,
-      write-short-rule-3-reads.Asked,
-      write-short-rule-3-reads.Learnt,
-      write-short-rule-6-reads.Asked,
-      write-short-rule-6-reads.Learnt,
-    ) (translate-opposite-at t) translate-opposite.Post
-translate-opposite-write-short-rule-3-requires t c κs = let l = c .before .leaves-of .ensures in
-    (some-rule (translate-opposite-some t (c .before .before .before .before .before .before) .ready) (c .before .before .before .before .translate-range .ensures) l, few-compared (c .before .before .before .before .before .before .before .node .given .0 .0) l (sym (some-opposite (translate-opposite-some-reads t (c .before .before .before .before .before .before))) ∙ c .before .before .before .before .before .before .before .before .before .before .before .before .before .pre .1 .2))
+translate-opposite-write-short-rule-3-requires : (t : ℕ) → translate-opposite-lts.Need-write-short-rule-3-requires (translate-opposite-calls t) (translate-opposite-at t) translate-opposite.Post
+translate-opposite-write-short-rule-3-requires t c κs =
+    rule-2-ready (some-ready (translate-opposite-some t (c .before .before .before .before .before .before) .ready)) (c .before .before .before .before .translate-range .ensures) (c .before .leaves-of .ensures) (sym (some-opposite (translate-opposite-some-reads t (c .before .before .before .before .before .before))) ∙ c .before .before .before .before .before .before .before .before .before .before .before .before .before .pre .1 .2)
 
 translate-opposite-enum-known-node-2 : (t : ℕ) → translate-opposite-lts.Need-enum-known-node-2 (translate-opposite-calls t) (translate-opposite-at t) translate-opposite.Post
 translate-opposite-enum-known-node-2 t c = c .match .keys2
 
-translate-opposite-write-short-rule-6-requires :
-    (t : ℕ) → translate-opposite-lts.Need-write-short-rule-6-requires (
-      decode-reads.Asked,
-      decode-reads.Learnt,
-      translate-range-below t,
-      translate-range.Post,
-      leaves-of-reads.Asked,
-      leaves-of-reads.Learnt,
-      write-short-rule-3-reads.Asked,
-      write-short-rule-3-reads.Learnt,
-      write-short-rule-6-reads.Asked,
-      write-short-rule-6-reads.Learnt,
-    ) (translate-opposite-at t) translate-opposite.Post
+translate-opposite-write-short-rule-6-requires : (t : ℕ) → translate-opposite-lts.Need-write-short-rule-6-requires (translate-opposite-calls t) (translate-opposite-at t) translate-opposite.Post
 translate-opposite-write-short-rule-6-requires t c κs = let s = c .before .before .before .before .before .before .before .before in
     let b = atom-step (s .pre .1 .0) (ready-at (s .args .words .now) (s .args .reference) (s .pre .1 .1)) (translate-opposite-atom-node t (c .before)) in
     (s .pre .1 .1 .fits, b .narrow, b .room)
@@ -1546,15 +778,14 @@ translate-opposite-same-length t c = search needs
 
 translate-opposite-returns : (t : ℕ) → translate-opposite-lts.Need-returns (translate-opposite-calls t) (translate-opposite-at t) translate-opposite.Post
 translate-opposite-returns t c = let s = c .before .before .before .before .before .before .before .before .before .before .before .before .before .before .before .before in
-    let words = s .args .words .now in
-    some-opposite-written (s .args .catalogue .now) (s .args .short) (scopeOf (s .args .scope)) (s .args .p) (c .before .before .before .before .before .before .before .before .before .before .node .given .0 .0) (rangeAt words (c .before .before .before .before .before .before .before .before .before .before .node .given .0 .1 .0)) (conditionAt words (c .before .before .before .before .before .before .before .before .before .before .node .given .0 .1 .1 .0)) (translate-opposite-some-reads t (c .before .before .before .before .before .before .before .before .before)) (c .before .before .before .before .before .before .before .translate-range .ensures) (c .before .before .before .before .leaves-of .ensures) (c .before .before .write-short-rule-3 .ensures)
+    some-by-rule-3 (c .before .before .before .before .before .before .before .translate-range .ensures) (c .before .before .before .before .leaves-of .ensures) (c .before .before .before .before .before .before .before .before .before .before .node .given .0 .0) (scopeOf (s .args .scope)) (s .args .p) (translate-opposite-some-reads t (c .before .before .before .before .before .before .before .before .before)) (c .before .before .write-short-rule-3 .ensures)
 
 translate-opposite-same-length-2 : (t : ℕ) → translate-opposite-lts.Need-same-length-2 (translate-opposite-calls t) (translate-opposite-at t) translate-opposite.Post
 translate-opposite-same-length-2 t c = search needs
 
 translate-opposite-returns-2 : (t : ℕ) → translate-opposite-lts.Need-returns-2 (translate-opposite-calls t) (translate-opposite-at t) translate-opposite.Post
 translate-opposite-returns-2 t c = let s = c .before .before .before .before .before .before .before .before .before .before .before in
-    atom-opposite-written (s .args .catalogue .now) (s .args .short) (scopeOf (s .args .scope)) (s .args .p) (atomOf (c .before .before .before .before .before .node2 .given .0 .0)) (condition-is (s .args .words .now) (s .args .reference) _ (s .pre .1 .0 .0) (translate-opposite-atom-node t (c .before .before .before .before))) (c .before .before .write-short-rule-6 .ensures)
+    atom-opposite-written (columnsOf (s .args .catalogue .now)) (s .args .short) (scopeOf (s .args .scope)) (s .args .p) (atomOf (c .before .before .before .before .before .node2 .given .0 .0)) (condition-is (s .args .words .now) (s .args .reference) _ (s .pre .1 .0 .0) (translate-opposite-atom-node t (c .before .before .before .before))) (c .before .before .write-short-rule-6 .ensures)
 
 translate-opposite-returns-3 : (t : ℕ) → translate-opposite-lts.Need-returns-3 (translate-opposite-calls t) (translate-opposite-at t) translate-opposite.Post
 translate-opposite-returns-3 t c = let s = c .before .before .before .before .before in
@@ -1586,86 +817,22 @@ translate-range-decode-requires t c κs = omega (arith, c .before .before .befor
 translate-range-enum-known-node : (t : ℕ) → translate-range-lts.Need-enum-known-node (translate-range-calls t) (translate-range-at t) translate-range.Post
 translate-range-enum-known-node t c = c .match .keys1
 
-translate-range-translate-table-requires :
-    (t : ℕ) → translate-range-lts.Need-translate-table-requires (
-      decode-reads.Asked,
-      decode-reads.Learnt,
-      translate-table-reads.Asked,
-      translate-table-reads.Learnt,
-      translate-alpha-below t,
-      translate-alpha.Post,
-      translate-range-below t,
-      translate-range.Post,
-      unite-reads.Asked,
-      unite-reads.Learnt,
-      intersect-reads.Asked,
-      intersect-reads.Learnt,
-      subtract-reads.Asked,
-      subtract-reads.Learnt,
-    ) (translate-range-at t) translate-range.Post
+translate-range-translate-table-requires : (t : ℕ) → translate-range-lts.Need-translate-table-requires (translate-range-calls t) (translate-range-at t) translate-range.Post
 translate-range-translate-table-requires t c κs = room-one (c .before .before .before .before .before .before .before .before .pre .1 .1)
 
 translate-range-enum-known-node-2 : (t : ℕ) → translate-range-lts.Need-enum-known-node-2 (translate-range-calls t) (translate-range-at t) translate-range.Post
 translate-range-enum-known-node-2 t c = c .match .keys2
 
-translate-range-translate-alpha-requires :
-    (t : ℕ) → translate-range-lts.Need-translate-alpha-requires (
-      decode-reads.Asked,
-      decode-reads.Learnt,
-      translate-table-reads.Asked,
-      translate-table-reads.Learnt,
-      translate-alpha-below t,
-      translate-alpha.Post,
-      translate-range-below t,
-      translate-range.Post,
-      unite-reads.Asked,
-      unite-reads.Learnt,
-      intersect-reads.Asked,
-      intersect-reads.Learnt,
-      subtract-reads.Asked,
-      subtract-reads.Learnt,
-    ) (translate-range-at t) translate-range.Post
+translate-range-translate-alpha-requires : (t : ℕ) → translate-range-lts.Need-translate-alpha-requires (translate-range-calls t) (translate-range-at t) translate-range.Post
 translate-range-translate-alpha-requires t c κs = call-alpha _ _ (sym (c .before .before .node2 .given .1) ∙ c .before .before .before .before .decode .ensures) (c .before .before .before .before .before .before .before .before .pre)
 
 translate-range-enum-known-node-3 : (t : ℕ) → translate-range-lts.Need-enum-known-node-3 (translate-range-calls t) (translate-range-at t) translate-range.Post
 translate-range-enum-known-node-3 t c = c .match .keys3
 
-translate-range-translate-range-requires :
-    (t : ℕ) → translate-range-lts.Need-translate-range-requires (
-      decode-reads.Asked,
-      decode-reads.Learnt,
-      translate-table-reads.Asked,
-      translate-table-reads.Learnt,
-      translate-alpha-below t,
-      translate-alpha.Post,
-      translate-range-below t,
-      translate-range.Post,
-      unite-reads.Asked,
-      unite-reads.Learnt,
-      intersect-reads.Asked,
-      intersect-reads.Learnt,
-      subtract-reads.Asked,
-      subtract-reads.Learnt,
-    ) (translate-range-at t) translate-range.Post
+translate-range-translate-range-requires : (t : ℕ) → translate-range-lts.Need-translate-range-requires (translate-range-calls t) (translate-range-at t) translate-range.Post
 translate-range-translate-range-requires t c κs = call-left (range-or-at t (c .before .before)) (c .before .before .before .before .before .before .before .before .pre)
 
-translate-range-translate-range-requires-2 :
-    (t : ℕ) → translate-range-lts.Need-translate-range-requires-2 (
-      decode-reads.Asked,
-      decode-reads.Learnt,
-      translate-table-reads.Asked,
-      translate-table-reads.Learnt,
-      translate-alpha-below t,
-      translate-alpha.Post,
-      translate-range-below t,
-      translate-range.Post,
-      unite-reads.Asked,
-      unite-reads.Learnt,
-      intersect-reads.Asked,
-      intersect-reads.Learnt,
-      subtract-reads.Asked,
-      subtract-reads.Learnt,
-    ) (translate-range-at t) translate-range.Post
+translate-range-translate-range-requires-2 : (t : ℕ) → translate-range-lts.Need-translate-range-requires-2 (translate-range-calls t) (translate-range-at t) translate-range.Post
 translate-range-translate-range-requires-2 t c κs = call-right (range-or-at t (c .before .before .before .before .before .before)) (c .before .before .before .before .before .before .before .before .before .before .before .before .pre) (c .before .before .before .translate-range .ensures)
 
 translate-range-sub-unite : (t : ℕ) → translate-range-lts.Need-sub-unite (translate-range-calls t) (translate-range-at t) translate-range.Post
@@ -1680,42 +847,10 @@ translate-range-unite-requires t c κs = room-last (range-or-at t (c .before .be
 translate-range-enum-known-node-4 : (t : ℕ) → translate-range-lts.Need-enum-known-node-4 (translate-range-calls t) (translate-range-at t) translate-range.Post
 translate-range-enum-known-node-4 t c = c .match .keys4
 
-translate-range-translate-range-requires-3 :
-    (t : ℕ) → translate-range-lts.Need-translate-range-requires-3 (
-      decode-reads.Asked,
-      decode-reads.Learnt,
-      translate-table-reads.Asked,
-      translate-table-reads.Learnt,
-      translate-alpha-below t,
-      translate-alpha.Post,
-      translate-range-below t,
-      translate-range.Post,
-      unite-reads.Asked,
-      unite-reads.Learnt,
-      intersect-reads.Asked,
-      intersect-reads.Learnt,
-      subtract-reads.Asked,
-      subtract-reads.Learnt,
-    ) (translate-range-at t) translate-range.Post
+translate-range-translate-range-requires-3 : (t : ℕ) → translate-range-lts.Need-translate-range-requires-3 (translate-range-calls t) (translate-range-at t) translate-range.Post
 translate-range-translate-range-requires-3 t c κs = call-left (range-and-at t (c .before .before)) (c .before .before .before .before .before .before .before .before .pre)
 
-translate-range-translate-range-requires-4 :
-    (t : ℕ) → translate-range-lts.Need-translate-range-requires-4 (
-      decode-reads.Asked,
-      decode-reads.Learnt,
-      translate-table-reads.Asked,
-      translate-table-reads.Learnt,
-      translate-alpha-below t,
-      translate-alpha.Post,
-      translate-range-below t,
-      translate-range.Post,
-      unite-reads.Asked,
-      unite-reads.Learnt,
-      intersect-reads.Asked,
-      intersect-reads.Learnt,
-      subtract-reads.Asked,
-      subtract-reads.Learnt,
-    ) (translate-range-at t) translate-range.Post
+translate-range-translate-range-requires-4 : (t : ℕ) → translate-range-lts.Need-translate-range-requires-4 (translate-range-calls t) (translate-range-at t) translate-range.Post
 translate-range-translate-range-requires-4 t c κs = call-right (range-and-at t (c .before .before .before .before .before .before)) (c .before .before .before .before .before .before .before .before .before .before .before .before .pre) (c .before .before .before .translate-range3 .ensures)
 
 translate-range-sub-intersect : (t : ℕ) → translate-range-lts.Need-sub-intersect (translate-range-calls t) (translate-range-at t) translate-range.Post
@@ -1730,42 +865,10 @@ translate-range-intersect-requires t c κs = room-last (range-and-at t (c .befor
 translate-range-enum-known-node-5 : (t : ℕ) → translate-range-lts.Need-enum-known-node-5 (translate-range-calls t) (translate-range-at t) translate-range.Post
 translate-range-enum-known-node-5 t c = c .match .keys5
 
-translate-range-translate-range-requires-5 :
-    (t : ℕ) → translate-range-lts.Need-translate-range-requires-5 (
-      decode-reads.Asked,
-      decode-reads.Learnt,
-      translate-table-reads.Asked,
-      translate-table-reads.Learnt,
-      translate-alpha-below t,
-      translate-alpha.Post,
-      translate-range-below t,
-      translate-range.Post,
-      unite-reads.Asked,
-      unite-reads.Learnt,
-      intersect-reads.Asked,
-      intersect-reads.Learnt,
-      subtract-reads.Asked,
-      subtract-reads.Learnt,
-    ) (translate-range-at t) translate-range.Post
+translate-range-translate-range-requires-5 : (t : ℕ) → translate-range-lts.Need-translate-range-requires-5 (translate-range-calls t) (translate-range-at t) translate-range.Post
 translate-range-translate-range-requires-5 t c κs = call-left (range-and-not-at t (c .before .before)) (c .before .before .before .before .before .before .before .before .pre)
 
-translate-range-translate-range-requires-6 :
-    (t : ℕ) → translate-range-lts.Need-translate-range-requires-6 (
-      decode-reads.Asked,
-      decode-reads.Learnt,
-      translate-table-reads.Asked,
-      translate-table-reads.Learnt,
-      translate-alpha-below t,
-      translate-alpha.Post,
-      translate-range-below t,
-      translate-range.Post,
-      unite-reads.Asked,
-      unite-reads.Learnt,
-      intersect-reads.Asked,
-      intersect-reads.Learnt,
-      subtract-reads.Asked,
-      subtract-reads.Learnt,
-    ) (translate-range-at t) translate-range.Post
+translate-range-translate-range-requires-6 : (t : ℕ) → translate-range-lts.Need-translate-range-requires-6 (translate-range-calls t) (translate-range-at t) translate-range.Post
 translate-range-translate-range-requires-6 t c κs = call-right (range-and-not-at t (c .before .before .before .before .before .before)) (c .before .before .before .before .before .before .before .before .before .before .before .before .pre) (c .before .before .before .translate-range5 .ensures)
 
 translate-range-sub-subtract : (t : ℕ) → translate-range-lts.Need-sub-subtract (translate-range-calls t) (translate-range-at t) translate-range.Post
@@ -1777,23 +880,7 @@ translate-range-sub-subtract-2 t c = omega (arith, c .before .before .before .be
 translate-range-subtract-requires : (t : ℕ) → translate-range-lts.Need-subtract-requires (translate-range-calls t) (translate-range-at t) translate-range.Post
 translate-range-subtract-requires t c κs = room-last (range-and-not-at t (c .before .before .before .before .before .before .before .before .before .before .before .before)) (c .before .before .before .before .before .before .before .before .before .before .before .before .before .before .before .before .before .before .pre) (c .before .before .before .before .before .before .before .before .before .translate-range5 .ensures) (c .before .before .before .before .before .translate-range6 .ensures)
 
-translate-range-translate-table-requires-2 :
-    (t : ℕ) → translate-range-lts.Need-translate-table-requires-2 (
-      decode-reads.Asked,
-      decode-reads.Learnt,
-      translate-table-reads.Asked,
-      translate-table-reads.Learnt,
-      translate-alpha-below t,
-      translate-alpha.Post,
-      translate-range-below t,
-      translate-range.Post,
-      unite-reads.Asked,
-      unite-reads.Learnt,
-      intersect-reads.Asked,
-      intersect-reads.Learnt,
-      subtract-reads.Asked,
-      subtract-reads.Learnt,
-    ) (translate-range-at t) translate-range.Post
+translate-range-translate-table-requires-2 : (t : ℕ) → translate-range-lts.Need-translate-table-requires-2 (translate-range-calls t) (translate-range-at t) translate-range.Post
 translate-range-translate-table-requires-2 t c κs = room-one (c .before .before .before .before .before .before .pre .1 .1)
 
 translate-range-same-length : (t : ℕ) → translate-range-lts.Need-same-length (translate-range-calls t) (translate-range-at t) translate-range.Post
@@ -1832,208 +919,51 @@ translate-range-same-length-6 t c = c .before .before .translate-table2 .kept .1
 translate-range-returns-6 : (t : ℕ) → translate-range-lts.Need-returns-6 (translate-range-calls t) (translate-range-at t) translate-range.Post
 translate-range-returns-6 t c = done-as (range-is (c .before .before .before .before .before .before .before .before .before .args .words .now) (c .before .before .before .before .before .before .before .before .before .args .reference) (c .before .before .before .before .before .decode .result) (c .before .before .before .before .before .before .before .before .before .pre .1 .0 .0) (c .before .before .before .before .before .decode .ensures) ∙ no-range (c .before .before .before .before .before .decode .result) _ _ _ (c .before .before .before .before .match .keys6)) (c .before .before .translate-table2 .ensures)
 
-translate-some-translate-range-requires :
-    (t : ℕ) → translate-some-lts.Need-translate-range-requires (translate-some-calls t) (translate-some-at t) translate-some.Post
+translate-some-translate-range-requires : (t : ℕ) → translate-some-lts.Need-translate-range-requires (translate-some-calls t) (translate-some-at t) translate-some.Post
 translate-some-translate-range-requires t c κs = let s = c .before .before .before .before in
     (omega (arith, s .pre .0), (s .pre .1 .0, range-ready (some-ready (s .pre .1 .2))))
 
-translate-some-leaves-of-requires : (t : ℕ) → translate-some-lts.Need-leaves-of-requires (
-  translate-range-below t,
-  translate-range.Post,
-  leaves-of-reads.Asked,
-  leaves-of-reads.Learnt,
-  short-rule-2-fits-reads.Asked,
-  short-rule-2-fits-reads.Learnt,
-  write-short-rule-2-reads.Asked,
-  write-short-rule-2-reads.Learnt,
-  no-list-reads.Asked,
-  no-list-reads.Learnt,
-  with-columns-reads.Asked,
-  with-columns-reads.Learnt,
-  translate-inside-below t,
-  translate-inside.Post,
-  project-reads.Asked,
-  project-reads.Learnt,
-) (translate-some-at t) translate-some.Post
+translate-some-leaves-of-requires : (t : ℕ) → translate-some-lts.Need-leaves-of-requires (translate-some-calls t) (translate-some-at t) translate-some.Post
 translate-some-leaves-of-requires t c κs = let s = c .before .before .before .before .before .before .before in
     collectable (s .args .words .now) (s .args .condition) (s .pre .1 .1) (few-nodes (some-ready (s .pre .1 .2)))
 
-translate-some-short-rule-2-fits-requires :
-    (t : ℕ) → translate-some-lts.Need-short-rule-2-fits-requires (translate-some-calls t) (translate-some-at t) translate-some.Post
+translate-some-short-rule-2-fits-requires : (t : ℕ) → translate-some-lts.Need-short-rule-2-fits-requires (translate-some-calls t) (translate-some-at t) translate-some.Post
 translate-some-short-rule-2-fits-requires t c κs = c .leaves-of .ensures .fits
 
-translate-some-write-short-rule-2-requires :
-    (t : ℕ) → translate-some-lts.Need-write-short-rule-2-requires (translate-some-calls t) (translate-some-at t) translate-some.Post
+translate-some-write-short-rule-2-requires : (t : ℕ) → translate-some-lts.Need-write-short-rule-2-requires (translate-some-calls t) (translate-some-at t) translate-some.Post
 translate-some-write-short-rule-2-requires t c κs = let s = c .before .before .before .before .before .before .before .before .before .before .before in
     let found = c .before .before .before .leaves-of .ensures in
-    rule-2-ready (some-ready (s .pre .1 .2)) (c .before .before .before .before .before .before .translate-range .ensures) found (rule-test found (s .args .x) (s .args .short) (found .and-tree) (c .before .before .short-rule-2-fits .ensures) (c .before .if1 .taken))
+    rule-2-ready (some-ready (s .pre .1 .2)) (c .before .before .before .before .before .before .translate-range .ensures) found (and-right (s .args .short) _ (rule-test found (s .args .x) (s .args .short) (found .and-tree) (c .before .before .short-rule-2-fits .ensures) (c .before .if1 .taken)))
 
-translate-some-same-length : (t : ℕ) → translate-some-lts.Need-same-length (
-  translate-range-below t,
-  translate-range.Post,
-  leaves-of-reads.Asked,
-  leaves-of-reads.Learnt,
-  short-rule-2-fits-reads.Asked,
-  short-rule-2-fits-reads.Learnt,
-  write-short-rule-2-reads.Asked,
-  write-short-rule-2-reads.Learnt,
-  no-list-reads.Asked,
-  no-list-reads.Learnt,
-  with-columns-reads.Asked,
-  with-columns-reads.Learnt,
-  translate-inside-below t,
-  translate-inside.Post,
-  project-reads.Asked,
-  project-reads.Learnt,
-) (translate-some-at t) translate-some.Post
+translate-some-same-length : (t : ℕ) → translate-some-lts.Need-same-length (translate-some-calls t) (translate-some-at t) translate-some.Post
 translate-some-same-length t c = search needs
 
-translate-some-returns : (t : ℕ) → translate-some-lts.Need-returns (
-  translate-range-below t,
-  translate-range.Post,
-  leaves-of-reads.Asked,
-  leaves-of-reads.Learnt,
-  short-rule-2-fits-reads.Asked,
-  short-rule-2-fits-reads.Learnt,
-  write-short-rule-2-reads.Asked,
-  write-short-rule-2-reads.Learnt,
-  no-list-reads.Asked,
-  no-list-reads.Learnt,
-  with-columns-reads.Asked,
-  with-columns-reads.Learnt,
-  translate-inside-below t,
-  translate-inside.Post,
-  project-reads.Asked,
-  project-reads.Learnt,
-) (translate-some-at t) translate-some.Post
+translate-some-returns : (t : ℕ) → translate-some-lts.Need-returns (translate-some-calls t) (translate-some-at t) translate-some.Post
 translate-some-returns t c = let s = c .before .before .before .before .before .before .before .before .before .before .before .before .before .before in
     let found = c .before .before .before .before .before .before .leaves-of .ensures in
     some-by-rule-2 (c .before .before .before .before .before .before .before .before .before .translate-range .ensures) found (s .args .x) (scopeOf (s .args .scope)) (s .args .p) (rule-test found (s .args .x) (s .args .short) (found .and-tree) (c .before .before .before .before .before .short-rule-2-fits .ensures) (c .before .before .before .before .if1 .taken)) (c .before .before .write-short-rule-2 .ensures)
 
-translate-some-no-list-requires : (t : ℕ) → translate-some-lts.Need-no-list-requires (
-  translate-range-below t,
-  translate-range.Post,
-  leaves-of-reads.Asked,
-  leaves-of-reads.Learnt,
-  short-rule-2-fits-reads.Asked,
-  short-rule-2-fits-reads.Learnt,
-  write-short-rule-2-reads.Asked,
-  write-short-rule-2-reads.Learnt,
-  no-list-reads.Asked,
-  no-list-reads.Learnt,
-  with-columns-reads.Asked,
-  with-columns-reads.Learnt,
-  translate-inside-below t,
-  translate-inside.Post,
-  project-reads.Asked,
-  project-reads.Learnt,
-) (translate-some-at t) translate-some.Post
+translate-some-no-list-requires : (t : ℕ) → translate-some-lts.Need-no-list-requires (translate-some-calls t) (translate-some-at t) translate-some.Post
 translate-some-no-list-requires t c κs = tt
 
-translate-some-with-columns-requires : (t : ℕ) → translate-some-lts.Need-with-columns-requires (
-  translate-range-below t,
-  translate-range.Post,
-  leaves-of-reads.Asked,
-  leaves-of-reads.Learnt,
-  short-rule-2-fits-reads.Asked,
-  short-rule-2-fits-reads.Learnt,
-  write-short-rule-2-reads.Asked,
-  write-short-rule-2-reads.Learnt,
-  no-list-reads.Asked,
-  no-list-reads.Learnt,
-  with-columns-reads.Asked,
-  with-columns-reads.Learnt,
-  translate-inside-below t,
-  translate-inside.Post,
-  project-reads.Asked,
-  project-reads.Learnt,
-) (translate-some-at t) translate-some.Post
+translate-some-with-columns-requires : (t : ℕ) → translate-some-lts.Need-with-columns-requires (translate-some-calls t) (translate-some-at t) translate-some.Post
 translate-some-with-columns-requires t c κs = columns-room (c .before .before .before .before .before .before .before .before .before .before .before .pre .1 .2 .fits) (c .no-list .ensures)
 
-translate-some-translate-inside-requires :
-    (t : ℕ) → translate-some-lts.Need-translate-inside-requires (translate-some-calls t) (translate-some-at t) translate-some.Post
+translate-some-translate-inside-requires : (t : ℕ) → translate-some-lts.Need-translate-inside-requires (translate-some-calls t) (translate-some-at t) translate-some.Post
 translate-some-translate-inside-requires t c κs = let s = c .before .before .before .before .before .before .before .before .before .before .before .before .before in
     (omega (arith, s .pre .0), (s .pre .1 .1, inside-ready (some-ready (s .pre .1 .2)) (c .before .before .before .before .before .before .before .before .translate-range .ensures)))
 
-translate-some-sub-project : (t : ℕ) → translate-some-lts.Need-sub-project (
-  translate-range-below t,
-  translate-range.Post,
-  leaves-of-reads.Asked,
-  leaves-of-reads.Learnt,
-  short-rule-2-fits-reads.Asked,
-  short-rule-2-fits-reads.Learnt,
-  write-short-rule-2-reads.Asked,
-  write-short-rule-2-reads.Learnt,
-  no-list-reads.Asked,
-  no-list-reads.Learnt,
-  with-columns-reads.Asked,
-  with-columns-reads.Learnt,
-  translate-inside-below t,
-  translate-inside.Post,
-  project-reads.Asked,
-  project-reads.Learnt,
-) (translate-some-at t) translate-some.Post
+translate-some-sub-project : (t : ℕ) → translate-some-lts.Need-sub-project (translate-some-calls t) (translate-some-at t) translate-some.Post
 translate-some-sub-project t c = omega (arith, c .before .before .before .translate-inside .ensures .counted)
 
-translate-some-project-requires : (t : ℕ) → translate-some-lts.Need-project-requires (
-  translate-range-below t,
-  translate-range.Post,
-  leaves-of-reads.Asked,
-  leaves-of-reads.Learnt,
-  short-rule-2-fits-reads.Asked,
-  short-rule-2-fits-reads.Learnt,
-  write-short-rule-2-reads.Asked,
-  write-short-rule-2-reads.Learnt,
-  no-list-reads.Asked,
-  no-list-reads.Learnt,
-  with-columns-reads.Asked,
-  with-columns-reads.Learnt,
-  translate-inside-below t,
-  translate-inside.Post,
-  project-reads.Asked,
-  project-reads.Learnt,
-) (translate-some-at t) translate-some.Post
+translate-some-project-requires : (t : ℕ) → translate-some-lts.Need-project-requires (translate-some-calls t) (translate-some-at t) translate-some.Post
 translate-some-project-requires t c κs = let s = c .before .before .before .before .before .before .before .before .before .before .before .before .before .before .before .before .before in
     room-less 1 (room-plain (some-ready (s .pre .1 .2)) (c .before .before .before .before .before .before .before .before .before .before .before .before .translate-range .ensures) (s .args .p) (c .before .before .before .translate-inside .ensures)) (omega arith)
 
-translate-some-same-length-2 : (t : ℕ) → translate-some-lts.Need-same-length-2 (
-  translate-range-below t,
-  translate-range.Post,
-  leaves-of-reads.Asked,
-  leaves-of-reads.Learnt,
-  short-rule-2-fits-reads.Asked,
-  short-rule-2-fits-reads.Learnt,
-  write-short-rule-2-reads.Asked,
-  write-short-rule-2-reads.Learnt,
-  no-list-reads.Asked,
-  no-list-reads.Learnt,
-  with-columns-reads.Asked,
-  with-columns-reads.Learnt,
-  translate-inside-below t,
-  translate-inside.Post,
-  project-reads.Asked,
-  project-reads.Learnt,
-) (translate-some-at t) translate-some.Post
+translate-some-same-length-2 : (t : ℕ) → translate-some-lts.Need-same-length-2 (translate-some-calls t) (translate-some-at t) translate-some.Post
 translate-some-same-length-2 t c = search needs
 
-translate-some-returns-2 : (t : ℕ) → translate-some-lts.Need-returns-2 (
-  translate-range-below t,
-  translate-range.Post,
-  leaves-of-reads.Asked,
-  leaves-of-reads.Learnt,
-  short-rule-2-fits-reads.Asked,
-  short-rule-2-fits-reads.Learnt,
-  write-short-rule-2-reads.Asked,
-  write-short-rule-2-reads.Learnt,
-  no-list-reads.Asked,
-  no-list-reads.Learnt,
-  with-columns-reads.Asked,
-  with-columns-reads.Learnt,
-  translate-inside-below t,
-  translate-inside.Post,
-  project-reads.Asked,
-  project-reads.Learnt,
-) (translate-some-at t) translate-some.Post
+translate-some-returns-2 : (t : ℕ) → translate-some-lts.Need-returns-2 (translate-some-calls t) (translate-some-at t) translate-some.Post
 translate-some-returns-2 t c = let s = c .before .before .before .before .before .before .before .before .before .before .before .before .before .before .before .before .before .before .before .before in
     let found = c .before .before .before .before .before .before .before .before .before .before .before .before .leaves-of .ensures in
     let listed = columns-listed (s .pre .1 .2 .fits) (c .before .before .before .before .before .before .before .before .before .no-list .ensures) (c .before .before .before .before .before .before .before .before .with-columns .ensures) in

@@ -1,6 +1,7 @@
 use Rattle.relations.specs.Columns.{Attribute}
 use lib.ListN.{length-map}
-use Rattle.translation.proofs.TargetLaws.{targets-next, no-targets}
+use Rattle.translation.proofs.TargetLaws.{targets-next}
+use Rattle.conditions.proofs.OtherNodes.{no-targets}
 use Rattle.conditions.proofs.Readings.{fits-in, named, targets-is, targets-none}
 use Rattle.emission.proofs.ListingLaws.{longer-then, longer-none}
 use Rattle.emission.specs.Listings.{Longer, numbersOf}
