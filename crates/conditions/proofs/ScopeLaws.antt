@@ -1,18 +1,15 @@
 -- The scope in arrays, one variable longer, and its first variable. Assumes nothing.
-use Prim.Native.Nat.{ℕ, suc, _+_, _-_, _≤_, _<_}
-use mathlib.Core.Path.{_≡_, refl, sym, ap, ap₂, _∙_}
-use mathlib.Core.Bool.{true, false, cond}
-use mathlib.Core.List.{List, [], _∷_, _++_}
+use Prim.Native.Nat.{ℕ, _+_, _-_, _≤_, _<_}
+use mathlib.Core.Path.{_≡_, refl, sym, ap, ap₂}
+use mathlib.Core.List.{[], _∷_, _++_}
 use native.Mathlib.Omega.{arith}
 use native.Mathlib.Nat.{zero-add}
 use native.Mathlib.Numerals.{add-one}
-use lib.Dec.{eqb}
 use lib.ListN.{length, getD, set}
 use lib.Seq.{getD-set-same, getD-set-other}
 use borrow.Author.Tests.{eq-eqb, ne-eqb}
 use Rattle.relations.specs.Limits.{columnLimit}
-use Rattle.calculus.specs.Scope as calculus
-use Rattle.calculus.specs.Scope.{ScopeEntry, entry, columnsIn, widthIn, columnNumber}
+use Rattle.calculus.specs.Scope.{entry, columnsIn, widthIn, columnNumber}
 use Rattle.calculus.proofs.ScopeLaws.{columns-extend}
 use Rattle.conditions.specs.Entries.{entries}
 use Rattle.conditions.specs.Scopes.{emptyScope, entryAt, scopeOf, ScopeFits, Extended}

@@ -1,5 +1,5 @@
 -- The scope that the code carries, and the scope of `calculus` that it stands for. Assumes nothing.
-use Prim.Native.Nat.{ℕ, _+_, _≤_}
+use Prim.Native.Nat.{ℕ, _≤_}
 use mathlib.Core.Path.{_≡_}
 use lib.ListN.{getD, replicate}
 use Rattle.relations.specs.Limits.{columnLimit}

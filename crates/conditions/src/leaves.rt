@@ -1,10 +1,8 @@
 // The leaves of a tree of "and"s or of "or"s, left to right, as the numbers of their nodes.
 ghost use mathlib.Core.Path.{_≡_};
 ghost use mathlib.Core.Bool.{false};
-ghost use Prim.Native.Nat.{_+_, _*_, _≤_, _<_};
-ghost use lib.ListN.{length};
-ghost use Rattle.relations.specs.Limits.{questionNodeLimit, questionNodeWords};
-ghost use Rattle.calculus.specs.Leaves as calculus;
+ghost use Prim.Native.Nat.{_+_, _<_};
+ghost use Rattle.relations.specs.Limits.{questionNodeLimit};
 ghost use Rattle.question.specs.Trees.{atomOf};
 ghost use Rattle.conditions.specs.Atoms.{AtomNarrow};
 ghost use Rattle.conditions.specs.Readings.{conditionAt};

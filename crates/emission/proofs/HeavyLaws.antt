@@ -1,17 +1,17 @@
 -- The heavy operations counted in a plan's words are those of its nodes. Assumes nothing.
-use Prim.Native.Nat.{ℕ, zero, suc, _+_, _*_, _-_, _≤_, _<_}
-use mathlib.Core.Path.{_≡_, refl, sym, ap, _∙_}
-use mathlib.Core.Bool.{Bool, true, false, cond, So, _&&_}
+use Prim.Native.Nat.{ℕ, zero, suc, _+_, _-_, _≤_, _<_}
+use mathlib.Core.Path.{_≡_, refl, ap, _∙_}
+use mathlib.Core.Bool.{Bool, true, false, cond, So}
 use mathlib.Core.List.{List, [], _∷_, _++_, append-assoc}
 use native.Mathlib.Omega.{arith}
 use lib.ListN.{length, getD, drop}
 use lib.Seq.{sets, sets-eq, drop-drop, drop-cons, drop-at}
 use Rattle.relations.specs.Limits.{planNodeWords}
-use Rattle.relations.specs.Lists.{All, flat, filter}
+use Rattle.relations.specs.Lists.{flat, filter}
 use Rattle.relations.specs.Nodes.{Node, load, project, selectConstant, selectAttribute, join, semijoin, antijoin, divide, unite, intersect, subtract}
 use Rattle.relations.specs.Plan.{widthOfNode, heavyNode, heavy}
 use Rattle.relations.specs.Legality.{legalNode, legalNodes}
-use Rattle.relations.specs.PlanWords.{nodeWords, countFits}
+use Rattle.relations.specs.PlanWords.{nodeWords}
 use Rattle.relations.proofs.BoolLaws.{and-left, and-right}
 use Rattle.relations.proofs.LegalityLaws.{legal-count}
 use Rattle.relations.proofs.PlanWordsBack.{words-size}

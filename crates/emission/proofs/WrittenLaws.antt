@@ -1,11 +1,11 @@
 -- Nodes written one behind another. Assumes nothing.
-use Prim.Native.Nat.{ℕ, zero, suc, pred, _+_, _*_, _/_, _≤_, _-_}
+use Prim.Native.Nat.{ℕ, zero, suc, pred, _+_, _*_, _≤_, _-_}
 use mathlib.Core.Path.{_≡_, refl, sym, ap, ap₂, subst, _∙_}
 use mathlib.Core.List.{List, [], _∷_, _++_, append-assoc, append-nil}
 use native.Mathlib.Omega.{arith}
 use lib.ListN.{length, length-append}
 use lib.Seq.{sets, length-sets}
-use Rattle.relations.specs.Limits.{planNodeLimit, planNodeWords}
+use Rattle.relations.specs.Limits.{planNodeWords}
 use Rattle.relations.specs.Lists.{flat}
 use Rattle.relations.specs.Nodes.{Node}
 use Rattle.relations.specs.PlanWords.{nodeWords}

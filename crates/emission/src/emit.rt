@@ -1,7 +1,7 @@
 // Plan nodes written at the end of a plan: each function writes node `n` and returns the number of nodes that there are then.
 ghost use mathlib.Core.Path.{_≡_};
 ghost use mathlib.Core.List.{List, [], _∷_};
-ghost use Prim.Native.Nat.{ℕ, _+_, _*_, _≤_, _<_};
+ghost use Prim.Native.Nat.{_+_, _*_, _<_};
 ghost use lib.Seq.{sets};
 ghost use Rattle.relations.specs.Limits.{planNodeWords};
 ghost use Rattle.relations.specs.Lists.{flat};

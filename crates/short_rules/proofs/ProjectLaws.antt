@@ -1,8 +1,8 @@
 -- S1: whether a list of attributes is all columns in order, compared one by one. Assumes nothing.
-use Prim.Native.Nat.{ℕ, zero, suc, _+_, _-_, _≤_, _<_}
+use Prim.Native.Nat.{ℕ, suc, _+_, _-_, _≤_, _<_}
 use mathlib.Core.Path.{_≡_, refl, sym, ap, ap₂, _∙_}
 use mathlib.Core.Bool.{true, false, _&&_, and-false}
-use mathlib.Core.List.{List, [], _∷_, _++_, map}
+use mathlib.Core.List.{List, [], _∷_}
 use native.Mathlib.Omega.{arith}
 use native.Mathlib.Numerals.{add-one}
 use lib.Dec.{eqb}
@@ -14,7 +14,7 @@ use Rattle.relations.specs.Columns.{Attribute, attribute}
 use Rattle.calculus.specs.Scope.{columnsFrom}
 use Rattle.calculus.specs.ShortRules.{sameAttributes, shortRule1Fits}
 use Rattle.calculus.proofs.ScopeLaws.{columns-length}
-use Rattle.emission.specs.Listings.{padded, listing, numbersOf}
+use Rattle.emission.specs.Listings.{listing, numbersOf}
 use Rattle.emission.specs.declared.listing.Listing.{Listing}
 
 different : (listed others : List Attribute) → (length listed ≡ length others → ⊥) → sameAttributes listed others ≡ false

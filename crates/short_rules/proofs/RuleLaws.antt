@@ -1,11 +1,10 @@
 -- The leaves passed one by one: tests of all, counts, and lists made from those that pass a test. Assumes nothing.
 use Rattle.calculus.proofs.SizeTheorem.{selects-size, projects-size}
-use Prim.Native.Nat.{ℕ, zero, suc, _+_, _*_, _-_, _≤_, _<_, pred}
-use mathlib.Core.Path.{_≡_, refl, sym, ap, ap₂, subst, _∙_}
-use mathlib.Core.Bool.{Bool, true, false, not, cond, _&&_, _||_, false≢true, and-assoc}
+use Prim.Native.Nat.{ℕ, suc, _+_, _*_, _-_, _≤_, _<_, pred}
+use mathlib.Core.Path.{_≡_, refl, sym, ap, ap₂, _∙_}
+use mathlib.Core.Bool.{Bool, true, false, not, cond, _&&_, false≢true, and-assoc}
 use mathlib.Core.List.{List, [], _∷_, _++_, map}
 use native.Mathlib.Omega.{arith}
-use native.Mathlib.Numerals.{add-one}
 use lib.Dec.{eqb}
 use lib.ListN.{length, length-map, length-append}
 use borrow.Author.Tests.{eq-eqb, ne-eqb}
@@ -14,14 +13,14 @@ use Rattle.relations.specs.Comparison.{Operator, operatorNumber, turned}
 use Rattle.relations.specs.PlanWords.{tripleWords, pairWords}
 use Rattle.relations.proofs.ListLaws.{length-flat}
 use Rattle.calculus.specs.Leaves.{aloneOn, comparesWithOther, ownAttribute, otherVariable, otherAttribute}
-use Rattle.calculus.specs.ShortRules.{lastNumber, selectNodes, shortRule1Fits, projectNodes, tripleOf, triplesOf, outsideTriples, divisionPairs, shortRule5Columns}
-use Rattle.relations.specs.Columns.{Attribute, attribute, Triple, Pair}
+use Rattle.calculus.specs.ShortRules.{lastNumber, selectNodes, projectNodes, tripleOf, triplesOf, outsideTriples, divisionPairs, shortRule5Columns}
+use Rattle.relations.specs.Columns.{Attribute, Triple, Pair}
 use Rattle.relations.specs.Lists.{all, filter, flat}
-use Rattle.relations.specs.Nodes.{Node, project, semijoin, antijoin, divide, unite}
+use Rattle.relations.specs.Nodes.{Node, semijoin, antijoin, divide, unite}
 use Rattle.calculus.specs.Question as calculus
-use Rattle.calculus.specs.Scope.{entry, Scope, columnNumber, columnsFrom}
+use Rattle.calculus.specs.Scope.{entry, Scope, columnNumber}
 use Rattle.conditions.specs.Entries.{entries}
-use Rattle.conditions.specs.Leaves.{leafAt, atomsOf}
+use Rattle.conditions.specs.Leaves.{leafAt}
 use Rattle.emission.specs.Listings.{numbersOf}
 use Rattle.emission.specs.Written.{Written}
 use Rattle.short_rules.specs.Rules.{selectsBehind, dividendBehind}

@@ -5,8 +5,6 @@ use mathlib.Core.Bool.{Bool, _||_}
 use mathlib.Core.List.{List, [], _∷_}
 use native.Mathlib.Omega.{arith}
 use lib.Dec.{ltb, eqb}
-use denote.Enum.Declared.{tagOf}
-use types.Run.{OneOf, miss}
 use Rattle.relations.specs.Limits.{columnLimit}
 use Rattle.relations.specs.Nodes.{join}
 use Rattle.calculus.specs.Question.{Range, Bindings, noMore, bind, rangeNodes, bindingNodes}
@@ -17,11 +15,8 @@ use Rattle.calculus.proofs.SizeTheorem.{range-size}
 use Rattle.catalogue.specs.Stored.{relationsOf, columnsOf}
 use Rattle.question.specs.Limits.{variableCount}
 use Rattle.question.specs.Nodes.{isBinding, isRange, kindNamed, nodeAt}
-use Rattle.question.specs.Trees.{Reading, readingOf}
-use Rattle.question.specs.declared.node.Node as question
-use Rattle.question.specs.declared.node.Node.the-variants.{Table, Alpha, Target, Binding, RangeOr, RangeAnd, RangeAndNot, Atom as AtomNode, And, Or, Not, Some, Every, IllFormed}
+use Rattle.question.specs.declared.node.Node.the-variants.{Binding}
 use Rattle.question.proofs.Forms.{lower, second-of, references-lower}
-use Rattle.question.proofs.node.Node.{the-type}
 use Rattle.conditions.specs.Readings.{Inside, Names, rangeAt, bindingsAt}
 use Rattle.conditions.specs.Scopes.{scopeOf, ScopeFits, Extended}
 use Rattle.translation.specs.Translating.{RangeReady, RangeDone, BindingsReady, BindingsDone}

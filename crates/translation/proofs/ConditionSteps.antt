@@ -1,12 +1,9 @@
 -- The steps of a condition: where its parts stand, the room that they have, and what their nodes are together. Assumes nothing.
-use Prim.Native.Nat.{ℕ, _+_, _*_, _-_, _≤_, _<_}
+use Prim.Native.Nat.{ℕ, _+_, _*_, _-_, _≤_}
 use mathlib.Core.Path.{_≡_, refl, sym, ap, ap₂, subst}
 use mathlib.Core.Bool.{Bool, true, false, _&&_, _||_, false≢true}
 use mathlib.Core.List.{List, [], _∷_}
 use native.Mathlib.Omega.{arith}
-use lib.Dec.{ltb}
-use denote.Enum.Declared.{tagOf}
-use types.Run.{OneOf, miss}
 use Rattle.relations.specs.Limits.{questionNodeLimit}
 use Rattle.relations.specs.Nodes.{Node, unite, subtract}
 use Rattle.calculus.specs.Question as calculus
@@ -16,15 +13,11 @@ use Rattle.calculus.specs.Form.{GoodCondition}
 use Rattle.calculus.specs.ShortRules.{selectNode, shortRule3Fits, shortRule6Fits, shortRule6Nodes}
 use Rattle.calculus.specs.Translation.{itself, itsOpposite, translateMaybe, translateCondition}
 use Rattle.calculus.proofs.SizeTheorem.{condition-size}
-use Rattle.question.specs.Limits.{variableCount}
-use Rattle.question.specs.Nodes.{isRange, isCondition, kindNamed, nodeAt}
+use Rattle.question.specs.Nodes.{nodeAt}
 use Rattle.catalogue.specs.Stored.{relationsOf, columnsOf}
-use Rattle.question.specs.Trees.{Tree, nothing, branch, Reading, readingOf, reading, treeOf, atomOf}
-use Rattle.question.specs.declared.node.Node as question
-use Rattle.question.specs.declared.node.Node.the-variants.{Table, Alpha, Target, Binding, RangeOr, RangeAnd, RangeAndNot, Atom as AtomNode, And, Or, Not, Some, Every, IllFormed}
+use Rattle.question.specs.Trees.{atomOf}
+use Rattle.question.specs.declared.node.Node.the-variants.{Atom as AtomNode, And, Or, Not, Some, Every}
 use Rattle.question.specs.declared.node.Atom as question-atom
-use Rattle.question.proofs.node.Node.{the-type}
-use Rattle.question.proofs.Forms.{lower, second-of, third-of}
 use Rattle.conditions.specs.Readings.{Names, rangeAt, restrictionAt, conditionAt}
 use Rattle.conditions.specs.Scopes.{scopeOf}
 use Rattle.conditions.specs.Atoms.{AtomNarrow}

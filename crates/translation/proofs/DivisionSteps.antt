@@ -1,14 +1,12 @@
 -- S5's division: the "some z" that a reference names, below an "every y". Assumes nothing.
-use Prim.Native.Nat.{ℕ, suc, pred, _+_, _-_, _≤_, _<_}
-use mathlib.Core.Path.{_≡_, refl, ap, subst, _∙_}
-use mathlib.Core.Bool.{Bool, true, false, _&&_, _||_}
+use Prim.Native.Nat.{ℕ, suc, pred, _+_, _-_, _≤_}
+use mathlib.Core.Path.{_≡_, ap, subst, _∙_}
+use mathlib.Core.Bool.{Bool, true, _&&_, _||_}
 use mathlib.Core.List.{List, [], _∷_, _++_}
 use native.Mathlib.Omega.{arith}
-use lib.Dec.{ltb, leb}
+use lib.Dec.{leb}
 use lib.ListN.{length}
 use borrow.Author.Tests.{leb-true}
-use denote.Enum.Declared.{tagOf}
-use types.Run.{OneOf, miss}
 use Rattle.relations.specs.Limits.{tripleLimit, pairLimit}
 use Rattle.relations.specs.Lists.{all, filter}
 use Rattle.relations.specs.Nodes.{Node, semijoin, antijoin, divide, unite}
@@ -23,13 +21,8 @@ use Rattle.calculus.specs.Translation.{divisionBy, translateRange, translateCon
 use Rattle.calculus.proofs.ScopeLaws.{columns-extend}
 use Rattle.calculus.proofs.SizeTheorem.{filter-size}
 use Rattle.catalogue.specs.Stored.{relationsOf, columnsOf}
-use Rattle.question.specs.Limits.{variableCount}
-use Rattle.question.specs.Nodes.{isRange, isCondition, kindNamed, nodeAt}
-use Rattle.question.specs.Trees.{Reading, readingOf}
-use Rattle.question.specs.declared.node.Node.{Node as QuestionNode}
-use Rattle.question.specs.declared.node.Node.the-variants.{Table, Alpha, Target, Binding, RangeOr, RangeAnd, RangeAndNot, Atom as AtomNode, And, Or, Not, Some, Every, IllFormed}
-use Rattle.question.proofs.node.Node.{the-type}
-use Rattle.question.proofs.Forms.{lower, second-of, third-of}
+use Rattle.question.specs.Nodes.{nodeAt}
+use Rattle.question.specs.declared.node.Node.the-variants.{Some}
 use Rattle.conditions.specs.Leaves.{atomsOf, LeavesOf}
 use Rattle.conditions.specs.Readings.{Names, rangeAt, conditionAt}
 use Rattle.short_rules.specs.Rules.{selectsBehind, dividendBehind, divisionBehind, DividendFits}
@@ -39,7 +32,7 @@ use Rattle.emission.specs.Written.{Written}
 use Rattle.conditions.specs.declared.leaves.Leaves.{Leaves}
 use Rattle.conditions.specs.declared.scope.Scope.{Scope}
 use Rattle.translation.specs.declared.translate.Made.{Made}
-use Rattle.conditions.proofs.Readings.{fits-in, condition-is}
+use Rattle.conditions.proofs.Readings.{condition-is}
 use Rattle.emission.proofs.WrittenLaws.{room-less, written-as}
 use Rattle.translation.proofs.QuantifierSteps.{QuantifierReady, quantifier-ready, some-columns, few-columns, room-behind, leaves-few, behind-range, written-behind}
 

@@ -1,20 +1,17 @@
 -- "Some" and "every": what their calls ask for, from what they are given, and what their returns leave. Assumes nothing.
 use Prim.Native.Nat.{ℕ, suc, pred, _+_, _*_, _-_, _≤_}
 use mathlib.Core.Path.{_≡_, refl, sym, ap, subst, _∙_}
-use mathlib.Core.Bool.{Bool, true, false, cond, _&&_, _||_, true≢false, false≢true}
+use mathlib.Core.Bool.{Bool, true, false, _&&_}
 use mathlib.Core.List.{List, [], _∷_, _++_, map, append-assoc}
 use native.Mathlib.Omega.{arith}
-use lib.Dec.{leb}
 use lib.ListN.{length, length-append, length-map}
-use borrow.Author.Tests.{leb-true}
 use Rattle.relations.specs.Limits.{columnLimit, tripleLimit, questionNodeLimit, listWords}
-use Rattle.relations.specs.Lists.{all, filter}
+use Rattle.relations.specs.Lists.{filter}
 use Rattle.relations.specs.Nodes.{Node, project, join, subtract, semijoin, antijoin}
-use Rattle.relations.proofs.BoolLaws.{and-right}
-use Rattle.calculus.specs.Question.{fixed, ofVariable, Atom, compare, Range, table, alpha, rangeOr, rangeAnd, rangeAndNot, MaybeCondition, onCondition, Condition, atom, conditionAnd, conditionOr, conditionNot, forSome, forEvery, rangeNodes, maybeNodes, conditionNodes}
+use Rattle.calculus.specs.Question.{Atom, Range, MaybeCondition, onCondition, Condition, forSome, forEvery, rangeNodes, maybeNodes, conditionNodes}
 use Rattle.calculus.specs.Scope.{columnsIn, allColumns, columnsFrom}
 use Rattle.calculus.specs.Scope as calculus
-use Rattle.calculus.specs.Form.{widthOfRange, alphaScope, GoodRange, GoodMaybe, GoodCondition}
+use Rattle.calculus.specs.Form.{widthOfRange, GoodRange, GoodMaybe, GoodCondition}
 use Rattle.calculus.specs.Leaves.{isAndTree, isOrTree, leaves, oppositeAtom, aloneOn, comparesWithOther}
 use Rattle.calculus.specs.ShortRules.{lastNumber, shortRule2Atoms, shortRule2Fits, triplesOf, shortRule4Fits, shortRule5Fits}
 use Rattle.calculus.specs.Translation.{itself, itsOpposite, divisionBy, translateRange, translateMaybe, translateCondition}
@@ -22,12 +19,9 @@ use Rattle.calculus.proofs.LegalColumns.{few, few-opposite}
 use Rattle.calculus.proofs.SizeTheorem.{filter-size, leaves-size, range-size, condition-size}
 use Rattle.catalogue.specs.Stored.{relationsOf, columnsOf}
 use Rattle.question.specs.Accepted.{HasColumns}
-use Rattle.question.specs.Trees.{Tree, nothing, branch, treeOf, Reading, reading, readingOf}
-use Rattle.question.specs.declared.node.Node.{Node as QuestionNode}
-use Rattle.question.specs.declared.node.Node.the-variants.{Table, Alpha, Target, Binding, RangeOr, RangeAnd, RangeAndNot, Atom as AtomNode, And, Or, Not, Some, Every, IllFormed}
-use Rattle.conditions.specs.Leaves.{atomsOf, LeavesFit, Collectable, LeavesOf, noLeaves, opposites}
+use Rattle.conditions.specs.Leaves.{atomsOf, LeavesFit, LeavesOf, opposites}
 use Rattle.emission.specs.Listings.{listing, Longer, numbersOf}
-use Rattle.conditions.specs.Readings.{Names, conditionAt, restrictionAt}
+use Rattle.conditions.specs.Readings.{conditionAt, restrictionAt}
 use Rattle.short_rules.specs.Rules.{selectsBehind, semijoinBehind, antijoinBehind, RuleFits}
 use Rattle.conditions.specs.Scopes.{scopeOf, ScopeFits, Extended}
 use Rattle.translation.specs.Translating.{RangeReady, RangeDone, ConditionReady, InsideReady, DivisionReady}

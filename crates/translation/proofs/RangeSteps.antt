@@ -1,15 +1,12 @@
 -- Translating a range: what its parts ask for, and what the whole leaves. Assumes nothing.
 use Prim.Native.Nat.{ℕ, _+_, _*_, _-_, _≤_, _<_, max}
-use mathlib.Core.Path.{_≡_, refl, sym, ap, ap₂, subst, _∙_}
+use mathlib.Core.Path.{_≡_, refl, sym, ap, subst, _∙_}
 use mathlib.Core.Bool.{Bool, true, _&&_, _||_}
 use mathlib.Core.List.{List, [], _∷_, _++_}
 use native.Mathlib.Omega.{arith}
 use lib.Dec.{eqb}
 use lib.ListN.{length}
-use denote.Enum.Declared.{tagOf}
-use types.Run.{OneOf, miss}
 use Rattle.relations.specs.Nodes.{Node, unite, intersect, subtract}
-use Rattle.relations.proofs.BoolLaws.{and-left, and-right}
 use Rattle.calculus.specs.Question.{Range, table, alpha, rangeOr, rangeAnd, rangeAndNot, rangeNodes}
 use Rattle.calculus.specs.Form.{widthOfRange, alphaScope, GoodRange}
 use Rattle.calculus.specs.ShortRules.{lastNumber}
@@ -21,11 +18,9 @@ use Rattle.calculus.proofs.SizeTheorem.{range-size}
 use Rattle.question.specs.Accepted.{HasColumns}
 use Rattle.catalogue.specs.Stored.{relationsOf, columnsOf}
 use Rattle.question.specs.Nodes.{isTarget, isBinding, isRange, isCondition, kindNamed, nodeAt}
-use Rattle.question.specs.Trees.{Reading, alphaOf, readingOf}
-use Rattle.question.specs.declared.node.Node as question
-use Rattle.question.specs.declared.node.Node.the-variants.{Table, Alpha, Target, Binding, RangeOr, RangeAnd, RangeAndNot, Atom as AtomNode, And, Or, Not, Some, Every, IllFormed}
+use Rattle.question.specs.Trees.{alphaOf}
+use Rattle.question.specs.declared.node.Node.the-variants.{Alpha, RangeOr, RangeAnd, RangeAndNot}
 use Rattle.question.proofs.Forms.{lower, second-of, references-lower}
-use Rattle.question.proofs.node.Node.{the-type}
 use Rattle.conditions.specs.Readings.{Inside, Names, rangeAt, targetsAt, bindingsAt, restrictionAt}
 use Rattle.translation.specs.Translating.{RangeReady, RangeDone}
 use Rattle.emission.specs.Written.{Room, Written}

@@ -1,23 +1,16 @@
 -- The columns of targets. Assumes nothing.
 use Rattle.emission.proofs.ListingLaws.{numbers-append}
-use Prim.Native.Nat.{ℕ, zero, suc, _+_, _-_, _≤_}
-use mathlib.Core.Path.{_≡_, refl, sym, ap, subst, _∙_}
+use Prim.Native.Nat.{ℕ, zero, suc, _+_, _≤_}
+use mathlib.Core.Path.{_≡_, refl, ap}
 use mathlib.Core.Bool.{Bool, true, false, cond}
 use mathlib.Core.List.{List, [], _∷_, _++_}
 use native.Mathlib.Omega.{arith}
 use lib.Dec.{eqb}
-use lib.ListN.{length, length-append}
-use denote.Enum.Declared.{tagOf}
-use types.Run.{OneOf, miss}
-use Rattle.relations.specs.Lists.{All, flat}
-use Rattle.relations.specs.Columns.{Attribute, attribute}
+use Rattle.relations.specs.Lists.{flat}
+use Rattle.relations.specs.Columns.{attribute}
 use Rattle.calculus.specs.Question.{Target, wholeRow, oneAttribute}
 use Rattle.calculus.specs.Scope.{entry, Scope, columnsIn, widthIn, targetColumns}
-use Rattle.calculus.specs.Form.{GoodTarget}
-use Rattle.question.specs.Trees.{Reading, targetOf, readingOf}
-use Rattle.question.specs.declared.node.Node.{Node}
-use Rattle.question.specs.declared.node.Node.the-variants.{Table, Alpha, Target as TargetNode, Binding, RangeOr, RangeAnd, RangeAndNot, Atom as AtomNode, And, Or, Not, Some, Every, IllFormed}
-use Rattle.question.proofs.node.Node.{the-type}
+use Rattle.question.specs.Trees.{targetOf}
 use Rattle.emission.specs.Listings.{numbersOf}
 
 pub whole-target : (variable : ℕ) {number : ℕ} → number ≡ 0 → targetOf variable number ≡ wholeRow variable

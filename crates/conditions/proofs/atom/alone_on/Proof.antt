@@ -1,12 +1,9 @@
-use mathlib.Core.Path.{sym, ap, _∙_, refl}
+use mathlib.Core.Path.{sym, ap}
 use Rattle.calculus.specs.Leaves.{aloneOn}
 use Rattle.conditions.proofs.AtomLaws.{read}
-use native.Mathlib.Omega.{arith}
 use borrow.Author.Needs.{needs}
 use Rattle.conditions.proofs.atom.alone_on.Statement.{statement}
 use Rattle.conditions.proofs.atom.alone_on.Tie as tie
-use Rattle.conditions.proofs.atom.alone_on.Reads as reads
-use Rattle.conditions.proofs.atom.alone_on.Lts as lts
 
 enum-known-operand : tie.Need-enum-known-operand
 enum-known-operand c = search needs

@@ -1,13 +1,10 @@
-use mathlib.Core.Path.{sym, ap, _∙_, refl}
+use mathlib.Core.Path.{sym, ap}
 use Rattle.calculus.specs.Leaves.{areBoth}
 use Rattle.question.specs.Trees.{operandOf}
 use Rattle.question.specs.declared.node.Operand.{Operand}
-use native.Mathlib.Omega.{arith}
 use borrow.Author.Needs.{needs}
 use Rattle.conditions.proofs.atom.are_both.Statement.{statement}
 use Rattle.conditions.proofs.atom.are_both.Tie as tie
-use Rattle.conditions.proofs.atom.are_both.Reads as reads
-use Rattle.conditions.proofs.atom.are_both.Lts as lts
 
 enum-known-operand : tie.Need-enum-known-operand
 enum-known-operand c = search needs

@@ -1,12 +1,9 @@
-use mathlib.Core.Path.{sym, ap, _∙_, refl}
+use mathlib.Core.Path.{sym, ap, _∙_}
 use Rattle.calculus.specs.Leaves.{comparesWithOther}
 use Rattle.conditions.proofs.AtomLaws.{read, taken, passed}
-use native.Mathlib.Omega.{arith}
 use borrow.Author.Needs.{needs}
 use Rattle.conditions.proofs.atom.compares_with_other.Statement.{statement}
 use Rattle.conditions.proofs.atom.compares_with_other.Tie as tie
-use Rattle.conditions.proofs.atom.compares_with_other.Reads as reads
-use Rattle.conditions.proofs.atom.compares_with_other.Lts as lts
 
 enum-known-operand : tie.Need-enum-known-operand
 enum-known-operand c = search needs

@@ -1,14 +1,9 @@
 use mathlib.Core.Path.{ap, ap₂}
 use mathlib.Core.Bool.{not, _&&_}
 use Rattle.conditions.proofs.AtomLaws.{equal-number}
-use native.Mathlib.Omega.{arith}
 use borrow.Author.Needs.{needs}
 use Rattle.conditions.proofs.atom.equates_outside.Statement.{statement}
 use Rattle.conditions.proofs.atom.equates_outside.Tie as tie
-use Rattle.conditions.proofs.atom.equates_outside.Reads as reads
-use Rattle.conditions.proofs.atom.equates_outside.Lts as lts
-use Rattle.conditions.proofs.atom.are_both.Reads as are-both-reads
-use Rattle.conditions.proofs.atom.compares_with_other.Reads as compares-with-other-reads
 
 compares-with-other-requires : tie.Need-compares-with-other-requires
 compares-with-other-requires c κs = search needs

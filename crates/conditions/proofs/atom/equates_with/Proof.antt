@@ -1,13 +1,9 @@
 use mathlib.Core.Path.{ap₂}
 use mathlib.Core.Bool.{_&&_}
 use Rattle.conditions.proofs.AtomLaws.{equal-number}
-use native.Mathlib.Omega.{arith}
 use borrow.Author.Needs.{needs}
 use Rattle.conditions.proofs.atom.equates_with.Statement.{statement}
 use Rattle.conditions.proofs.atom.equates_with.Tie as tie
-use Rattle.conditions.proofs.atom.equates_with.Reads as reads
-use Rattle.conditions.proofs.atom.equates_with.Lts as lts
-use Rattle.conditions.proofs.atom.are_both.Reads as are-both-reads
 
 are-both-requires : tie.Need-are-both-requires
 are-both-requires c κs = search needs

@@ -5,13 +5,9 @@ use Rattle.calculus.specs.Question.{compare}
 use Rattle.question.specs.Trees.{operandOf}
 use Rattle.conditions.specs.Atoms.{operatorNamed}
 use Rattle.conditions.proofs.AtomLaws.{made-of}
-use native.Mathlib.Omega.{arith}
 use borrow.Author.Needs.{needs}
 use Rattle.conditions.proofs.atom.opposite_atom.Statement.{statement}
 use Rattle.conditions.proofs.atom.opposite_atom.Tie as tie
-use Rattle.conditions.proofs.atom.opposite_atom.Reads as reads
-use Rattle.conditions.proofs.atom.opposite_atom.Lts as lts
-use Rattle.conditions.proofs.atom.opposite.Reads as opposite-reads
 
 opposite-requires : tie.Need-opposite-requires
 opposite-requires c κs = search needs

@@ -1,14 +1,9 @@
-use mathlib.Core.Path.{sym, ap, _∙_, refl}
+use mathlib.Core.Path.{sym, ap, _∙_}
 use Rattle.calculus.specs.Leaves.{otherVariable}
 use Rattle.conditions.proofs.AtomLaws.{read, taken, passed}
-use Rattle.calculus.specs.Question as calculus
-use Rattle.relations.specs.Columns.{Attribute}
-use native.Mathlib.Omega.{arith}
 use borrow.Author.Needs.{needs}
 use Rattle.conditions.proofs.atom.other_variable.Statement.{statement}
 use Rattle.conditions.proofs.atom.other_variable.Tie as tie
-use Rattle.conditions.proofs.atom.other_variable.Reads as reads
-use Rattle.conditions.proofs.atom.other_variable.Lts as lts
 
 enum-known-operand : tie.Need-enum-known-operand
 enum-known-operand c = search needs

@@ -1,14 +1,11 @@
-use mathlib.Core.Path.{sym, ap, _∙_, refl}
+use mathlib.Core.Path.{sym, ap, _∙_}
 use Rattle.calculus.specs.Leaves.{ownAttribute}
 use Rattle.conditions.proofs.AtomLaws.{read, taken, passed}
 use Rattle.calculus.specs.Question as calculus
 use Rattle.relations.specs.Columns.{Attribute}
-use native.Mathlib.Omega.{arith}
 use borrow.Author.Needs.{needs}
 use Rattle.conditions.proofs.atom.own_attribute.Statement.{statement}
 use Rattle.conditions.proofs.atom.own_attribute.Tie as tie
-use Rattle.conditions.proofs.atom.own_attribute.Reads as reads
-use Rattle.conditions.proofs.atom.own_attribute.Lts as lts
 
 enum-known-operand : tie.Need-enum-known-operand
 enum-known-operand c = search needs

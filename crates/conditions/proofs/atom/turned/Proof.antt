@@ -3,12 +3,8 @@ use mathlib.Core.Path.{sym, ap}
 use Rattle.relations.specs.Comparison.{Operator, operatorNumber, turned}
 use Rattle.conditions.specs.Atoms.{operatorNamed}
 use Rattle.conditions.proofs.AtomLaws.{no-operator}
-use borrow.Author.Needs.{needs}
-use native.Mathlib.Omega.{arith}
 use Rattle.conditions.proofs.atom.turned.Statement.{statement}
 use Rattle.conditions.proofs.atom.turned.Tie as tie
-use Rattle.conditions.proofs.atom.turned.Reads as reads
-use Rattle.conditions.proofs.atom.turned.Lts as lts
 
 returns : tie.Need-returns
 returns c = sym (ap (λ (k : ℕ). operatorNumber (turned (operatorNamed k))) (c .match .keys1))

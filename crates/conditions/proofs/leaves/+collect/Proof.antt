@@ -5,16 +5,14 @@ use Rattle.conditions.specs.Readings.{conditionAt}
 use Rattle.calculus.specs.Question as calculus
 use Rattle.question.specs.Nodes.{nodeAt}
 use Rattle.conditions.proofs.LeafLaws.{collected-and, collected-or, collected-none, collected-leaf, collected-as, collect-left, collect-right}
-use Rattle.conditions.proofs.Readings.{fits-in, two-conditions, condition-is, readingIn}
+use Rattle.conditions.proofs.Readings.{fits-in, two-conditions, condition-is}
 use Rattle.question.specs.declared.node.Node.the-variants.{And, Or, Not, Some, Every}
 use Rattle.calculus.specs.Leaves.{leaves}
 use lib.ListN.{length}
-use Prim.Native.Nat.{_-_}
-use mathlib.Core.List.{List}
+use Prim.Native.Nat.{_-_, ℕ, _<_}
 use mathlib.Core.Path.{_≡_, refl, sym, ap, _∙_}
 use borrow.Author.Needs.{needs}
 use native.Mathlib.Omega.{arith}
-use Prim.Native.Nat.{ℕ, _<_}
 use borrow.Fn.Kinds.{In}
 use borrow.Fn.PlainCycle.{Measures, is, falls, and}
 use Rattle.conditions.proofs.leaves.collect.Reads as collect

@@ -1,10 +1,7 @@
 use Rattle.conditions.proofs.LeafLaws.{no-atom}
-use native.Mathlib.Omega.{arith}
 use borrow.Author.Needs.{needs}
 use Rattle.conditions.proofs.leaves.atom_in.Statement.{statement}
 use Rattle.conditions.proofs.leaves.atom_in.Tie as tie
-use Rattle.conditions.proofs.leaves.atom_in.Reads as reads
-use Rattle.conditions.proofs.leaves.atom_in.Lts as lts
 
 enum-known-node : tie.Need-enum-known-node
 enum-known-node c = search needs

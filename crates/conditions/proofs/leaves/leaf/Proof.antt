@@ -1,16 +1,10 @@
 use lib.ListN.{getD}
 use Rattle.conditions.proofs.LeafLaws.{found-narrow, found-is}
 use Rattle.calculus.specs.Leaves.{oppositeAtom}
-use mathlib.Core.Path.{_≡_, sym, ap, _∙_}
-use native.Mathlib.Omega.{arith}
+use mathlib.Core.Path.{ap, _∙_}
 use borrow.Author.Needs.{needs}
 use Rattle.conditions.proofs.leaves.leaf.Statement.{statement}
 use Rattle.conditions.proofs.leaves.leaf.Tie as tie
-use Rattle.conditions.proofs.leaves.leaf.Reads as reads
-use Rattle.conditions.proofs.leaves.leaf.Lts as lts
-use Rattle.question.proofs.node.decode.Reads as decode-reads
-use Rattle.conditions.proofs.atom.opposite_atom.Reads as opposite-atom-reads
-use Rattle.conditions.proofs.leaves.atom_in.Reads as atom-in-reads
 
 mul-number : tie.Need-mul-number
 mul-number c = search needs

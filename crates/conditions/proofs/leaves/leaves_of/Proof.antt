@@ -2,14 +2,9 @@ use Rattle.conditions.specs.Readings.{conditionAt}
 use Rattle.conditions.specs.Leaves.{Collectable, Collected}
 use Rattle.conditions.proofs.LeafLaws.{leaves-of}
 use mathlib.Core.Path.{subst, sym}
-use native.Mathlib.Omega.{arith}
 use borrow.Author.Needs.{needs}
 use Rattle.conditions.proofs.leaves.leaves_of.Statement.{statement}
 use Rattle.conditions.proofs.leaves.leaves_of.Tie as tie
-use Rattle.conditions.proofs.leaves.leaves_of.Reads as reads
-use Rattle.conditions.proofs.leaves.leaves_of.Lts as lts
-use Rattle.conditions.proofs.leaves.collect.Reads as collect-reads
-use Rattle.conditions.proofs.leaves.no_leaves.Reads as no-leaves-reads
 
 no-leaves-requires : tie.Need-no-leaves-requires
 no-leaves-requires c κs = search needs

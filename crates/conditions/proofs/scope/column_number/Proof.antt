@@ -1,16 +1,12 @@
 use Rattle.conditions.proofs.ScopeLaws.{column-here, column-later, columns-here}
-use mathlib.Core.Path.{_∙_, sym}
+use mathlib.Core.Path.{_≡_}
 use Rattle.conditions.specs.Scopes.{entryAt, scopeOf}
 use Rattle.conditions.specs.Entries.{entries}
 use Rattle.calculus.specs.Scope.{columnsIn, columnNumber}
-use mathlib.Core.Path.{_≡_, refl}
 use Prim.Native.Nat.{_+_}
-use borrow.Author.Needs.{needs}
 use native.Mathlib.Omega.{arith}
 use Rattle.conditions.proofs.scope.column_number.Statement.{statement}
 use Rattle.conditions.proofs.scope.column_number.Tie as tie
-use Rattle.conditions.proofs.scope.column_number.Reads as reads
-use Rattle.conditions.proofs.scope.column_number.Lts as lts
 
 abbrev Inv-loop : tie.InvT-loop
 Inv-loop variable n scope passed₀ i₀ left₀ passed i left = (i + left ≡ scope .count)

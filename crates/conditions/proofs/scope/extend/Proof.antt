@@ -1,12 +1,9 @@
 use Rattle.conditions.proofs.ScopeLaws.{extended}
 use lib.ListN.{length}
 use mathlib.Core.Path.{_≡_}
-use native.Mathlib.Omega.{arith}
 use borrow.Author.Needs.{needs}
 use Rattle.conditions.proofs.scope.extend.Statement.{statement}
 use Rattle.conditions.proofs.scope.extend.Tie as tie
-use Rattle.conditions.proofs.scope.extend.Reads as reads
-use Rattle.conditions.proofs.scope.extend.Lts as lts
 
 cast-at : tie.Need-cast-at
 cast-at c = search needs

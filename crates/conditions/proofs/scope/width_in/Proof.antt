@@ -1,16 +1,12 @@
 use Rattle.conditions.proofs.ScopeLaws.{width-here, width-later}
-use mathlib.Core.Path.{_∙_, sym}
+use mathlib.Core.Path.{_∙_, sym, _≡_, refl}
 use Rattle.conditions.specs.Scopes.{entryAt, scopeOf}
 use Rattle.conditions.specs.Entries.{entries}
 use Rattle.calculus.specs.Scope.{widthIn}
-use mathlib.Core.Path.{_≡_, refl}
 use Prim.Native.Nat.{_+_}
-use borrow.Author.Needs.{needs}
 use native.Mathlib.Omega.{arith}
 use Rattle.conditions.proofs.scope.width_in.Statement.{statement}
 use Rattle.conditions.proofs.scope.width_in.Tie as tie
-use Rattle.conditions.proofs.scope.width_in.Reads as reads
-use Rattle.conditions.proofs.scope.width_in.Lts as lts
 
 abbrev Inv-loop : tie.InvT-loop
 Inv-loop variable scope i₀ left₀ i left = (i + left ≡ scope .count) × (widthIn (scopeOf scope) variable ≡ widthIn (entries (entryAt scope) i left) variable)

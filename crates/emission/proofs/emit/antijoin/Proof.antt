@@ -7,9 +7,6 @@ use native.Mathlib.Omega.{arith}
 use borrow.Author.Needs.{needs}
 use Rattle.emission.proofs.emit.antijoin.Statement.{statement}
 use Rattle.emission.proofs.emit.antijoin.Tie as tie
-use Rattle.emission.proofs.emit.antijoin.Reads as reads
-use Rattle.emission.proofs.emit.antijoin.Lts as lts
-use Rattle.emission.proofs.emit.push.Reads as push-reads
 
 push-requires : tie.Need-push-requires
 push-requires c κs = search needs

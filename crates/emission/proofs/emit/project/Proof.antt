@@ -7,9 +7,6 @@ use native.Mathlib.Omega.{arith}
 use borrow.Author.Needs.{needs}
 use Rattle.emission.proofs.emit.project.Statement.{statement}
 use Rattle.emission.proofs.emit.project.Tie as tie
-use Rattle.emission.proofs.emit.project.Reads as reads
-use Rattle.emission.proofs.emit.project.Lts as lts
-use Rattle.emission.proofs.emit.push.Reads as push-reads
 
 push-requires : tie.Need-push-requires
 push-requires c κs = search needs

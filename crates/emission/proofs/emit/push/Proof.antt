@@ -1,15 +1,12 @@
-use Prim.Native.Nat.{_*_}
+use Prim.Native.Nat.{_*_, _≤_, _-_, _+_}
 use Rattle.emission.proofs.Stores.{sets-more, sets-four}
 use lib.Seq.{sets, length-sets, take-all}
-use lib.ListN.{length, length-set, take, getD}
-use mathlib.Core.Path.{_≡_, refl, ap, _∙_, sym}
-use Prim.Native.Nat.{ℕ, _≤_, _-_, _+_}
+use lib.ListN.{length, length-set, take}
+use mathlib.Core.Path.{_≡_, refl, ap, _∙_}
 use borrow.Author.Needs.{needs}
 use native.Mathlib.Omega.{arith}
 use Rattle.emission.proofs.emit.push.Statement.{statement}
 use Rattle.emission.proofs.emit.push.Tie as tie
-use Rattle.emission.proofs.emit.push.Reads as reads
-use Rattle.emission.proofs.emit.push.Lts as lts
 
 abbrev Inv-loop : tie.InvT-loop
 Inv-loop plan₀ n operation left right count list at j₀ plan j = (j ≤ 32) × (plan ≡ sets plan₀ (at + 4) (take j list))

@@ -4,13 +4,9 @@ use mathlib.Core.List.{[], _∷_}
 use Rattle.emission.specs.Listings.{padded}
 use Rattle.relations.specs.Nodes.{selectConstant}
 use Rattle.emission.proofs.WrittenLaws.{written-one}
-use native.Mathlib.Omega.{arith}
 use borrow.Author.Needs.{needs}
 use Rattle.emission.proofs.emit.select_constant.Statement.{statement}
 use Rattle.emission.proofs.emit.select_constant.Tie as tie
-use Rattle.emission.proofs.emit.select_constant.Reads as reads
-use Rattle.emission.proofs.emit.select_constant.Lts as lts
-use Rattle.emission.proofs.emit.select.Reads as select-reads
 
 select-requires : tie.Need-select-requires
 select-requires c κs = search needs

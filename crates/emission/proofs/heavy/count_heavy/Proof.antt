@@ -1,7 +1,7 @@
 -- `translation::heavy::count_heavy` meets its contract. The loop's invariant: what is counted and what is still to be counted is all.
 -- Assumes nothing.
 use Prim.Native.Nat.{_+_, _*_, _≤_}
-use mathlib.Core.Path.{_≡_, refl, sym, _∙_}
+use mathlib.Core.Path.{_≡_}
 use lib.ListN.{drop, getD}
 use Rattle.relations.specs.Limits.{planNodeWords}
 use Rattle.emission.specs.HeavyCount.{heavyIn}
@@ -9,9 +9,6 @@ use Rattle.emission.proofs.HeavyLaws.{weight-small, heavy-step, heavy-n
 use native.Mathlib.Omega.{arith}
 use Rattle.emission.proofs.heavy.count_heavy.Statement.{statement}
 use Rattle.emission.proofs.heavy.count_heavy.Tie as tie
-use Rattle.emission.proofs.heavy.count_heavy.Reads as reads
-use Rattle.emission.proofs.heavy.count_heavy.Lts as lts
-use Rattle.emission.proofs.heavy.weight.Reads as weight-reads
 
 abbrev Inv-loop : tie.InvT-loop
 Inv-loop plan nodes heavy₀ at₀ left₀ heavy at left = (at + left * planNodeWords ≡ nodes * planNodeWords) × (heavy + left ≤ nodes) × (heavy + heavyIn left (drop at plan) ≡ heavyIn nodes plan)

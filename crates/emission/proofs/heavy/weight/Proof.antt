@@ -1,9 +1,5 @@
-use borrow.Author.Needs.{needs}
-use native.Mathlib.Omega.{arith}
 use Rattle.emission.proofs.heavy.weight.Statement.{statement}
 use Rattle.emission.proofs.heavy.weight.Tie as tie
-use Rattle.emission.proofs.heavy.weight.Reads as reads
-use Rattle.emission.proofs.heavy.weight.Lts as lts
 
 returns : tie.Need-returns
 returns c = simp (c .if1 .taken)

@@ -2,17 +2,11 @@ use Rattle.emission.proofs.ListingLaws.{longer-then, longer-none, colum
 use Rattle.emission.specs.declared.listing.Listing.{Listing}
 use Rattle.emission.specs.Listings.{Longer, numbersOf}
 use Rattle.calculus.specs.Scope.{columnsFrom}
-use Prim.Native.Nat.{ℕ, _-_}
-use mathlib.Core.List.{List}
-use mathlib.Core.Path.{_≡_, refl, subst, sym}
 use Prim.Native.Nat.{_+_, _≤_}
-use borrow.Author.Needs.{needs}
+use mathlib.Core.Path.{_≡_, refl, subst, sym}
 use native.Mathlib.Omega.{arith}
 use Rattle.emission.proofs.listing.with_columns.Statement.{statement}
 use Rattle.emission.proofs.listing.with_columns.Tie as tie
-use Rattle.emission.proofs.listing.with_columns.Reads as reads
-use Rattle.emission.proofs.listing.with_columns.Lts as lts
-use Rattle.emission.proofs.listing.with_word.Reads as with-word-reads
 
 abbrev Inv-loop : tie.InvT-loop
 Inv-loop first count longer₀ column₀ left₀ longer column left = (longer .used + left ≤ 32)

@@ -1,11 +1,7 @@
 use Rattle.emission.proofs.ListingLaws.{longer-then}
-use native.Mathlib.Omega.{arith}
 use borrow.Author.Needs.{needs}
 use Rattle.emission.proofs.listing.with_triple.Statement.{statement}
 use Rattle.emission.proofs.listing.with_triple.Tie as tie
-use Rattle.emission.proofs.listing.with_triple.Reads as reads
-use Rattle.emission.proofs.listing.with_triple.Lts as lts
-use Rattle.emission.proofs.listing.with_word.Reads as with-word-reads
 
 with-word-requires : tie.Need-with-word-requires
 with-word-requires c κs = search needs

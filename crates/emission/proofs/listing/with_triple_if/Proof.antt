@@ -2,16 +2,12 @@ use Rattle.emission.proofs.ListingLaws.{longer-none}
 use Rattle.emission.specs.Listings.{Longer}
 use lib.ListN.{length}
 use Prim.Native.Nat.{ℕ}
-use mathlib.Core.List.{List, [], _∷_}
+use mathlib.Core.List.{[], _∷_}
 use mathlib.Core.Bool.{Bool, cond}
 use mathlib.Core.Path.{sym, ap, subst}
-use borrow.Author.Needs.{needs}
 use native.Mathlib.Omega.{arith}
 use Rattle.emission.proofs.listing.with_triple_if.Statement.{statement}
 use Rattle.emission.proofs.listing.with_triple_if.Tie as tie
-use Rattle.emission.proofs.listing.with_triple_if.Reads as reads
-use Rattle.emission.proofs.listing.with_triple_if.Lts as lts
-use Rattle.emission.proofs.listing.with_triple.Reads as with-triple-reads
 
 with-triple-requires : tie.Need-with-triple-requires
 with-triple-requires c κs = omega (arith, c .before .pre, ap (λ (b : Bool). length {A = ℕ} (cond b (c .before .args .left .0 ∷ c .before .args .operator ∷ c .before .args .right .0 ∷ []) [])) (c .if1 .taken))

@@ -6,8 +6,6 @@ use native.Mathlib.Omega.{arith}
 use borrow.Author.Needs.{needs}
 use Rattle.emission.proofs.listing.with_word.Statement.{statement}
 use Rattle.emission.proofs.listing.with_word.Tie as tie
-use Rattle.emission.proofs.listing.with_word.Reads as reads
-use Rattle.emission.proofs.listing.with_word.Lts as lts
 
 cast-longer : tie.Need-cast-longer
 cast-longer c = search needs

@@ -8,15 +8,9 @@ use Rattle.calculus.specs.Question.{forSome}
 use Rattle.calculus.specs.ShortRules.{shortRule5Atoms, shortRule5Fits}
 use mathlib.Core.Path.{_≡_, sym, ap, _∙_}
 use Prim.Native.Nat.{_-_}
-use native.Mathlib.Omega.{arith}
 use borrow.Author.Needs.{needs}
 use Rattle.short_rules.proofs.fits.division_fits.Statement.{statement}
 use Rattle.short_rules.proofs.fits.division_fits.Tie as tie
-use Rattle.short_rules.proofs.fits.division_fits.Reads as reads
-use Rattle.short_rules.proofs.fits.division_fits.Lts as lts
-use Rattle.question.proofs.node.decode.Reads as decode-reads
-use Rattle.conditions.proofs.leaves.leaves_of.Reads as leaves-of-reads
-use Rattle.short_rules.proofs.fits.short_rule_5_fits.Reads as short-rule-5-fits-reads
 
 -- the "some" that was decoded: its parts, and what it reads as
 some-node : (c : tie.After-known-told) → Some (c .before .node .given .0 .0) (c .before .node .given .0 .1 .0) (c .before .node .given .0 .1 .1 .0) ≡ nodeAt (c .before .before .before .before .before .args .words .now) (c .before .before .before .before .before .args .reference - 1)

@@ -1,18 +1,15 @@
 use Rattle.short_rules.proofs.ProjectLaws.{other-number, same-on, same-stop, same-end}
-use Prim.Native.Nat.{ℕ, _+_, _-_, _≤_}
-use mathlib.Core.Path.{_≡_, refl, sym, ap, _∙_}
+use Prim.Native.Nat.{_+_, _-_, _≤_}
+use mathlib.Core.Path.{_≡_, sym, _∙_}
 use mathlib.Core.List.{List}
-use lib.ListN.{length, getD, drop}
+use lib.ListN.{drop}
 use Rattle.relations.specs.Columns.{Attribute}
 use Rattle.calculus.specs.Scope.{columnsFrom}
 use Rattle.calculus.specs.ShortRules.{sameAttributes, shortRule1Fits}
 use Rattle.emission.specs.Listings.{listing, numbersOf}
-use borrow.Author.Needs.{needs}
 use native.Mathlib.Omega.{arith}
 use Rattle.short_rules.proofs.fits.short_rule_1_fits.Statement.{statement}
 use Rattle.short_rules.proofs.fits.short_rule_1_fits.Tie as tie
-use Rattle.short_rules.proofs.fits.short_rule_1_fits.Reads as reads
-use Rattle.short_rules.proofs.fits.short_rule_1_fits.Lts as lts
 
 abbrev Inv-loop : tie.InvT-loop
 Inv-loop width attributes i₀ i = (i ≤ width) × (attributes .used ≡ width) × ((listed : List Attribute) → attributes ≡ listing (numbersOf listed) → shortRule1Fits width listed ≡ sameAttributes (drop i listed) (columnsFrom (width - i) (i + 1)))

@@ -1,24 +1,15 @@
-use Prim.Native.Nat.{ℕ}
+use Prim.Native.Nat.{ℕ, _+_, _≤_}
 use lib.Dec.{leb}
-use mathlib.Core.Bool.{and-true}
+use mathlib.Core.Bool.{and-true, _&&_, _||_}
 use Rattle.short_rules.proofs.RuleLaws.{rest, all-next, count-next}
 use Rattle.conditions.specs.Leaves.{atomsOf}
 use Rattle.calculus.specs.Leaves.{aloneOn, comparesWithOther}
 use Rattle.relations.specs.Lists.{all, filter}
 use lib.ListN.{length}
-use mathlib.Core.Bool.{_&&_, _||_}
 use mathlib.Core.Path.{_≡_, refl, ap, ap₂, sym, _∙_}
-use Prim.Native.Nat.{_+_, _≤_}
-use borrow.Author.Needs.{needs}
 use native.Mathlib.Omega.{arith}
 use Rattle.short_rules.proofs.fits.short_rule_2_atoms.Statement.{statement}
 use Rattle.short_rules.proofs.fits.short_rule_2_atoms.Tie as tie
-use Rattle.short_rules.proofs.fits.short_rule_2_atoms.Reads as reads
-use Rattle.short_rules.proofs.fits.short_rule_2_atoms.Lts as lts
-use Rattle.conditions.proofs.atom.alone_on.Reads as alone-on-reads
-use Rattle.conditions.proofs.atom.compares_with_other.Reads as compares-with-other-reads
-use Rattle.conditions.proofs.leaves.leaf.Reads as leaf-reads
-use Rattle.short_rules.proofs.fits.once.Reads as once-reads
 
 abbrev Inv-loop : tie.InvT-loop
 Inv-loop words x leaves fits₀ comparing₀ i₀ left₀ fits comparing i left = (i + left ≡ leaves .count)

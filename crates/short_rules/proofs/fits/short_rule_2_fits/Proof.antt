@@ -1,12 +1,8 @@
 use mathlib.Core.Bool.{_&&_}
 use mathlib.Core.Path.{ap}
-use native.Mathlib.Omega.{arith}
 use borrow.Author.Needs.{needs}
 use Rattle.short_rules.proofs.fits.short_rule_2_fits.Statement.{statement}
 use Rattle.short_rules.proofs.fits.short_rule_2_fits.Tie as tie
-use Rattle.short_rules.proofs.fits.short_rule_2_fits.Reads as reads
-use Rattle.short_rules.proofs.fits.short_rule_2_fits.Lts as lts
-use Rattle.short_rules.proofs.fits.short_rule_2_atoms.Reads as short-rule-2-atoms-reads
 
 short-rule-2-atoms-requires : tie.Need-short-rule-2-atoms-requires
 short-rule-2-atoms-requires c κs = search needs

@@ -7,17 +7,9 @@ use lib.ListN.{length}
 use mathlib.Core.Bool.{_&&_, _||_, and-true}
 use mathlib.Core.Path.{_≡_, refl, ap, ap₂, sym, _∙_}
 use Prim.Native.Nat.{ℕ, _+_, _≤_}
-use borrow.Author.Needs.{needs}
 use native.Mathlib.Omega.{arith}
 use Rattle.short_rules.proofs.fits.short_rule_5_fits.Statement.{statement}
 use Rattle.short_rules.proofs.fits.short_rule_5_fits.Tie as tie
-use Rattle.short_rules.proofs.fits.short_rule_5_fits.Reads as reads
-use Rattle.short_rules.proofs.fits.short_rule_5_fits.Lts as lts
-use Rattle.conditions.proofs.atom.alone_on.Reads as alone-on-reads
-use Rattle.conditions.proofs.atom.equates_outside.Reads as equates-outside-reads
-use Rattle.conditions.proofs.atom.equates_with.Reads as equates-with-reads
-use Rattle.conditions.proofs.leaves.leaf.Reads as leaf-reads
-use Rattle.short_rules.proofs.fits.once.Reads as once-reads
 
 abbrev Inv-loop : tie.InvT-loop
 Inv-loop words z y leaves fits₀ shared₀ outside₀ i₀ left₀ fits shared outside i left = (i + left ≡ leaves .count)

@@ -2,14 +2,9 @@ use Rattle.short_rules.specs.Rules.{links}
 use Rattle.question.specs.Trees.{atomOf}
 use mathlib.Core.Bool.{Bool}
 use mathlib.Core.Path.{sym, ap, _∙_}
-use native.Mathlib.Omega.{arith}
 use borrow.Author.Needs.{needs}
 use Rattle.short_rules.proofs.rules.links.Statement.{statement}
 use Rattle.short_rules.proofs.rules.links.Tie as tie
-use Rattle.short_rules.proofs.rules.links.Reads as reads
-use Rattle.short_rules.proofs.rules.links.Lts as lts
-use Rattle.conditions.proofs.atom.equates_outside.Reads as equates-outside-reads
-use Rattle.conditions.proofs.atom.equates_with.Reads as equates-with-reads
 
 equates-outside-requires : tie.Need-equates-outside-requires
 equates-outside-requires c κs = search needs

@@ -7,28 +7,17 @@ use Rattle.relations.specs.PlanWords.{tripleWords}
 use Rattle.emission.proofs.ListingLaws.{longer-then, longer-none}
 use Rattle.emission.specs.declared.listing.Listing.{Listing}
 use Rattle.emission.specs.Listings.{listing, Longer}
-use Rattle.conditions.specs.Leaves.{leafAt, atomsOf}
+use Rattle.conditions.specs.Leaves.{atomsOf}
 use Rattle.calculus.specs.Question as calculus
 use Rattle.relations.specs.Lists.{flat, filter}
 use lib.ListN.{length, length-append}
 use mathlib.Core.List.{List, [], _∷_}
 use mathlib.Core.Bool.{cond}
-use mathlib.Core.Path.{_≡_, refl, ap, ap₂, subst, sym, _∙_}
+use mathlib.Core.Path.{_≡_, ap, ap₂, subst, sym, _∙_}
 use Prim.Native.Nat.{ℕ, _+_, _-_, _≤_}
-use borrow.Author.Needs.{needs}
 use native.Mathlib.Omega.{arith}
 use Rattle.short_rules.proofs.rules.outside_triples.Statement.{statement}
 use Rattle.short_rules.proofs.rules.outside_triples.Tie as tie
-use Rattle.short_rules.proofs.rules.outside_triples.Reads as reads
-use Rattle.short_rules.proofs.rules.outside_triples.Lts as lts
-use Rattle.conditions.proofs.atom.equates_outside.Reads as equates-outside-reads
-use Rattle.conditions.proofs.atom.other_attribute.Reads as other-attribute-reads
-use Rattle.conditions.proofs.atom.other_variable.Reads as other-variable-reads
-use Rattle.emission.proofs.listing.no_list.Reads as no-list-reads
-use Rattle.conditions.proofs.leaves.leaf.Reads as leaf-reads
-use Rattle.short_rules.proofs.fits.once.Reads as once-reads
-use Rattle.emission.proofs.listing.with_triple_if.Reads as with-triple-if-reads
-use Rattle.conditions.proofs.scope.column_of.Reads as column-of-reads
 
 abbrev Inv-loop : tie.InvT-loop
 Inv-loop words scope z y leaves list₀ column₀ i₀ left₀ list column i left = (i + left ≡ leaves .count)

@@ -1,28 +1,20 @@
-use Rattle.conditions.specs.Leaves.{leafAt}
+use Rattle.conditions.specs.Leaves.{leafAt, atomsOf}
 use Rattle.calculus.specs.Question as calculus
-use Prim.Native.Nat.{ℕ, _-_}
+use Prim.Native.Nat.{ℕ, _-_, _+_, _≤_}
 use Rattle.short_rules.proofs.RuleLaws.{rest, triples-next, triples-fit}
 use Rattle.emission.proofs.ListingLaws.{longer-then, longer-none}
 use Rattle.emission.specs.declared.listing.Listing.{Listing}
 use Rattle.emission.specs.Listings.{listing, Longer}
-use Rattle.conditions.specs.Leaves.{atomsOf}
 use Rattle.conditions.specs.Scopes.{scopeOf}
 use Rattle.calculus.specs.ShortRules.{triplesOf}
 use Rattle.relations.specs.PlanWords.{tripleWords}
 use Rattle.relations.specs.Lists.{flat}
 use lib.ListN.{length, length-append}
 use mathlib.Core.List.{List, [], _∷_}
-use mathlib.Core.Path.{_≡_, refl, ap, subst, sym, _∙_}
-use Prim.Native.Nat.{_+_, _≤_}
-use borrow.Author.Needs.{needs}
+use mathlib.Core.Path.{_≡_, ap, subst, sym}
 use native.Mathlib.Omega.{arith}
 use Rattle.short_rules.proofs.rules.triples_of.Statement.{statement}
 use Rattle.short_rules.proofs.rules.triples_of.Tie as tie
-use Rattle.short_rules.proofs.rules.triples_of.Reads as reads
-use Rattle.short_rules.proofs.rules.triples_of.Lts as lts
-use Rattle.emission.proofs.listing.no_list.Reads as no-list-reads
-use Rattle.conditions.proofs.leaves.leaf.Reads as leaf-reads
-use Rattle.short_rules.proofs.rules.with_triple_of.Reads as with-triple-of-reads
 
 abbrev Inv-loop : tie.InvT-loop
 Inv-loop words scope x leaves list₀ i₀ left₀ list i left = (i + left ≡ leaves .count)

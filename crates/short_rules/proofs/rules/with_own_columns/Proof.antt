@@ -3,24 +3,17 @@ use Rattle.emission.proofs.ListingLaws.{longer-then, longer-none}
 use Rattle.emission.specs.declared.listing.Listing.{Listing}
 use Rattle.emission.specs.Listings.{Longer, numbersOf}
 use Rattle.short_rules.specs.Rules.{links}
-use Rattle.conditions.specs.Leaves.{leafAt, atomsOf}
+use Rattle.conditions.specs.Leaves.{atomsOf}
 use Rattle.calculus.specs.Leaves.{ownAttribute}
 use Rattle.calculus.specs.Question as calculus
 use Rattle.relations.specs.Lists.{filter}
 use lib.ListN.{length}
 use mathlib.Core.List.{List, map}
-use mathlib.Core.Path.{_≡_, refl, ap, subst, sym, _∙_}
-use Prim.Native.Nat.{ℕ, _+_, _-_, _≤_}
-use borrow.Author.Needs.{needs}
+use mathlib.Core.Path.{_≡_, ap, subst, sym, _∙_}
+use Prim.Native.Nat.{ℕ, _+_, _≤_}
 use native.Mathlib.Omega.{arith}
 use Rattle.short_rules.proofs.rules.with_own_columns.Statement.{statement}
 use Rattle.short_rules.proofs.rules.with_own_columns.Tie as tie
-use Rattle.short_rules.proofs.rules.with_own_columns.Reads as reads
-use Rattle.short_rules.proofs.rules.with_own_columns.Lts as lts
-use Rattle.conditions.proofs.atom.own_attribute.Reads as own-attribute-reads
-use Rattle.conditions.proofs.leaves.leaf.Reads as leaf-reads
-use Rattle.short_rules.proofs.rules.links.Reads as links-reads
-use Rattle.emission.proofs.listing.with_word_if.Reads as with-word-if-reads
 
 abbrev Inv-loop : tie.InvT-loop
 Inv-loop words outside z y leaves longer₀ i₀ left₀ longer i left = (i + left ≡ leaves .count)

@@ -10,22 +10,13 @@ use Rattle.question.specs.Trees.{operandOf, atomOf}
 use Rattle.calculus.specs.Scope.{columnNumber}
 use Rattle.relations.specs.Columns.{attribute}
 use lib.ListN.{length}
-use mathlib.Core.List.{List, []}
-use mathlib.Core.Path.{_≡_, refl, sym, ap, ap₂, subst, _∙_}
+use mathlib.Core.List.{List}
+use mathlib.Core.Path.{_≡_, sym, ap, ap₂, subst, _∙_}
 use Prim.Native.Nat.{ℕ}
 use native.Mathlib.Omega.{arith}
 use borrow.Author.Needs.{needs}
 use Rattle.short_rules.proofs.rules.with_triple_of.Statement.{statement}
 use Rattle.short_rules.proofs.rules.with_triple_of.Tie as tie
-use Rattle.short_rules.proofs.rules.with_triple_of.Reads as reads
-use Rattle.short_rules.proofs.rules.with_triple_of.Lts as lts
-use Rattle.conditions.proofs.atom.compares_with_other.Reads as compares-with-other-reads
-use Rattle.conditions.proofs.atom.other_attribute.Reads as other-attribute-reads
-use Rattle.conditions.proofs.atom.other_variable.Reads as other-variable-reads
-use Rattle.conditions.proofs.atom.own_attribute.Reads as own-attribute-reads
-use Rattle.conditions.proofs.atom.turned.Reads as turned-reads
-use Rattle.emission.proofs.listing.with_triple.Reads as with-triple-reads
-use Rattle.conditions.proofs.scope.column_of.Reads as column-of-reads
 
 compares-with-other-requires : tie.Need-compares-with-other-requires
 compares-with-other-requires c κs = search needs

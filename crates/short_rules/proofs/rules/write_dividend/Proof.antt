@@ -9,16 +9,13 @@ use Rattle.calculus.specs.ShortRules.{projectNodes, shortRule5Columns}
 use Rattle.calculus.specs.Leaves.{ownAttribute, equatesWith, equatesOutside}
 use Rattle.relations.specs.Lists.{filter}
 use lib.ListN.{length}
-use mathlib.Core.List.{List, [], _∷_, _++_, map}
+use mathlib.Core.List.{[], map}
 use mathlib.Core.Bool.{true, false}
-use mathlib.Core.Path.{_≡_, refl, ap, ap₂, subst, sym, _∙_}
-use Prim.Native.Nat.{ℕ, _+_, _≤_}
-use borrow.Author.Needs.{needs}
+use mathlib.Core.Path.{_≡_, ap, sym, _∙_}
+use Prim.Native.Nat.{ℕ, _≤_}
 use native.Mathlib.Omega.{arith}
 use Rattle.short_rules.proofs.rules.write_dividend.Statement.{statement}
 use Rattle.short_rules.proofs.rules.write_dividend.Tie as tie
-use Rattle.short_rules.proofs.rules.write_dividend.Reads as reads
-use Rattle.short_rules.proofs.rules.write_dividend.Lts as lts
 
 no-list-requires : tie.Need-no-list-requires
 no-list-requires c κs = tt

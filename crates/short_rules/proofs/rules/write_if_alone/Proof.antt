@@ -3,22 +3,14 @@ use Rattle.emission.proofs.WrittenLaws.{written-nothing, room-less, written-as}
 use Rattle.conditions.specs.Scopes.{scopeOf}
 use Rattle.question.specs.Trees.{atomOf}
 use Rattle.calculus.specs.ShortRules.{selectNode, selectNodes}
-use Rattle.calculus.specs.Leaves.{aloneOn}
-use Rattle.relations.specs.Nodes.{Node}
-use Rattle.relations.specs.Lists.{filter}
 use lib.ListN.{length}
-use mathlib.Core.List.{List, [], _∷_}
-use mathlib.Core.Bool.{true, false}
-use mathlib.Core.Path.{_≡_, refl, sym, ap, _∙_}
+use mathlib.Core.List.{[], _∷_}
+use mathlib.Core.Path.{_≡_, sym, ap, _∙_}
 use Prim.Native.Nat.{ℕ, _-_, pred}
 use native.Mathlib.Omega.{arith}
 use borrow.Author.Needs.{needs}
 use Rattle.short_rules.proofs.rules.write_if_alone.Statement.{statement}
 use Rattle.short_rules.proofs.rules.write_if_alone.Tie as tie
-use Rattle.short_rules.proofs.rules.write_if_alone.Reads as reads
-use Rattle.short_rules.proofs.rules.write_if_alone.Lts as lts
-use Rattle.conditions.proofs.atom.alone_on.Reads as alone-on-reads
-use Rattle.short_rules.proofs.rules.write_select.Reads as write-select-reads
 
 alone-on-requires : tie.Need-alone-on-requires
 alone-on-requires c κs = search needs

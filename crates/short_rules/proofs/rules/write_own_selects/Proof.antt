@@ -7,17 +7,12 @@ use Rattle.calculus.specs.ShortRules.{selectNodes}
 use Rattle.calculus.specs.Scope as calculus
 use Rattle.calculus.specs.Leaves.{aloneOn}
 use Rattle.relations.specs.Lists.{filter}
-use mathlib.Core.Path.{_≡_, sym, ap, subst, _∙_}
-use Prim.Native.Nat.{ℕ, pred}
+use mathlib.Core.Path.{sym, ap, subst, _∙_}
+use Prim.Native.Nat.{pred}
 use native.Mathlib.Omega.{arith}
 use borrow.Author.Needs.{needs}
 use Rattle.short_rules.proofs.rules.write_own_selects.Statement.{statement}
 use Rattle.short_rules.proofs.rules.write_own_selects.Tie as tie
-use Rattle.short_rules.proofs.rules.write_own_selects.Reads as reads
-use Rattle.short_rules.proofs.rules.write_own_selects.Lts as lts
-use Rattle.short_rules.proofs.rules.write_selects.Reads as write-selects-reads
-use Rattle.conditions.proofs.scope.empty.Reads as empty-reads
-use Rattle.conditions.proofs.scope.extend.Reads as extend-reads
 
 empty-requires : tie.Need-empty-requires
 empty-requires c κs = search needs

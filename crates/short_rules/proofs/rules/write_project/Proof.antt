@@ -1,16 +1,11 @@
 use Rattle.emission.proofs.WrittenLaws.{written-nothing, written-as}
 use Rattle.relations.specs.Nodes.{project}
 use mathlib.Core.List.{[], _∷_}
-use mathlib.Core.Bool.{Bool, _&&_, cond}
-use mathlib.Core.Path.{_≡_, sym, ap, _∙_}
-use native.Mathlib.Omega.{arith}
+use mathlib.Core.Bool.{_&&_, cond}
+use mathlib.Core.Path.{sym, ap, _∙_}
 use borrow.Author.Needs.{needs}
 use Rattle.short_rules.proofs.rules.write_project.Statement.{statement}
 use Rattle.short_rules.proofs.rules.write_project.Tie as tie
-use Rattle.short_rules.proofs.rules.write_project.Reads as reads
-use Rattle.short_rules.proofs.rules.write_project.Lts as lts
-use Rattle.emission.proofs.emit.project.Reads as project-reads
-use Rattle.short_rules.proofs.fits.short_rule_1_fits.Reads as short-rule-1-fits-reads
 
 short-rule-1-fits-requires : tie.Need-short-rule-1-fits-requires
 short-rule-1-fits-requires c κs = search needs

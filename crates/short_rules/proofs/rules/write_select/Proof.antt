@@ -4,20 +4,14 @@ use Rattle.conditions.specs.Scopes.{scopeOf}
 use Rattle.conditions.specs.Atoms.{operatorNamed}
 use Rattle.calculus.specs.ShortRules.{selectNode}
 use Rattle.calculus.specs.Question as calculus
-use Rattle.relations.specs.Nodes.{Node, selectConstant, selectAttribute}
+use Rattle.relations.specs.Nodes.{selectConstant, selectAttribute}
 use Rattle.relations.specs.Columns.{attribute, constant}
-use mathlib.Core.List.{List, [], _∷_}
-use mathlib.Core.Path.{_≡_, refl, sym, ap, ap₂, _∙_}
+use mathlib.Core.List.{[], _∷_}
+use mathlib.Core.Path.{sym, ap, ap₂, _∙_}
 use Prim.Native.Nat.{ℕ}
-use native.Mathlib.Omega.{arith}
 use borrow.Author.Needs.{needs}
 use Rattle.short_rules.proofs.rules.write_select.Statement.{statement}
 use Rattle.short_rules.proofs.rules.write_select.Tie as tie
-use Rattle.short_rules.proofs.rules.write_select.Reads as reads
-use Rattle.short_rules.proofs.rules.write_select.Lts as lts
-use Rattle.emission.proofs.emit.select_attribute.Reads as select-attribute-reads
-use Rattle.emission.proofs.emit.select_constant.Reads as select-constant-reads
-use Rattle.conditions.proofs.scope.column_of.Reads as column-of-reads
 
 column-of-requires : tie.Need-column-of-requires
 column-of-requires c κs = search needs

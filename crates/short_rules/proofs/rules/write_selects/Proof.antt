@@ -1,8 +1,7 @@
 use Rattle.calculus.proofs.SizeTheorem.{selects-size}
-use Rattle.short_rules.proofs.RuleLaws.{alone-count}
+use Rattle.short_rules.proofs.RuleLaws.{alone-count, rest, selects-next, count-next}
 use Rattle.calculus.specs.Question as calculus
-use Prim.Native.Nat.{_-_}
-use Rattle.short_rules.proofs.RuleLaws.{rest, selects-next, count-next}
+use Prim.Native.Nat.{_-_, ℕ, _+_, _≤_, pred}
 use Rattle.emission.proofs.WrittenLaws.{written-then, written-nothing, written-length, room-after, room-less, written-as}
 use Rattle.emission.specs.Written.{Room, Written}
 use Rattle.conditions.specs.Leaves.{leafAt, atomsOf}
@@ -12,16 +11,10 @@ use Rattle.calculus.specs.Leaves.{aloneOn}
 use Rattle.relations.specs.Lists.{filter}
 use lib.ListN.{length}
 use mathlib.Core.List.{List, [], _∷_}
-use mathlib.Core.Path.{_≡_, refl, ap, subst, sym, _∙_}
-use Prim.Native.Nat.{ℕ, _+_, _≤_, pred}
-use borrow.Author.Needs.{needs}
+use mathlib.Core.Path.{_≡_, refl, ap, sym}
 use native.Mathlib.Omega.{arith}
 use Rattle.short_rules.proofs.rules.write_selects.Statement.{statement}
 use Rattle.short_rules.proofs.rules.write_selects.Tie as tie
-use Rattle.short_rules.proofs.rules.write_selects.Reads as reads
-use Rattle.short_rules.proofs.rules.write_selects.Lts as lts
-use Rattle.conditions.proofs.leaves.leaf.Reads as leaf-reads
-use Rattle.short_rules.proofs.rules.write_if_alone.Reads as write-if-alone-reads
 
 abbrev Inv-loop : tie.InvT-loop
 Inv-loop words own x leaves plan₀ n count₀ i₀ left₀ plan count i left = (i + left ≡ leaves .count)

@@ -4,19 +4,13 @@ use Rattle.conditions.specs.Leaves.{atomsOf}
 use Rattle.conditions.specs.Scopes.{scopeOf}
 use Rattle.calculus.specs.ShortRules.{triplesOf}
 use Rattle.relations.specs.Nodes.{antijoin}
-use lib.ListN.{length}
 use mathlib.Core.List.{[], _∷_}
-use mathlib.Core.Path.{_≡_, sym, ap, _∙_}
+use mathlib.Core.Path.{ap}
 use Prim.Native.Nat.{ℕ}
 use native.Mathlib.Omega.{arith}
 use borrow.Author.Needs.{needs}
 use Rattle.short_rules.proofs.rules.write_short_rule_3.Statement.{statement}
 use Rattle.short_rules.proofs.rules.write_short_rule_3.Tie as tie
-use Rattle.short_rules.proofs.rules.write_short_rule_3.Reads as reads
-use Rattle.short_rules.proofs.rules.write_short_rule_3.Lts as lts
-use Rattle.emission.proofs.emit.antijoin.Reads as antijoin-reads
-use Rattle.short_rules.proofs.rules.triples_of.Reads as triples-of-reads
-use Rattle.short_rules.proofs.rules.write_own_selects.Reads as write-own-selects-reads
 
 triples-of-requires : tie.Need-triples-of-requires
 triples-of-requires c κs = search needs

@@ -8,15 +8,10 @@ use Rattle.relations.specs.Lists.{filter}
 use Rattle.relations.specs.Limits.{tripleLimit}
 use lib.ListN.{length}
 use mathlib.Core.Path.{sym, ap, subst}
-use Prim.Native.Nat.{ℕ, _≤_}
-use native.Mathlib.Omega.{arith}
+use Prim.Native.Nat.{_≤_}
 use borrow.Author.Needs.{needs}
 use Rattle.short_rules.proofs.rules.write_short_rule_4.Statement.{statement}
 use Rattle.short_rules.proofs.rules.write_short_rule_4.Tie as tie
-use Rattle.short_rules.proofs.rules.write_short_rule_4.Reads as reads
-use Rattle.short_rules.proofs.rules.write_short_rule_4.Lts as lts
-use Rattle.conditions.proofs.leaves.opposites.Reads as opposites-reads
-use Rattle.short_rules.proofs.rules.write_short_rule_3.Reads as write-short-rule-3-reads
 
 opposites-requires : tie.Need-opposites-requires
 opposites-requires c κs = search needs

@@ -9,14 +9,12 @@ use Rattle.calculus.specs.Leaves.{equatesWith, equatesOutside}
 use Rattle.relations.specs.PlanWords.{pairWords}
 use Rattle.relations.specs.Lists.{flat, filter}
 use lib.ListN.{length}
-use mathlib.Core.List.{List, []}
-use mathlib.Core.Path.{_≡_, refl, ap, sym, _∙_}
+use mathlib.Core.List.{[]}
+use mathlib.Core.Path.{_≡_, ap, _∙_}
 use Prim.Native.Nat.{ℕ, suc, _+_, _/_}
 use native.Mathlib.Omega.{arith}
 use Rattle.short_rules.proofs.rules.write_short_rule_5.Statement.{statement}
 use Rattle.short_rules.proofs.rules.write_short_rule_5.Tie as tie
-use Rattle.short_rules.proofs.rules.write_short_rule_5.Reads as reads
-use Rattle.short_rules.proofs.rules.write_short_rule_5.Lts as lts
 
 outside-triples-requires : tie.Need-outside-triples-requires
 outside-triples-requires c κs = (c .before .before .pre .0, c .before .before .pre .1 .leaves-fit, c .before .before .pre .1 .few-outside)

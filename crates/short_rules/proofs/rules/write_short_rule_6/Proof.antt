@@ -4,14 +4,9 @@ use Rattle.calculus.specs.ShortRules.{selectNode}
 use Rattle.calculus.specs.Question as calculus
 use mathlib.Core.List.{[], _∷_}
 use mathlib.Core.Path.{sym, ap}
-use native.Mathlib.Omega.{arith}
 use borrow.Author.Needs.{needs}
 use Rattle.short_rules.proofs.rules.write_short_rule_6.Statement.{statement}
 use Rattle.short_rules.proofs.rules.write_short_rule_6.Tie as tie
-use Rattle.short_rules.proofs.rules.write_short_rule_6.Reads as reads
-use Rattle.short_rules.proofs.rules.write_short_rule_6.Lts as lts
-use Rattle.conditions.proofs.atom.opposite_atom.Reads as opposite-atom-reads
-use Rattle.short_rules.proofs.rules.write_select.Reads as write-select-reads
 
 opposite-atom-requires : tie.Need-opposite-atom-requires
 opposite-atom-requires c κs = search needs

@@ -1,7 +1,6 @@
-use Prim.Native.Nat.{_+_, _*_, max}
+use Prim.Native.Nat.{_+_, _*_, max, ℕ, _<_, _-_}
 use borrow.Author.Needs.{needs}
 use native.Mathlib.Omega.{arith}
-use Prim.Native.Nat.{ℕ, _<_}
 use borrow.Fn.Kinds.{In}
 use borrow.Fn.PlainCycle.{Measures, is, falls, and}
 use Rattle.translation.proofs.translate.translate_alpha.Reads as translate-alpha
@@ -55,27 +54,20 @@ use Rattle.short_rules.proofs.fits.division_fits.Reads as division-fits-reads
 use Rattle.short_rules.proofs.fits.opposite_fits.Reads as opposite-fits-reads
 use Rattle.translation.proofs.translate.translate_table.Reads as translate-table-reads
 use Rattle.translation.proofs.translate.with_targets.Reads as with-targets-reads
-use Rattle.translation.proofs.translate.+translate_alpha+translate_bindings+translate_condition+translate_division+translate_every+translate_inside+translate_opposite+translate_range+translate_some.{
-  statement,
-}
-use Rattle.translation.proofs.translate.+translate_alpha+translate_bindings+translate_condition+translate_division+translate_every+translate_inside+translate_opposite+translate_range+translate_some.Tie.{
-  close,
-}
+use Rattle.translation.proofs.translate.+translate_alpha+translate_bindings+translate_condition+translate_division+translate_every+translate_inside+translate_opposite+translate_range+translate_some.{statement}
+use Rattle.translation.proofs.translate.+translate_alpha+translate_bindings+translate_condition+translate_division+translate_every+translate_inside+translate_opposite+translate_range+translate_some.Tie.{close}
 use Rattle.translation.proofs.RangeSteps.{Sides, or-sides, and-sides, and-not-sides, call-left, call-right, room-last, sides-done, room-one, done-as, call-alpha}
-use Rattle.question.specs.declared.node.Node.the-variants.{Table, Alpha}
+use Rattle.question.specs.declared.node.Node.the-variants.{Table, Alpha, Some, Atom as AtomNode}
 use Rattle.relations.specs.Nodes.{unite, intersect, subtract}
-use mathlib.Core.Path.{sym, _∙_}
+use mathlib.Core.Path.{sym, _∙_, _≡_, ap, subst}
 use Rattle.translation.proofs.BindingSteps.{Chain, chain, call-bound, room-product, scope-grows, call-next, bindings-done, no-more-done}
 use Rattle.translation.proofs.AlphaSteps.{AlphaAsked, alpha-asked, call-first, scope-starts, call-rest, some-joined, call-condition, some-kept, list-targets, room-project, alpha-done, no-alpha}
-use Prim.Native.Nat.{_-_}
-use mathlib.Core.Path.{_≡_, sym, ap, _∙_}
 use mathlib.Core.Bool.{Bool, true, _&&_}
 use Rattle.relations.proofs.BoolLaws.{and-right, true-and-false}
 use Rattle.calculus.specs.Scope.{columnsIn, allColumns}
 use Rattle.calculus.specs.ShortRules.{shortRule5Fits}
 use Rattle.question.specs.Nodes.{nodeAt}
-use Rattle.question.specs.declared.node.Node.the-variants.{Some}
-use Rattle.conditions.specs.Readings.{Names, conditionAt}
+use Rattle.conditions.specs.Readings.{Names, conditionAt, rangeAt}
 use Rattle.conditions.specs.Scopes.{scopeOf}
 use Rattle.emission.proofs.WrittenLaws.{room-after, room-less}
 use Rattle.translation.proofs.QuantifierSteps.{inside-restricts, columns-room, columns-listed, some-ready, every-ready, range-ready, few-nodes, inside-ready, division-ready, room-plain, inside-condition-ready, inside-written, rule-test, rule-2-ready, rule-4-ready, some-by-rule-2, some-by-rule-3, every-by-rule-4, every-by-rule-5, some-plain, every-plain}
@@ -84,20 +76,12 @@ use Rattle.translation.proofs.ConditionSteps.{TwoSides, OneInner, Quant
 use Rattle.conditions.proofs.Readings.{named, range-is, bindings-is, bindings-none, condition-is, restriction-is, restriction-none, some-parts}
 use Rattle.conditions.proofs.OtherNodes.{no-range, no-bindings, no-restriction}
 use Rattle.conditions.proofs.LeafLaws.{collectable}
-use Rattle.conditions.specs.Readings.{rangeAt, conditionAt}
-use Rattle.conditions.specs.Scopes.{scopeOf}
 use Rattle.catalogue.specs.Stored.{relationsOf, columnsOf}
-use Rattle.question.specs.Nodes.{nodeAt}
-use Rattle.question.specs.declared.node.Node.the-variants.{Atom as AtomNode, Some}
 use Rattle.question.specs.Trees.{atomOf}
-use Rattle.calculus.specs.Question.{Condition, atom, conditionAnd, conditionOr, forSome, forEvery}
+use Rattle.calculus.specs.Question.{Condition, conditionAnd, conditionOr, forSome, forEvery}
 use Rattle.calculus.specs.Form.{GoodCondition}
-use Rattle.relations.proofs.BoolLaws.{and-right}
 use Rattle.conditions.specs.declared.scope.Scope.{Scope}
 use mathlib.Core.List.{List}
-use mathlib.Core.Bool.{_&&_}
-use mathlib.Core.Path.{_≡_, sym, ap, subst, _∙_}
-use Prim.Native.Nat.{_-_}
 use Rattle.short_rules.proofs.FitLaws.{oppositeFits, some-opposite, not-divided, no-opposite}
 
 abbrev μ-translate-alpha : Measures 3 translate-alpha-kinds.ps ℕ

@@ -1,5 +1,5 @@
 use Rattle.relations.specs.Columns.{Attribute}
-use lib.ListN.{length-map}
+use lib.ListN.{length-map, length, length-append}
 use Rattle.translation.proofs.TargetLaws.{targets-next}
 use Rattle.conditions.proofs.OtherNodes.{no-targets}
 use Rattle.conditions.proofs.Readings.{fits-in, named, targets-is, targets-none}
@@ -15,13 +15,10 @@ use Rattle.calculus.specs.Form.{GoodTarget}
 use Rattle.calculus.specs.Scope.{targetColumns}
 use Rattle.calculus.specs.Question as calculus
 use Rattle.relations.specs.Lists.{All, flat}
-use lib.ListN.{length, length-append}
-use mathlib.Core.List.{List, []}
-use mathlib.Core.Path.{_≡_, refl, sym, ap, subst, _∙_}
-use Prim.Native.Nat.{_-_, _≤_}
-use borrow.Author.Needs.{needs}
+use mathlib.Core.List.{List}
+use mathlib.Core.Path.{_≡_, sym, ap, subst, _∙_}
+use Prim.Native.Nat.{_-_, _≤_, ℕ, _<_}
 use native.Mathlib.Omega.{arith}
-use Prim.Native.Nat.{ℕ, _<_}
 use borrow.Fn.Kinds.{In}
 use borrow.Fn.PlainCycle.{Measures, is, falls, and}
 use Rattle.translation.proofs.translate.with_targets.Reads as with-targets

@@ -3,8 +3,6 @@ use Rattle.calculus.specs.Translation.{translateRange}
 use native.Mathlib.Omega.{arith}
 use Rattle.translation.proofs.translate.translate_table.Statement.{statement}
 use Rattle.translation.proofs.translate.translate_table.Tie as tie
-use Rattle.translation.proofs.translate.translate_table.Reads as reads
-use Rattle.translation.proofs.translate.translate_table.Lts as lts
 
 load-requires : tie.Need-load-requires
 load-requires c κs = c .before .before .before .pre

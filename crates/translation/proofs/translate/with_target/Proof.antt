@@ -4,17 +4,15 @@ use Rattle.conditions.specs.Scopes.{scopeOf}
 use Rattle.calculus.proofs.LegalColumns.{column-at-most}
 use Rattle.calculus.proofs.ScopeLaws.{columns-length}
 use Rattle.calculus.specs.Form.{GoodTarget}
-use Rattle.calculus.specs.Scope.{columnsIn, widthIn, columnNumber, columnsFrom, targetColumns}
+use Rattle.calculus.specs.Scope.{widthIn, columnNumber, columnsFrom, targetColumns}
 use Rattle.calculus.specs.Question as calculus
 use lib.ListN.{length}
 use mathlib.Core.List.{List, [], _∷_}
-use mathlib.Core.Path.{_≡_, refl, sym, ap, ap₂, subst, _∙_}
+use mathlib.Core.Path.{sym, ap, ap₂, subst, _∙_}
 use Prim.Native.Nat.{ℕ, _≤_}
 use native.Mathlib.Omega.{arith}
 use Rattle.translation.proofs.translate.with_target.Statement.{statement}
 use Rattle.translation.proofs.translate.with_target.Tie as tie
-use Rattle.translation.proofs.translate.with_target.Reads as reads
-use Rattle.translation.proofs.translate.with_target.Lts as lts
 
 column-number-requires : tie.Need-column-number-requires
 column-number-requires c κs = (c .before .pre .0, omega arith)
