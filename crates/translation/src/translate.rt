@@ -2,41 +2,32 @@
 ghost use mathlib.Core.Path.{_≡_};
 ghost use mathlib.Core.Bool.{true, _||_};
 ghost use mathlib.Core.List.{[], _∷_};
-ghost use Prim.Native.Nat.{suc, _+_, _≤_, pred};
-ghost use lib.ListN.{length};
-ghost use Rattle.relations.specs.Limits.{listWords};
-ghost use Rattle.relations.specs.Lists.{All, flat};
+ghost use Prim.Native.Nat.{suc, pred};
 ghost use Rattle.calculus.specs.Question as calculus;
-ghost use Rattle.calculus.specs.Scope.{targetColumns};
 ghost use Rattle.calculus.specs.Scope as scopes;
 ghost use Rattle.relations.specs.Nodes as nodes;
-ghost use Rattle.calculus.specs.Form.{GoodTarget};
 ghost use Rattle.calculus.specs.ShortRules.{shortRule3Fits, shortRule5Fits, shortRule6Fits};
 ghost use Rattle.calculus.specs.Translation.{itself, itsOpposite, divisionBy, translateMaybe, translateCondition};
 ghost use Rattle.catalogue.specs.Stored.{columnsOf};
-ghost use Rattle.question.specs.Trees.{alphaOf, targetOf};
+ghost use Rattle.question.specs.Trees.{alphaOf};
 ghost use Rattle.conditions.specs.Readings.{Inside, Names, rangeAt, targetsAt, bindingsAt, restrictionAt, conditionAt};
-ghost use Rattle.conditions.specs.Scopes.{scopeOf, ScopeFits};
-ghost use Rattle.emission.specs.Listings.{Longer, numbersOf};
+ghost use Rattle.conditions.specs.Scopes.{scopeOf};
 ghost use Rattle.emission.specs.Written.{Room, Written};
 ghost use Rattle.translation.specs.Translating.{RangeReady, RangeDone, BindingsReady, BindingsDone, ConditionReady, InsideReady, DivisionReady};
+use crate::targets::with_targets;
 use catalogue::stored::columns_of;
 use conditions::leaves::leaves_of;
 use conditions::scope::Scope;
-use conditions::scope::column_number;
 use conditions::scope::empty;
 use conditions::scope::extend;
-use conditions::scope::width_in;
 use emission::emit::intersect;
 use emission::emit::load;
 use emission::emit::product;
 use emission::emit::project;
 use emission::emit::subtract;
 use emission::emit::unite;
-use emission::listing::Listing;
 use emission::listing::no_list;
 use emission::listing::with_columns;
-use emission::listing::with_word;
 use question::node::Node;
 use question::node::decode;
 use short_rules::fits::division_fits;
@@ -72,44 +63,6 @@ fn translate_table(catalogue: &[u32], short: bool, relation: u32, plan: &mut [u3
     Made {
         count,
         width: columns_of(catalogue, relation as usize),
-    }
-}
-
-// A target's columns behind those of the list; attribute 0 is the whole row.
-fn with_target(scope: Scope, variable: u32, attribute: u32, list: Listing) -> Listing
-    requires { ⌜ ScopeFits scope × GoodTarget (scopeOf scope) (targetOf variable attribute) × (list .used + length (targetColumns (scopeOf scope) (targetOf variable attribute)) ≤ listWords) ⌝ }
-    ensures { λ r. ⌜ Longer list (numbersOf (targetColumns (scopeOf scope) (targetOf variable attribute))) r ⌝ }
-{
-    if attribute == 0 {
-        return with_columns(
-            list,
-            column_number(scope, variable, 1),
-            width_in(scope, variable),
-        );
-    }
-    with_word(list, column_number(scope, variable, attribute))
-}
-
-fn with_targets(words: &[u32], reference: u32, scope: Scope, list: Listing) -> Listing
-    requires { ⌜ Inside (now words) reference × ScopeFits scope × All (GoodTarget (scopeOf scope)) (targetsAt (now words) reference) × (list .used + length (flat (targetColumns (scopeOf scope)) (targetsAt (now words) reference)) ≤ listWords) ⌝ }
-    ensures { λ r. ⌜ Longer list (numbersOf (flat (targetColumns (scopeOf scope)) (targetsAt (now (words .entry)) reference))) r ⌝ }
-{
-    if reference == 0 {
-        return list;
-    }
-    let node = decode(words, (reference - 1) as usize);
-    match node {
-        Node::Target {
-            variable,
-            attribute,
-            next,
-        } => with_targets(
-            words,
-            next,
-            scope,
-            with_target(scope, variable, attribute, list),
-        ),
-        _ => list,
     }
 }
 

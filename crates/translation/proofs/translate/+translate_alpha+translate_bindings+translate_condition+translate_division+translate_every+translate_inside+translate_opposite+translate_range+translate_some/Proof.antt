@@ -53,7 +53,7 @@ use Rattle.conditions.proofs.scope.extend.Reads as extend-reads
 use Rattle.short_rules.proofs.fits.division_fits.Reads as division-fits-reads
 use Rattle.short_rules.proofs.fits.opposite_fits.Reads as opposite-fits-reads
 use Rattle.translation.proofs.translate.translate_table.Reads as translate-table-reads
-use Rattle.translation.proofs.translate.with_targets.Reads as with-targets-reads
+use Rattle.translation.proofs.targets.with_targets.Reads as with-targets-reads
 use Rattle.translation.proofs.translate.+translate_alpha+translate_bindings+translate_condition+translate_division+translate_every+translate_inside+translate_opposite+translate_range+translate_some.{statement}
 use Rattle.translation.proofs.translate.+translate_alpha+translate_bindings+translate_condition+translate_division+translate_every+translate_inside+translate_opposite+translate_range+translate_some.Tie.{close}
 use Rattle.translation.proofs.RangeSteps.{Sides, or-sides, and-sides, and-not-sides, call-left, call-right, room-last, sides-done, room-one, done-as, call-alpha}
