@@ -1,6 +1,6 @@
 -- The leaves passed one by one: tests of all, counts, and lists made from those that pass a test. Assumes nothing.
 use Rattle.calculus.proofs.SizeTheorem.{selects-size, projects-size}
-use Prim.Native.Nat.{ℕ, suc, _+_, _*_, _-_, _≤_, _<_, pred}
+use Prim.Native.Nat.{ℕ, suc, _+_, _*_, _-_, _≤_, _<_, pred, _/_}
 use mathlib.Core.Path.{_≡_, refl, sym, ap, ap₂, _∙_}
 use mathlib.Core.Bool.{Bool, true, false, not, cond, _&&_, false≢true, and-assoc}
 use mathlib.Core.List.{List, [], _∷_, _++_, map}
@@ -12,7 +12,7 @@ use Rattle.relations.specs.Limits.{tripleLimit, listWords}
 use Rattle.relations.specs.Comparison.{Operator, operatorNumber, turned}
 use Rattle.relations.specs.PlanWords.{tripleWords, pairWords}
 use Rattle.relations.proofs.ListLaws.{length-flat}
-use Rattle.calculus.specs.Leaves.{aloneOn, comparesWithOther, ownAttribute, otherVariable, otherAttribute}
+use Rattle.calculus.specs.Leaves.{aloneOn, comparesWithOther, ownAttribute, otherVariable, otherAttribute, equatesWith, equatesOutside}
 use Rattle.calculus.specs.ShortRules.{lastNumber, selectNodes, projectNodes, tripleOf, triplesOf, outsideTriples, divisionPairs, shortRule5Columns}
 use Rattle.relations.specs.Columns.{Attribute, Triple, Pair}
 use Rattle.relations.specs.Lists.{all, filter, flat}
@@ -21,7 +21,8 @@ use Rattle.calculus.specs.Question as calculus
 use Rattle.calculus.specs.Scope.{entry, Scope, columnNumber}
 use Rattle.conditions.specs.Entries.{entries}
 use Rattle.conditions.specs.Leaves.{leafAt}
-use Rattle.emission.specs.Listings.{numbersOf}
+use Rattle.emission.specs.Listings.{listing, numbersOf}
+use Rattle.emission.specs.declared.listing.Listing.{Listing}
 use Rattle.emission.specs.Written.{Written}
 use Rattle.short_rules.specs.Rules.{selectsBehind, dividendBehind}
 use Rattle.conditions.specs.declared.leaves.Leaves.{Leaves}
@@ -142,6 +143,14 @@ pairs-size z (a ∷ atoms) column = omega (arith, pairs-size z atoms (suc column
 pub outside-size : (s : Scope) (z : ℕ) (atoms : List calculus.Atom) (column : ℕ) → length (flat tripleWords (outsideTriples s z atoms column)) ≡ 3 * length atoms
 outside-size s z [] column = refl
 outside-size s z (a ∷ atoms) column = omega (arith, outside-size s z atoms (suc column))
+
+-- S5's columns: those of the equations with a variable outside stand first
+module _ (s : Scope) (z y : ℕ) (atoms : List calculus.Atom) {triples : Listing} (outside : triples ≡ listing (flat tripleWords (outsideTriples s z (filter (equatesOutside z y) atoms) 1))) where
+  pub outside-count : triples .used / 3 + 1 ≡ suc (length (filter (equatesOutside z y) atoms))
+  outside-count = omega (arith, ap (λ (list : Listing). list .used) outside, outside-size s z (filter (equatesOutside z y) atoms) 1)
+
+  pub pairs-counted : {pairs : Listing} → pairs ≡ listing (flat pairWords (divisionPairs z (filter (equatesWith z y) atoms) (triples .used / 3 + 1))) → pairs ≡ listing (flat pairWords (divisionPairs z (filter (equatesWith z y) atoms) (suc (length (filter (equatesOutside z y) atoms)))))
+  pairs-counted e = e ∙ ap (λ (first : ℕ). listing (flat pairWords (divisionPairs z (filter (equatesWith z y) atoms) first))) outside-count
 
 pub own-size : (z : ℕ) (atoms : List calculus.Atom) → length (numbersOf (map (ownAttribute z) atoms)) ≡ length atoms
 own-size z atoms = length-map (map (ownAttribute z) atoms) (λ a. a .number) ∙ length-map atoms (ownAttribute z)
