@@ -32,8 +32,8 @@ use Rattle.question.proofs.Accepted.{accepted-right, accepted-passed}
 use Rattle.question.proofs.Counts.{counted}
 use Rattle.translation.specs.TranslateCall.{TranslateOutcome, planOf, planBufferWords, unwritten, written, judgedOutcome, behindCatalogue, isShort, translateOutcome}
 use Rattle.emission.specs.HeavyCount.{heavyIn}
-use Rattle.translation.specs.Translating.{RangeReady, RangeDone}
-use Rattle.translation.specs.declared.translate.Made.{Made}
+use Rattle.planning.specs.Translating.{RangeReady, RangeDone}
+use Rattle.planning.specs.declared.translate.Made.{Made}
 use Rattle.emission.proofs.HeavyLaws.{heavy-written}
 
 module _ (catalogue question : List ℕ) (ok : catalogueOk catalogue ≡ true) (accepted : judged catalogue question ≡ Accepted) where

@@ -1,4 +1,2 @@
 -- What a call leaves
 pub mod TranslateCall
--- What translating asks for and leaves
-pub mod Translating

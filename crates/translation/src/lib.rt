@@ -1,4 +1,2 @@
 // Translation: an accepted question's node table becomes exactly the plan words that the rules name.
 pub mod call;
-pub mod targets;
-pub mod translate;

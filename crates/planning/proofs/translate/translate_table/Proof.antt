@@ -1,8 +1,8 @@
 use Rattle.calculus.specs.Form.{widthOfRange}
 use Rattle.calculus.specs.Translation.{translateRange}
 use native.Mathlib.Omega.{arith}
-use Rattle.translation.proofs.translate.translate_table.Statement.{statement}
-use Rattle.translation.proofs.translate.translate_table.Tie as tie
+use Rattle.planning.proofs.translate.translate_table.Statement.{statement}
+use Rattle.planning.proofs.translate.translate_table.Tie as tie
 
 load-requires : tie.Need-load-requires
 load-requires c κs = c .before .before .before .pre

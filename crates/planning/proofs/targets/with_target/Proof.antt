@@ -1,4 +1,4 @@
-use Rattle.translation.proofs.TargetLaws.{whole-target, one-target, width-inside}
+use Rattle.planning.proofs.TargetLaws.{whole-target, one-target, width-inside}
 use Rattle.emission.specs.Listings.{Longer, numbersOf}
 use Rattle.conditions.specs.Scopes.{scopeOf}
 use Rattle.calculus.proofs.LegalColumns.{column-at-most}
@@ -11,8 +11,8 @@ use mathlib.Core.List.{List, [], _∷_}
 use mathlib.Core.Path.{sym, ap, ap₂, subst, _∙_}
 use Prim.Native.Nat.{ℕ, _≤_}
 use native.Mathlib.Omega.{arith}
-use Rattle.translation.proofs.targets.with_target.Statement.{statement}
-use Rattle.translation.proofs.targets.with_target.Tie as tie
+use Rattle.planning.proofs.targets.with_target.Statement.{statement}
+use Rattle.planning.proofs.targets.with_target.Tie as tie
 
 column-number-requires : tie.Need-column-number-requires
 column-number-requires c κs = (c .before .pre .0, omega arith)

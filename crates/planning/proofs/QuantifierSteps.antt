@@ -24,17 +24,17 @@ use Rattle.emission.specs.Listings.{listing, Longer, numbersOf}
 use Rattle.conditions.specs.Readings.{conditionAt, restrictionAt}
 use Rattle.short_rules.specs.Rules.{selectsBehind, semijoinBehind, antijoinBehind, RuleFits}
 use Rattle.conditions.specs.Scopes.{scopeOf, ScopeFits, Extended}
-use Rattle.translation.specs.Translating.{RangeReady, RangeDone, ConditionReady, InsideReady, DivisionReady}
+use Rattle.planning.specs.Translating.{RangeReady, RangeDone, ConditionReady, InsideReady, DivisionReady}
 use Rattle.emission.specs.Written.{Room, Written}
 use Rattle.emission.specs.declared.listing.Listing.{Listing}
 use Rattle.conditions.specs.declared.leaves.Leaves.{Leaves}
 use Rattle.conditions.specs.declared.scope.Scope.{Scope}
-use Rattle.translation.specs.declared.translate.Made.{Made}
+use Rattle.planning.specs.declared.translate.Made.{Made}
 use Rattle.conditions.proofs.LeafLaws.{opposite-atoms}
 use Rattle.conditions.proofs.OtherNodes.{restriction-good}
 use Rattle.emission.proofs.WrittenLaws.{written-then, room-after, room-less, pred-is, written-as}
-use Rattle.translation.proofs.RangeSteps.{range-wide}
-use Rattle.translation.proofs.ConditionSteps.{chosen, passed-over}
+use Rattle.planning.proofs.RangeSteps.{range-wide}
+use Rattle.planning.proofs.ConditionSteps.{chosen, passed-over}
 
 pub inside-restricts : (words : List ℕ) (reference : ℕ) {catalogue plan : List ℕ} {x width : ℕ} {scope : Scope} {n : ℕ} → InsideReady catalogue plan x width (conditionAt words reference) scope n → restrictionAt words reference ≡ onCondition (conditionAt words reference)
 inside-restricts words reference {catalogue} {x = x} {width = width} {scope = scope} r = restriction-good (columnsOf catalogue) (relationsOf catalogue) (calculus.extend (scopeOf scope) x width) words reference (r .good)

@@ -3,33 +3,33 @@ use borrow.Author.Needs.{needs}
 use native.Mathlib.Omega.{arith}
 use borrow.Fn.Kinds.{In}
 use borrow.Fn.PlainCycle.{Measures, is, falls, and}
-use Rattle.translation.proofs.translate.translate_alpha.Reads as translate-alpha
-use Rattle.translation.proofs.translate.translate_alpha.Kinds as translate-alpha-kinds
-use Rattle.translation.proofs.translate.+translate_alpha+translate_bindings+translate_condition+translate_division+translate_every+translate_inside+translate_opposite+translate_range+translate_some.Lts-translate_alpha as translate-alpha-lts
-use Rattle.translation.proofs.translate.translate_bindings.Reads as translate-bindings
-use Rattle.translation.proofs.translate.translate_bindings.Kinds as translate-bindings-kinds
-use Rattle.translation.proofs.translate.+translate_alpha+translate_bindings+translate_condition+translate_division+translate_every+translate_inside+translate_opposite+translate_range+translate_some.Lts-translate_bindings as translate-bindings-lts
-use Rattle.translation.proofs.translate.translate_condition.Reads as translate-condition
-use Rattle.translation.proofs.translate.translate_condition.Kinds as translate-condition-kinds
-use Rattle.translation.proofs.translate.+translate_alpha+translate_bindings+translate_condition+translate_division+translate_every+translate_inside+translate_opposite+translate_range+translate_some.Lts-translate_condition as translate-condition-lts
-use Rattle.translation.proofs.translate.translate_division.Reads as translate-division
-use Rattle.translation.proofs.translate.translate_division.Kinds as translate-division-kinds
-use Rattle.translation.proofs.translate.+translate_alpha+translate_bindings+translate_condition+translate_division+translate_every+translate_inside+translate_opposite+translate_range+translate_some.Lts-translate_division as translate-division-lts
-use Rattle.translation.proofs.translate.translate_every.Reads as translate-every
-use Rattle.translation.proofs.translate.translate_every.Kinds as translate-every-kinds
-use Rattle.translation.proofs.translate.+translate_alpha+translate_bindings+translate_condition+translate_division+translate_every+translate_inside+translate_opposite+translate_range+translate_some.Lts-translate_every as translate-every-lts
-use Rattle.translation.proofs.translate.translate_inside.Reads as translate-inside
-use Rattle.translation.proofs.translate.translate_inside.Kinds as translate-inside-kinds
-use Rattle.translation.proofs.translate.+translate_alpha+translate_bindings+translate_condition+translate_division+translate_every+translate_inside+translate_opposite+translate_range+translate_some.Lts-translate_inside as translate-inside-lts
-use Rattle.translation.proofs.translate.translate_opposite.Reads as translate-opposite
-use Rattle.translation.proofs.translate.translate_opposite.Kinds as translate-opposite-kinds
-use Rattle.translation.proofs.translate.+translate_alpha+translate_bindings+translate_condition+translate_division+translate_every+translate_inside+translate_opposite+translate_range+translate_some.Lts-translate_opposite as translate-opposite-lts
-use Rattle.translation.proofs.translate.translate_range.Reads as translate-range
-use Rattle.translation.proofs.translate.translate_range.Kinds as translate-range-kinds
-use Rattle.translation.proofs.translate.+translate_alpha+translate_bindings+translate_condition+translate_division+translate_every+translate_inside+translate_opposite+translate_range+translate_some.Lts-translate_range as translate-range-lts
-use Rattle.translation.proofs.translate.translate_some.Reads as translate-some
-use Rattle.translation.proofs.translate.translate_some.Kinds as translate-some-kinds
-use Rattle.translation.proofs.translate.+translate_alpha+translate_bindings+translate_condition+translate_division+translate_every+translate_inside+translate_opposite+translate_range+translate_some.Lts-translate_some as translate-some-lts
+use Rattle.planning.proofs.translate.translate_alpha.Reads as translate-alpha
+use Rattle.planning.proofs.translate.translate_alpha.Kinds as translate-alpha-kinds
+use Rattle.planning.proofs.translate.+translate_alpha+translate_bindings+translate_condition+translate_division+translate_every+translate_inside+translate_opposite+translate_range+translate_some.Lts-translate_alpha as translate-alpha-lts
+use Rattle.planning.proofs.translate.translate_bindings.Reads as translate-bindings
+use Rattle.planning.proofs.translate.translate_bindings.Kinds as translate-bindings-kinds
+use Rattle.planning.proofs.translate.+translate_alpha+translate_bindings+translate_condition+translate_division+translate_every+translate_inside+translate_opposite+translate_range+translate_some.Lts-translate_bindings as translate-bindings-lts
+use Rattle.planning.proofs.translate.translate_condition.Reads as translate-condition
+use Rattle.planning.proofs.translate.translate_condition.Kinds as translate-condition-kinds
+use Rattle.planning.proofs.translate.+translate_alpha+translate_bindings+translate_condition+translate_division+translate_every+translate_inside+translate_opposite+translate_range+translate_some.Lts-translate_condition as translate-condition-lts
+use Rattle.planning.proofs.translate.translate_division.Reads as translate-division
+use Rattle.planning.proofs.translate.translate_division.Kinds as translate-division-kinds
+use Rattle.planning.proofs.translate.+translate_alpha+translate_bindings+translate_condition+translate_division+translate_every+translate_inside+translate_opposite+translate_range+translate_some.Lts-translate_division as translate-division-lts
+use Rattle.planning.proofs.translate.translate_every.Reads as translate-every
+use Rattle.planning.proofs.translate.translate_every.Kinds as translate-every-kinds
+use Rattle.planning.proofs.translate.+translate_alpha+translate_bindings+translate_condition+translate_division+translate_every+translate_inside+translate_opposite+translate_range+translate_some.Lts-translate_every as translate-every-lts
+use Rattle.planning.proofs.translate.translate_inside.Reads as translate-inside
+use Rattle.planning.proofs.translate.translate_inside.Kinds as translate-inside-kinds
+use Rattle.planning.proofs.translate.+translate_alpha+translate_bindings+translate_condition+translate_division+translate_every+translate_inside+translate_opposite+translate_range+translate_some.Lts-translate_inside as translate-inside-lts
+use Rattle.planning.proofs.translate.translate_opposite.Reads as translate-opposite
+use Rattle.planning.proofs.translate.translate_opposite.Kinds as translate-opposite-kinds
+use Rattle.planning.proofs.translate.+translate_alpha+translate_bindings+translate_condition+translate_division+translate_every+translate_inside+translate_opposite+translate_range+translate_some.Lts-translate_opposite as translate-opposite-lts
+use Rattle.planning.proofs.translate.translate_range.Reads as translate-range
+use Rattle.planning.proofs.translate.translate_range.Kinds as translate-range-kinds
+use Rattle.planning.proofs.translate.+translate_alpha+translate_bindings+translate_condition+translate_division+translate_every+translate_inside+translate_opposite+translate_range+translate_some.Lts-translate_range as translate-range-lts
+use Rattle.planning.proofs.translate.translate_some.Reads as translate-some
+use Rattle.planning.proofs.translate.translate_some.Kinds as translate-some-kinds
+use Rattle.planning.proofs.translate.+translate_alpha+translate_bindings+translate_condition+translate_division+translate_every+translate_inside+translate_opposite+translate_range+translate_some.Lts-translate_some as translate-some-lts
 use Rattle.question.proofs.node.decode.Reads as decode-reads
 use Rattle.emission.proofs.emit.intersect.Reads as intersect-reads
 use Rattle.emission.proofs.listing.no_list.Reads as no-list-reads
@@ -52,16 +52,16 @@ use Rattle.conditions.proofs.scope.empty.Reads as empty-reads
 use Rattle.conditions.proofs.scope.extend.Reads as extend-reads
 use Rattle.short_rules.proofs.fits.division_fits.Reads as division-fits-reads
 use Rattle.short_rules.proofs.fits.opposite_fits.Reads as opposite-fits-reads
-use Rattle.translation.proofs.translate.translate_table.Reads as translate-table-reads
-use Rattle.translation.proofs.targets.with_targets.Reads as with-targets-reads
-use Rattle.translation.proofs.translate.+translate_alpha+translate_bindings+translate_condition+translate_division+translate_every+translate_inside+translate_opposite+translate_range+translate_some.{statement}
-use Rattle.translation.proofs.translate.+translate_alpha+translate_bindings+translate_condition+translate_division+translate_every+translate_inside+translate_opposite+translate_range+translate_some.Tie.{close}
-use Rattle.translation.proofs.RangeSteps.{Sides, or-sides, and-sides, and-not-sides, call-left, call-right, room-last, sides-done, room-one, done-as, call-alpha}
+use Rattle.planning.proofs.translate.translate_table.Reads as translate-table-reads
+use Rattle.planning.proofs.targets.with_targets.Reads as with-targets-reads
+use Rattle.planning.proofs.translate.+translate_alpha+translate_bindings+translate_condition+translate_division+translate_every+translate_inside+translate_opposite+translate_range+translate_some.{statement}
+use Rattle.planning.proofs.translate.+translate_alpha+translate_bindings+translate_condition+translate_division+translate_every+translate_inside+translate_opposite+translate_range+translate_some.Tie.{close}
+use Rattle.planning.proofs.RangeSteps.{Sides, or-sides, and-sides, and-not-sides, call-left, call-right, room-last, sides-done, room-one, done-as, call-alpha}
 use Rattle.question.specs.declared.node.Node.the-variants.{Table, Alpha, Some, Atom as AtomNode}
 use Rattle.relations.specs.Nodes.{unite, intersect, subtract}
 use mathlib.Core.Path.{sym, _∙_, _≡_, ap, subst}
-use Rattle.translation.proofs.BindingSteps.{Chain, chain, call-bound, room-product, scope-grows, call-next, bindings-done, no-more-done}
-use Rattle.translation.proofs.AlphaSteps.{AlphaAsked, alpha-asked, call-first, scope-starts, call-rest, some-joined, call-condition, some-kept, list-targets, room-project, alpha-done, no-alpha}
+use Rattle.planning.proofs.BindingSteps.{Chain, chain, call-bound, room-product, scope-grows, call-next, bindings-done, no-more-done}
+use Rattle.planning.proofs.AlphaSteps.{AlphaAsked, alpha-asked, call-first, scope-starts, call-rest, some-joined, call-condition, some-kept, list-targets, room-project, alpha-done, no-alpha}
 use mathlib.Core.Bool.{Bool, true, _&&_}
 use Rattle.relations.proofs.BoolLaws.{and-right, true-and-false}
 use Rattle.calculus.specs.Scope.{columnsIn, allColumns}
@@ -70,9 +70,9 @@ use Rattle.question.specs.Nodes.{nodeAt}
 use Rattle.conditions.specs.Readings.{Names, conditionAt, rangeAt}
 use Rattle.conditions.specs.Scopes.{scopeOf}
 use Rattle.emission.proofs.WrittenLaws.{room-after, room-less}
-use Rattle.translation.proofs.QuantifierSteps.{inside-restricts, columns-room, columns-listed, some-ready, every-ready, range-ready, few-nodes, inside-ready, division-ready, room-plain, inside-condition-ready, inside-written, rule-test, rule-2-ready, rule-4-ready, some-by-rule-2, some-by-rule-3, every-by-rule-4, every-by-rule-5, some-plain, every-plain}
-use Rattle.translation.proofs.DivisionSteps.{divided-ready, dividend-fits, division-written}
-use Rattle.translation.proofs.ConditionSteps.{TwoSides, OneInner, Quantified, AtomHere, atom-step, and-step, or-step, not-step, some-step, every-step, good-of, ready-at, left-ready, left-written, right-ready, right-written, room-behind-both, inner-ready, inner-few, inner-written, room-behind-inner, written-restriction, written-none, atom-written, and-written, or-written, not-written, opposite-written, atom-opposite-written}
+use Rattle.planning.proofs.QuantifierSteps.{inside-restricts, columns-room, columns-listed, some-ready, every-ready, range-ready, few-nodes, inside-ready, division-ready, room-plain, inside-condition-ready, inside-written, rule-test, rule-2-ready, rule-4-ready, some-by-rule-2, some-by-rule-3, every-by-rule-4, every-by-rule-5, some-plain, every-plain}
+use Rattle.planning.proofs.DivisionSteps.{divided-ready, dividend-fits, division-written}
+use Rattle.planning.proofs.ConditionSteps.{TwoSides, OneInner, Quantified, AtomHere, atom-step, and-step, or-step, not-step, some-step, every-step, good-of, ready-at, left-ready, left-written, right-ready, right-written, room-behind-both, inner-ready, inner-few, inner-written, room-behind-inner, written-restriction, written-none, atom-written, and-written, or-written, not-written, opposite-written, atom-opposite-written}
 use Rattle.conditions.proofs.Readings.{named, range-is, bindings-is, bindings-none, condition-is, restriction-is, restriction-none, some-parts}
 use Rattle.conditions.proofs.OtherNodes.{no-range, no-bindings, no-restriction}
 use Rattle.conditions.proofs.LeafLaws.{collectable}

@@ -19,13 +19,13 @@ use Rattle.question.specs.declared.node.Node.the-variants.{Binding}
 use Rattle.question.proofs.Forms.{lower, second-of, references-lower}
 use Rattle.conditions.specs.Readings.{Inside, Names, rangeAt, bindingsAt}
 use Rattle.conditions.specs.Scopes.{scopeOf, ScopeFits, Extended}
-use Rattle.translation.specs.Translating.{RangeReady, RangeDone, BindingsReady, BindingsDone}
+use Rattle.planning.specs.Translating.{RangeReady, RangeDone, BindingsReady, BindingsDone}
 use Rattle.emission.specs.Written.{Room, Written}
 use Rattle.conditions.specs.declared.scope.Scope.{Scope}
-use Rattle.translation.specs.declared.translate.Bound.{Bound}
-use Rattle.translation.specs.declared.translate.Made.{Made}
+use Rattle.planning.specs.declared.translate.Bound.{Bound}
+use Rattle.planning.specs.declared.translate.Made.{Made}
 use Rattle.conditions.proofs.Readings.{Below, fits-in, bindings-is}
-use Rattle.translation.proofs.RangeSteps.{lower-call, range-wide}
+use Rattle.planning.proofs.RangeSteps.{lower-call, range-wide}
 use Rattle.emission.proofs.WrittenLaws.{written-nothing, written-then, room-after, room-less, written-as, going-on}
 
 -- a node that is a binding: where its range and the next binding are, and what it reads as

@@ -22,9 +22,9 @@ use Rattle.question.specs.Trees.{alphaOf}
 use Rattle.question.specs.declared.node.Node.the-variants.{Alpha, RangeOr, RangeAnd, RangeAndNot}
 use Rattle.question.proofs.Forms.{lower, second-of, references-lower}
 use Rattle.conditions.specs.Readings.{Inside, Names, rangeAt, targetsAt, bindingsAt, restrictionAt}
-use Rattle.translation.specs.Translating.{RangeReady, RangeDone}
+use Rattle.planning.specs.Translating.{RangeReady, RangeDone}
 use Rattle.emission.specs.Written.{Room, Written}
-use Rattle.translation.specs.declared.translate.Made.{Made}
+use Rattle.planning.specs.declared.translate.Made.{Made}
 use Rattle.conditions.proofs.Readings.{Below, fits-in, two-lower, range-is}
 use Rattle.emission.proofs.WrittenLaws.{room-after, room-less, last-is, written-as, going-on}
 

@@ -1,6 +1,6 @@
 use Rattle.relations.specs.Columns.{Attribute}
 use lib.ListN.{length-map, length, length-append}
-use Rattle.translation.proofs.TargetLaws.{targets-next}
+use Rattle.planning.proofs.TargetLaws.{targets-next}
 use Rattle.conditions.proofs.OtherNodes.{no-targets}
 use Rattle.conditions.proofs.Readings.{fits-in, named, targets-is, targets-none}
 use Rattle.emission.proofs.ListingLaws.{longer-then, longer-none}
@@ -21,13 +21,13 @@ use Prim.Native.Nat.{_-_, _≤_, ℕ, _<_}
 use native.Mathlib.Omega.{arith}
 use borrow.Fn.Kinds.{In}
 use borrow.Fn.PlainCycle.{Measures, is, falls, and}
-use Rattle.translation.proofs.targets.with_targets.Reads as with-targets
-use Rattle.translation.proofs.targets.with_targets.Kinds as with-targets-kinds
-use Rattle.translation.proofs.targets.+with_targets.Lts-with_targets as with-targets-lts
+use Rattle.planning.proofs.targets.with_targets.Reads as with-targets
+use Rattle.planning.proofs.targets.with_targets.Kinds as with-targets-kinds
+use Rattle.planning.proofs.targets.+with_targets.Lts-with_targets as with-targets-lts
 use Rattle.question.proofs.node.decode.Reads as decode-reads
-use Rattle.translation.proofs.targets.with_target.Reads as with-target-reads
-use Rattle.translation.proofs.targets.+with_targets.{statement}
-use Rattle.translation.proofs.targets.+with_targets.Tie.{close}
+use Rattle.planning.proofs.targets.with_target.Reads as with-target-reads
+use Rattle.planning.proofs.targets.+with_targets.{statement}
+use Rattle.planning.proofs.targets.+with_targets.Tie.{close}
 
 abbrev μ-with-targets : Measures 1 with-targets-kinds.ps ℕ
 μ-with-targets κs a = a .1 .0

@@ -13,7 +13,7 @@ ghost use Rattle.question.specs.Trees.{alphaOf};
 ghost use Rattle.conditions.specs.Readings.{Inside, Names, rangeAt, targetsAt, bindingsAt, restrictionAt, conditionAt};
 ghost use Rattle.conditions.specs.Scopes.{scopeOf};
 ghost use Rattle.emission.specs.Written.{Room, Written};
-ghost use Rattle.translation.specs.Translating.{RangeReady, RangeDone, BindingsReady, BindingsDone, ConditionReady, InsideReady, DivisionReady};
+ghost use Rattle.planning.specs.Translating.{RangeReady, RangeDone, BindingsReady, BindingsDone, ConditionReady, InsideReady, DivisionReady};
 use crate::targets::with_targets;
 use catalogue::stored::columns_of;
 use conditions::leaves::leaves_of;

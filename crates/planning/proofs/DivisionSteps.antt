@@ -27,14 +27,14 @@ use Rattle.conditions.specs.Leaves.{atomsOf, LeavesOf}
 use Rattle.conditions.specs.Readings.{Names, rangeAt, conditionAt}
 use Rattle.short_rules.specs.Rules.{selectsBehind, dividendBehind, divisionBehind, DividendFits}
 use Rattle.conditions.specs.Scopes.{scopeOf}
-use Rattle.translation.specs.Translating.{RangeDone, DivisionReady}
+use Rattle.planning.specs.Translating.{RangeDone, DivisionReady}
 use Rattle.emission.specs.Written.{Written}
 use Rattle.conditions.specs.declared.leaves.Leaves.{Leaves}
 use Rattle.conditions.specs.declared.scope.Scope.{Scope}
-use Rattle.translation.specs.declared.translate.Made.{Made}
+use Rattle.planning.specs.declared.translate.Made.{Made}
 use Rattle.conditions.proofs.Readings.{condition-is}
 use Rattle.emission.proofs.WrittenLaws.{room-less, written-as}
-use Rattle.translation.proofs.QuantifierSteps.{QuantifierReady, quantifier-ready, some-columns, few-columns, room-behind, leaves-few, behind-range, written-behind}
+use Rattle.planning.proofs.QuantifierSteps.{QuantifierReady, quantifier-ready, some-columns, few-columns, room-behind, leaves-few, behind-range, written-behind}
 
 -- the equations of each kind are at most 8
 module _ (z y : ℕ) (tree : Bool) (atoms : List Atom) (h : (tree && shortRule5Atoms z y atoms) ≡ true) where

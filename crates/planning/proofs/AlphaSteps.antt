@@ -23,14 +23,14 @@ use Rattle.question.specs.declared.node.Node.the-variants.{Binding}
 use Rattle.emission.specs.Listings.{listing, Longer, numbersOf}
 use Rattle.conditions.specs.Readings.{Inside, Names, rangeAt, targetsAt, bindingsAt, restrictionAt}
 use Rattle.conditions.specs.Scopes.{emptyScope, scopeOf, ScopeFits, Extended}
-use Rattle.translation.specs.Translating.{RangeReady, RangeDone, BindingsReady, BindingsDone, ConditionReady}
+use Rattle.planning.specs.Translating.{RangeReady, RangeDone, BindingsReady, BindingsDone, ConditionReady}
 use Rattle.emission.specs.Written.{Room, Written}
 use Rattle.emission.specs.declared.listing.Listing.{Listing}
 use Rattle.conditions.specs.declared.scope.Scope.{Scope}
-use Rattle.translation.specs.declared.translate.Bound.{Bound}
-use Rattle.translation.specs.declared.translate.Made.{Made}
-use Rattle.translation.proofs.BindingSteps.{Chain, chain}
-use Rattle.translation.proofs.RangeSteps.{lower-call, range-wide}
+use Rattle.planning.specs.declared.translate.Bound.{Bound}
+use Rattle.planning.specs.declared.translate.Made.{Made}
+use Rattle.planning.proofs.BindingSteps.{Chain, chain}
+use Rattle.planning.proofs.RangeSteps.{lower-call, range-wide}
 use Rattle.conditions.proofs.ScopeLaws.{empty-fits}
 use Rattle.emission.proofs.WrittenLaws.{room-after, room-less, written-as, going-on}
 

@@ -13,8 +13,8 @@ use Rattle.question.specs.Accepted.{HasColumns}
 use Rattle.conditions.specs.Scopes.{scopeOf, ScopeFits}
 use Rattle.emission.specs.Written.{Room, Written}
 use Rattle.conditions.specs.declared.scope.Scope.{Scope}
-use Rattle.translation.specs.declared.translate.Made.{Made}
-use Rattle.translation.specs.declared.translate.Bound.{Bound}
+use Rattle.planning.specs.declared.translate.Made.{Made}
+use Rattle.planning.specs.declared.translate.Bound.{Bound}
 
 -- Each node of the question has room for four of the plan.
 module _ (catalogue : List ℕ) where

@@ -22,7 +22,7 @@ use Rattle.conditions.specs.Readings.{Names, rangeAt, restrictionAt, conditionA
 use Rattle.conditions.specs.Scopes.{scopeOf}
 use Rattle.conditions.specs.Atoms.{AtomNarrow}
 use Rattle.emission.specs.Written.{Room, Written}
-use Rattle.translation.specs.Translating.{ConditionReady}
+use Rattle.planning.specs.Translating.{ConditionReady}
 use Rattle.conditions.specs.declared.scope.Scope.{Scope}
 use Rattle.conditions.proofs.Readings.{Part, and-parts, or-parts, not-part, some-parts, every-parts, restriction-is}
 use Rattle.conditions.proofs.OtherNodes.{restriction-good}
