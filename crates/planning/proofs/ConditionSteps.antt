@@ -1,4 +1,4 @@
--- The steps of a condition: where its parts stand, the room that they have, and what their nodes are together. Assumes nothing.
+-- The steps of a condition: the room that its parts have, and what their nodes are together. Assumes nothing.
 use Prim.Native.Nat.{ℕ, _+_, _*_, _-_, _≤_}
 use mathlib.Core.Path.{_≡_, refl, sym, ap, ap₂, subst}
 use mathlib.Core.Bool.{Bool, true, false, _&&_, _||_, false≢true}

@@ -61,7 +61,7 @@ division-behind first s y k z width atoms p n =
     ap (λ dividend. dividend ++ nodes (n + length dividend)) (behind-range first (selectsBehind z width atoms (n + length first)) n (λ m. projectNodes true width (pred m) (shortRule5Columns z y atoms)))
     ∙ behind-range first (dividendBehind y z width atoms (n + length first)) n nodes
 
--- the "some"
+-- the "some z" that the reference names
 module _ (words : List ℕ) {reference z range condition : ℕ} (named : Names words reference) (e : Some z range condition ≡ nodeAt words (reference - 1)) where
   some-is : conditionAt words reference ≡ forSome z (rangeAt words range) (conditionAt words condition)
   some-is = condition-is words reference (Some z range condition) (named .0) e
