@@ -73,7 +73,7 @@ target-inside s (oneAttribute v a) k = (column-inside s v a (columnsIn s) refl k
 
 -- a good target has a column, and so has its scope
 
-widths-in-columns : (s : Scope) (v : ℕ) → widthIn s v ≤ columnsIn s
+pub widths-in-columns : (s : Scope) (v : ℕ) → widthIn s v ≤ columnsIn s
 widths-in-columns [] v = omega arith
 widths-in-columns (entry x w ∷ s) v = go (eqb v x) (widths-in-columns s v)
   where

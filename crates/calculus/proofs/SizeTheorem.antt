@@ -15,18 +15,18 @@ use Rattle.calculus.specs.Scope.{entry, Scope, extend, columnsIn, allCol
 use Rattle.calculus.specs.ShortRules.{lastNumber, selectNodes, shortRule1Fits, projectNodes, shortRule2Fits, tripleOf, shortRule3Fits, shortRule4Fits, shortRule5Fits, outsideTriples, divisionPairs, shortRule6Fits}
 use Rattle.calculus.specs.Translation.{Wanted, itself, itsOpposite, divisionBy, translateRange, translateBindings, translateMaybe, translateCondition}
 
-selects-size : (cs : List Atom) (s : Scope) (p n : ℕ) → length (selectNodes s cs p n) ≡ length cs
+pub selects-size : (cs : List Atom) (s : Scope) (p n : ℕ) → length (selectNodes s cs p n) ≡ length cs
 selects-size [] s p n = refl
 selects-size (a ∷ cs) s p n = ap suc (selects-size cs s n (suc n))
 
-projects-size : (short : Bool) (w p : ℕ) (cs : List Attribute) → length (projectNodes short w p cs) ≤ 1
+pub projects-size : (short : Bool) (w p : ℕ) (cs : List Attribute) → length (projectNodes short w p cs) ≤ 1
 projects-size short w p cs = go (short && shortRule1Fits w cs)
   where
     go : (b : Bool) → length (cond b [] (project p cs ∷ [])) ≤ 1
     go true = omega arith
     go false = omega arith
 
-filter-size : {A : Type 0} (p : A → Bool) (xs : List A) → length (filter p xs) ≤ length xs
+pub filter-size : {A : Type 0} (p : A → Bool) (xs : List A) → length (filter p xs) ≤ length xs
 filter-size p [] = omega arith
 filter-size p (x ∷ xs) = go (p x) (filter-size p xs)
   where
@@ -34,7 +34,7 @@ filter-size p (x ∷ xs) = go (p x) (filter-size p xs)
     go true h = omega arith
     go false h = omega arith
 
-leaves-size : (f : Condition) → length (leaves f) ≤ conditionNodes f
+pub leaves-size : (f : Condition) → length (leaves f) ≤ conditionNodes f
 unfolding conditionNodes
 leaves-size (atom a) = omega arith
 leaves-size (conditionAnd f g) = omega (arith, length-append (leaves f) (leaves g), leaves-size f, leaves-size g)

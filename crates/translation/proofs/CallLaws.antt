@@ -1,14 +1,15 @@
 -- An accepted question: what translating it asks for, and that what it leaves is the outcome named. Assumes nothing.
-use Prim.Native.Nat.{ℕ, _+_, _*_, _/_, _≤_, _<_}
-use mathlib.Core.Path.{_≡_, refl, sym, ap, ap₂, _∙_}
+use Rattle.conditions.specs.Readings.{Names}
+use Prim.Native.Nat.{ℕ, _*_, _≤_, _<_}
+use mathlib.Core.Path.{_≡_, refl, ap, ap₂, _∙_}
 use mathlib.Core.Bool.{Bool, true, false, cond, not, So}
 use mathlib.Core.List.{List, []}
 use native.Mathlib.Omega.{arith}
 use lib.Dec.{ltb}
 use lib.ListN.{length}
-use lib.Seq.{sets, length-sets}
+use lib.Seq.{length-sets}
 use borrow.Author.Tests.{lt-ltb, le-ltb}
-use Rattle.relations.specs.Limits.{planNodeLimit, planNodeWords, questionNodeWords}
+use Rattle.relations.specs.Limits.{planNodeLimit, planNodeWords}
 use Rattle.relations.specs.Lists.{flat}
 use Rattle.relations.specs.Nodes.{Node}
 use Rattle.relations.specs.Plan.{heavy}
@@ -16,7 +17,6 @@ use Rattle.relations.specs.Legality.{between, legalNodes}
 use Rattle.relations.specs.PlanWords.{nodeWords}
 use Rattle.relations.proofs.BoolLaws.{and-right}
 use Rattle.calculus.specs.Claims.{TranslationRight}
-use Rattle.calculus.specs.Question.{rangeNodes}
 use Rattle.calculus.proofs.Theorems.{translation-right}
 use Rattle.catalogue.specs.Judging.{catalogueWords, catalogueOk, judged as judgedCatalogue}
 use Rattle.catalogue.specs.declared.judging.Judged.the-variants.{Words, Wrong}
@@ -31,11 +31,10 @@ use Rattle.question.specs.declared.judgement.Judgement.the-variants.{Accepted, 
 use Rattle.question.proofs.Accepted.{accepted-right, accepted-passed}
 use Rattle.question.proofs.Counts.{counted}
 use Rattle.translation.specs.TranslateCall.{TranslateOutcome, planOf, planBufferWords, unwritten, written, judgedOutcome, behindCatalogue, isShort, translateOutcome}
-use Rattle.translation.specs.HeavyCount.{heavyIn}
-use Rattle.translation.specs.Written.{Room, Written}
-use Rattle.translation.specs.Translating.{Names, RangeReady, RangeDone}
-use Rattle.translation.specs.declared.translate.Made.{Made}
-use Rattle.translation.proofs.HeavyLaws.{heavy-written}
+use Rattle.emission.specs.HeavyCount.{heavyIn}
+use Rattle.planning.specs.Translating.{RangeReady, RangeDone}
+use Rattle.planning.specs.declared.translate.Made.{Made}
+use Rattle.emission.proofs.HeavyLaws.{heavy-written}
 
 module _ (catalogue question : List ℕ) (ok : catalogueOk catalogue ≡ true) (accepted : judged catalogue question ≡ Accepted) where
   right : QuestionRight catalogue question

@@ -1,0 +1,32 @@
+-- Lists kept in arrays: the first entry, the last one, and those that a store leaves. Assumes nothing.
+use Prim.Native.Nat.{ℕ, zero, suc, _+_, _-_, _<_}
+use mathlib.Core.Path.{_≡_, refl, ap, ap₂}
+use mathlib.Core.List.{[], _∷_, _++_}
+use native.Mathlib.Omega.{arith}
+use native.Mathlib.Numerals.{add-one}
+use lib.ListN.{length}
+use Rattle.conditions.specs.Entries.{entries}
+
+module _ {A : Type 0} where
+  pub entries-step : (at : ℕ → A) (i left : ℕ) → 0 < left → entries at i left ≡ at i ∷ entries at (i + 1) (left - 1)
+  entries-step at i zero h = absurd (omega arith)
+  entries-step at i (suc left) h =
+      let e : suc left - 1 ≡ left = omega arith in
+      rw (add-one, e)
+
+  pub entries-last : (at : ℕ → A) (i left : ℕ) → entries at i (suc left) ≡ entries at i left ++ (at (i + left) ∷ [])
+  entries-last at i zero =
+      let e : i + 0 ≡ i = omega arith in
+      rw e
+  entries-last at i (suc left) =
+      let e : i + suc left ≡ suc i + left = omega arith in
+      rw e (ap (λ rest. at i ∷ rest) (entries-last at (suc i) left))
+
+  pub entries-same : (at as-well : ℕ → A) (i left : ℕ) → ((k : ℕ) → k < i + left → at k ≡ as-well k) → entries at i left ≡ entries as-well i left
+  entries-same at as-well i zero h = refl
+  entries-same at as-well i (suc left) h =
+      ap₂ (λ first rest. first ∷ rest) (h i (omega arith)) (entries-same at as-well (suc i) left (λ k l. h k (omega arith)))
+
+pub entries-length : {A : Type 0} (at : ℕ → A) (i left : ℕ) → length (entries at i left) ≡ left
+entries-length at i zero = refl
+entries-length at i (suc left) = ap suc (entries-length at (suc i) left)

@@ -1,0 +1,22 @@
+use mathlib.Core.Path.{sym, ap}
+use Rattle.calculus.specs.Leaves.{areBoth}
+use Rattle.question.specs.Trees.{operandOf}
+use Rattle.question.specs.declared.node.Operand.{Operand}
+use borrow.Author.Needs.{needs}
+use Rattle.conditions.proofs.atom.are_both.Statement.{statement}
+use Rattle.conditions.proofs.atom.are_both.Tie as tie
+
+enum-known-operand : tie.Need-enum-known-operand
+enum-known-operand c = search needs
+
+enum-told : tie.Need-enum-told
+enum-told c = search needs
+
+returns : tie.Need-returns
+returns c = sym (ap (λ (o : Operand). areBoth (c .before .before .before .before .before .args .z) (c .before .before .before .before .before .args .y) (c .before .before .before .before .before .args .atom .variable) (operandOf o)) (c .before .before .before .operand .given .1))
+
+returns-2 : tie.Need-returns-2
+returns-2 c = search needs
+
+pub are-both-spec : {M : Type 1} → statement M
+are-both-spec = tie.close (tie.spec enum-known-operand enum-told returns returns-2)

@@ -1,0 +1,25 @@
+use mathlib.Core.Path.{sym, ap, _∙_}
+use Rattle.calculus.specs.Leaves.{comparesWithOther}
+use Rattle.conditions.proofs.AtomLaws.{read, taken, passed}
+use borrow.Author.Needs.{needs}
+use Rattle.conditions.proofs.atom.compares_with_other.Statement.{statement}
+use Rattle.conditions.proofs.atom.compares_with_other.Tie as tie
+
+enum-known-operand : tie.Need-enum-known-operand
+enum-known-operand c = search needs
+
+returns : tie.Need-returns
+returns c = sym (ap (comparesWithOther (c .before .before .before .before .before .args .x)) (read (c .before .before .before .before .before .args .atom) (c .before .before .before .operand .given .1)) ∙ taken _ _ (c .if1 .taken))
+
+enum-told : tie.Need-enum-told
+enum-told c = search needs
+
+returns-2 : tie.Need-returns-2
+returns-2 c = sym (ap (comparesWithOther (c .before .before .before .before .before .args .x)) (read (c .before .before .before .before .before .args .atom) (c .before .before .before .operand .given .1)) ∙ passed _ _ (c .if1 .left))
+
+returns-3 : tie.Need-returns-3
+returns-3 c = search needs
+
+pub compares-with-other-spec : {M : Type 1} → statement M
+compares-with-other-spec =
+    tie.close (tie.spec enum-known-operand returns enum-told returns-2 returns-3)

@@ -1,0 +1,16 @@
+use Rattle.conditions.proofs.LeafLaws.{no-atom}
+use borrow.Author.Needs.{needs}
+use Rattle.conditions.proofs.leaves.atom_in.Statement.{statement}
+use Rattle.conditions.proofs.leaves.atom_in.Tie as tie
+
+enum-known-node : tie.Need-enum-known-node
+enum-known-node c = search needs
+
+returns : tie.Need-returns
+returns c = search needs
+
+returns-2 : tie.Need-returns-2
+returns-2 c = no-atom (c .before .args .node) (c .match .keys2)
+
+pub atom-in-spec : {M : Type 1} → statement M
+atom-in-spec = tie.close (tie.spec enum-known-node returns returns-2)

@@ -1,0 +1,28 @@
+-- The scope that the code carries, and the scope of `calculus` that it stands for. Assumes nothing.
+use Prim.Native.Nat.{ℕ, _≤_}
+use mathlib.Core.Path.{_≡_}
+use lib.ListN.{getD, replicate}
+use Rattle.relations.specs.Limits.{columnLimit}
+use Rattle.calculus.specs.Scope as calculus
+use Rattle.calculus.specs.Scope.{ScopeEntry, entry, columnsIn}
+use Rattle.conditions.specs.Entries.{entries}
+use Rattle.conditions.specs.declared.scope.Scope.{Scope}
+
+abbrev pub entryAt : Scope → ℕ → ScopeEntry
+entryAt scope i = entry (getD (scope .variables) i 0) (getD (scope .widths) i 0)
+
+abbrev pub scopeOf : Scope → calculus.Scope
+scopeOf scope = entries (entryAt scope) 0 (scope .count)
+
+abbrev pub emptyScope : Scope
+emptyScope = record { variables = replicate columnLimit 0; widths = replicate columnLimit 0; count = 0; columns = 0 }
+
+-- No range is without columns, so there are no more variables in scope than columns.
+pub record ScopeFits (scope : Scope) : Type 0 where
+  pub counted : scope .columns ≡ columnsIn (scopeOf scope)
+  pub few : scope .count ≤ scope .columns
+  pub narrow : scope .columns ≤ columnLimit
+
+pub record Extended (scope : Scope) (variable width : ℕ) (longer : Scope) : Type 0 where
+  pub fits : ScopeFits longer
+  pub stands : scopeOf longer ≡ calculus.extend (scopeOf scope) variable width

@@ -1,0 +1,177 @@
+// What the rules ask of an atom.
+ghost use mathlib.Core.Path.{_≡_};
+ghost use Prim.Native.Nat.{_≤_};
+ghost use Rattle.relations.specs.Limits.{columnLimit};
+ghost use Rattle.relations.specs.Comparison.{operatorNumber};
+ghost use Rattle.relations.specs.Comparison as comparison;
+ghost use Rattle.calculus.specs.Leaves.{oppositeAtom, aloneOn, comparesWithOther, areBoth, equatesWith, equatesOutside, ownAttribute, otherVariable, otherAttribute};
+ghost use Rattle.question.specs.Trees.{operandOf, atomOf};
+ghost use Rattle.conditions.specs.Atoms.{operatorNamed, AtomNarrow};
+use question::node::Atom;
+use question::node::Attribute;
+use question::node::Operand;
+
+// The operator that holds where this one doesn't.
+fn opposite(operator: u32) -> u32
+    ensures { λ r. ⌜ r ≡ operatorNumber (comparison.opposite (operatorNamed operator)) ⌝ }
+{
+    match operator {
+        1 => 2,
+        2 => 1,
+        3 => 6,
+        4 => 5,
+        5 => 4,
+        6 => 3,
+        _ => 2,
+    }
+}
+
+// The operator for the sides turned.
+pub fn turned(operator: u32) -> u32
+    ensures { λ r. ⌜ r ≡ operatorNumber (comparison.turned (operatorNamed operator)) ⌝ }
+{
+    match operator {
+        1 => 1,
+        2 => 2,
+        3 => 5,
+        4 => 6,
+        5 => 3,
+        6 => 4,
+        _ => 1,
+    }
+}
+
+pub fn opposite_atom(atom: Atom) -> Atom
+    requires { ⌜ AtomNarrow atom ⌝ }
+    ensures { λ r. ⌜ (atomOf r ≡ oppositeAtom (atomOf atom)) × AtomNarrow r ⌝ }
+{
+    let attribute = atom.attribute;
+    let operand = atom.operand;
+    Atom {
+        variable: atom.variable,
+        attribute,
+        operator: opposite(atom.operator),
+        operand,
+    }
+}
+
+// On x alone.
+pub fn alone_on(x: u32, atom: Atom) -> bool
+    ensures { λ r. ⌜ r ≡ aloneOn x (atomOf atom) ⌝ }
+{
+    let operand = atom.operand;
+    match operand {
+        Operand::Of {
+            variable,
+            attribute: _,
+        } => (atom.variable == x) & (variable == x),
+        Operand::Fixed(_) => atom.variable == x,
+    }
+}
+
+// Comparing x with another variable.
+pub fn compares_with_other(x: u32, atom: Atom) -> bool
+    ensures { λ r. ⌜ r ≡ comparesWithOther x (atomOf atom) ⌝ }
+{
+    let operand = atom.operand;
+    match operand {
+        Operand::Of {
+            variable,
+            attribute: _,
+        } => {
+            if atom.variable == x {
+                return variable != x;
+            }
+            variable == x
+        }
+        Operand::Fixed(_) => false,
+    }
+}
+
+// Comparing z with y, in either order.
+fn are_both(z: u32, y: u32, atom: Atom) -> bool
+    ensures { λ r. ⌜ r ≡ areBoth z y (atom .variable) (operandOf (atom .operand)) ⌝ }
+{
+    let operand = atom.operand;
+    match operand {
+        Operand::Of {
+            variable,
+            attribute: _,
+        } => { ((atom.variable == z) & (variable == y)) | ((atom.variable == y) & (variable == z)) }
+        Operand::Fixed(_) => false,
+    }
+}
+
+// z = y.
+pub fn equates_with(z: u32, y: u32, atom: Atom) -> bool
+    requires { ⌜ AtomNarrow atom ⌝ }
+    ensures { λ r. ⌜ r ≡ equatesWith z y (atomOf atom) ⌝ }
+{
+    (atom.operator == 1) & are_both(z, y, atom)
+}
+
+// z = a variable outside, which is neither z nor y.
+pub fn equates_outside(z: u32, y: u32, atom: Atom) -> bool
+    requires { ⌜ AtomNarrow atom ⌝ }
+    ensures { λ r. ⌜ r ≡ equatesOutside z y (atomOf atom) ⌝ }
+{
+    (atom.operator == 1) & (compares_with_other(z, atom) & !are_both(z, y, atom))
+}
+
+// Of an atom that compares z with another variable: z's attribute, the other variable, and its attribute.
+pub fn own_attribute(z: u32, atom: Atom) -> Attribute
+    ensures { λ r. ⌜ r .0 ≡ ownAttribute z (atomOf atom) .number ⌝ }
+{
+    let own = atom.attribute;
+    let operand = atom.operand;
+    match operand {
+        Operand::Of {
+            variable: _,
+            attribute,
+        } => {
+            if atom.variable == z {
+                return own;
+            }
+            attribute
+        }
+        Operand::Fixed(_) => own,
+    }
+}
+
+pub fn other_variable(z: u32, atom: Atom) -> u32
+    ensures { λ r. ⌜ r ≡ otherVariable z (atomOf atom) ⌝ }
+{
+    let operand = atom.operand;
+    match operand {
+        Operand::Of {
+            variable,
+            attribute: _,
+        } => {
+            if atom.variable == z {
+                return variable;
+            }
+            atom.variable
+        }
+        Operand::Fixed(_) => atom.variable,
+    }
+}
+
+pub fn other_attribute(z: u32, atom: Atom) -> Attribute
+    requires { ⌜ AtomNarrow atom ⌝ }
+    ensures { λ r. ⌜ (r .0 ≡ otherAttribute z (atomOf atom) .number) × (r .0 ≤ columnLimit) ⌝ }
+{
+    let own = atom.attribute;
+    let operand = atom.operand;
+    match operand {
+        Operand::Of {
+            variable: _,
+            attribute,
+        } => {
+            if atom.variable == z {
+                return attribute;
+            }
+            own
+        }
+        Operand::Fixed(_) => own,
+    }
+}

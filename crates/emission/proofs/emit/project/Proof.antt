@@ -1,0 +1,24 @@
+use mathlib.Core.Path.{_≡_}
+use lib.ListN.{length}
+use Rattle.relations.specs.Nodes.{project}
+use Rattle.emission.proofs.ListingLaws.{project-words}
+use Rattle.emission.proofs.WrittenLaws.{written-one}
+use native.Mathlib.Omega.{arith}
+use borrow.Author.Needs.{needs}
+use Rattle.emission.proofs.emit.project.Statement.{statement}
+use Rattle.emission.proofs.emit.project.Tie as tie
+
+push-requires : tie.Need-push-requires
+push-requires c κs = search needs
+
+same-length : tie.Need-same-length
+same-length c = search needs
+
+returns : tie.Need-returns
+returns c listed e =
+    let s = c .before .before .before .before .before .before in
+    let l : length (s .args .attributes .words) ≡ 32 = search needs in
+    written-one (project (s .args .left) listed) _ (c .before .before .push .ensures) (project-words (s .args .attributes) (s .args .left) 0 listed e) (omega arith)
+
+pub project-spec : {M : Type 1} → statement M
+project-spec = tie.close (tie.spec push-requires same-length returns)

@@ -1,0 +1,16 @@
+use Rattle.emission.proofs.ListingLaws.{longer-then}
+use borrow.Author.Needs.{needs}
+use Rattle.emission.proofs.listing.with_pair.Statement.{statement}
+use Rattle.emission.proofs.listing.with_pair.Tie as tie
+
+with-word-requires : tie.Need-with-word-requires
+with-word-requires c κs = search needs
+
+with-word-requires-2 : tie.Need-with-word-requires-2
+with-word-requires-2 c κs = search needs
+
+returns : tie.Need-returns
+returns c = longer-then (c .before .with-word .ensures) (c .with-word2 .ensures)
+
+pub with-pair-spec : {M : Type 1} → statement M
+with-pair-spec = tie.close (tie.spec with-word-requires with-word-requires-2 returns)

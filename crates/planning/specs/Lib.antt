@@ -1,0 +1,2 @@
+-- What translating asks for and leaves
+pub mod Translating

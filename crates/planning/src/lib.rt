@@ -1,0 +1,3 @@
+// Planning: the plan of a question, range by range and condition by condition, as the rules name it.
+pub mod targets;
+pub mod translate;

@@ -1,0 +1,73 @@
+-- When the short rules fit a node's condition. Assumes nothing.
+use Prim.Native.Nat.{ℕ, _≤_}
+use mathlib.Core.Path.{_≡_, refl, ap, ap₂, _∙_}
+use mathlib.Core.Bool.{Bool, true, false, _&&_, _||_, or-false, false≢true}
+use mathlib.Core.List.{List, [], _∷_}
+use native.Mathlib.Omega.{arith}
+use denote.Enum.Declared.{tagOf}
+use types.Run.{OneOf, miss}
+use Rattle.relations.specs.Limits.{questionNodeLimit}
+use Rattle.calculus.specs.Question as calculus
+use Rattle.calculus.specs.Question.{Range, Condition, forSome, conditionNodes}
+use Rattle.calculus.specs.Scope as scopes
+use Rattle.calculus.specs.Form.{GoodCondition}
+use Rattle.calculus.specs.Leaves.{isAndTree, leaves}
+use Rattle.calculus.specs.ShortRules.{shortRule2Fits, shortRule3Fits, shortRule5Fits, shortRule6Fits}
+use Rattle.question.specs.Trees.{Reading, readingOf}
+use Rattle.question.specs.declared.node.Node as question
+use Rattle.question.specs.declared.node.Node.the-variants.{Table, Alpha, Target, Binding, RangeOr, RangeAnd, RangeAndNot, Atom as AtomNode, And, Or, Not, Some, Every, IllFormed}
+use Rattle.question.proofs.node.Node.{the-type}
+use Rattle.conditions.specs.Leaves.{atomsOf, LeavesOf}
+use Rattle.conditions.specs.declared.leaves.Leaves.{Leaves}
+
+pub some-nodes-below : {x : ℕ} {range : Range} {f g : Condition} → g ≡ forSome x range f → conditionNodes g ≤ questionNodeLimit → conditionNodes f ≤ questionNodeLimit
+unfolding conditionNodes
+some-nodes-below e few = omega (arith, ap conditionNodes e)
+
+-- a test of the leaves collected is one of the condition
+pub conjoined-atoms : {words : List ℕ} {f : Condition} {collected : Leaves} {r : Bool} (test : List calculus.Atom → Bool) → LeavesOf words f collected → r ≡ (collected .conjoined && test (atomsOf words collected)) → r ≡ (isAndTree f && test (leaves f))
+conjoined-atoms test l e = e ∙ ap₂ (λ (b : Bool) (atoms : List calculus.Atom). b && test atoms) (l .and-tree) (l .atoms)
+
+-- what S3 or S6 says of a node's condition
+
+abbrev pub oppositeFits : Condition → Bool
+oppositeFits f = shortRule3Fits f || shortRule6Fits f
+
+pub some-opposite : {x : ℕ} {range : Range} {f g : Condition} → g ≡ forSome x range f → oppositeFits g ≡ shortRule2Fits x f
+some-opposite {x} {range} {f} e = ap oppositeFits e ∙ or-false (shortRule2Fits x f)
+
+-- S5 fits no condition but a "some"
+pub not-divided : (y : ℕ) (node : question.Node) (first second third : Reading) → OneOf (0 ∷ 1 ∷ 2 ∷ 3 ∷ 4 ∷ 5 ∷ 6 ∷ 7 ∷ 8 ∷ 9 ∷ 10 ∷ 12 ∷ 13 ∷ []) (tagOf the-type node) → shortRule5Fits y (readingOf node first second third .condition) ≡ false
+not-divided y (Table relation) first second third h = refl
+not-divided y (Alpha target binding condition) first second third h = refl
+not-divided y (Target variable number next) first second third h = refl
+not-divided y (Binding variable range next) first second third h = refl
+not-divided y (RangeOr left right) first second third h = refl
+not-divided y (RangeAnd left right) first second third h = refl
+not-divided y (RangeAndNot left right) first second third h = refl
+not-divided y (AtomNode comparison) first second third h = refl
+not-divided y (And left right) first second third h = refl
+not-divided y (Or left right) first second third h = refl
+not-divided y (Not inner) first second third h = refl
+not-divided y (Some variable range condition) first second third h = absurd (miss (0 ∷ 1 ∷ 2 ∷ 3 ∷ 4 ∷ 5 ∷ 6 ∷ 7 ∷ 8 ∷ 9 ∷ 10 ∷ 12 ∷ 13 ∷ []) 11 tt h)
+not-divided y (Every variable range condition) first second third h = refl
+not-divided y IllFormed first second third h = refl
+
+-- of the nodes left, none is a "some" or an atom: they read as what S3 and S6 do not fit, or as an atom without a column
+pub no-opposite : (columns : ℕ → ℕ) (relations : ℕ) (s : scopes.Scope) (node : question.Node) (first second third : Reading) → OneOf (0 ∷ 1 ∷ 2 ∷ 3 ∷ 4 ∷ 5 ∷ 6 ∷ 8 ∷ 9 ∷ 10 ∷ 12 ∷ 13 ∷ []) (tagOf the-type node)
+    → GoodCondition columns relations (readingOf node first second third .condition) s → oppositeFits (readingOf node first second third .condition) ≡ true → ⊥
+unfolding GoodCondition
+no-opposite columns relations s (Table relation) first second third h g fits = omega (arith, g .0)
+no-opposite columns relations s (Alpha target binding condition) first second third h g fits = omega (arith, g .0)
+no-opposite columns relations s (Target variable attribute next) first second third h g fits = omega (arith, g .0)
+no-opposite columns relations s (Binding variable range next) first second third h g fits = omega (arith, g .0)
+no-opposite columns relations s (RangeOr left right) first second third h g fits = omega (arith, g .0)
+no-opposite columns relations s (RangeAnd left right) first second third h g fits = omega (arith, g .0)
+no-opposite columns relations s (RangeAndNot left right) first second third h g fits = omega (arith, g .0)
+no-opposite columns relations s (AtomNode found) first second third h g fits = miss (0 ∷ 1 ∷ 2 ∷ 3 ∷ 4 ∷ 5 ∷ 6 ∷ 8 ∷ 9 ∷ 10 ∷ 12 ∷ 13 ∷ []) 7 tt h
+no-opposite columns relations s (And left right) first second third h g fits = false≢true fits
+no-opposite columns relations s (Or left right) first second third h g fits = false≢true fits
+no-opposite columns relations s (Not inner) first second third h g fits = false≢true fits
+no-opposite columns relations s (Some variable range condition) first second third h g fits = miss (0 ∷ 1 ∷ 2 ∷ 3 ∷ 4 ∷ 5 ∷ 6 ∷ 8 ∷ 9 ∷ 10 ∷ 12 ∷ 13 ∷ []) 11 tt h
+no-opposite columns relations s (Every variable range condition) first second third h g fits = false≢true fits
+no-opposite columns relations s IllFormed first second third h g fits = omega (arith, g .0)

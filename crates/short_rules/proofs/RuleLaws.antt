@@ -1,0 +1,185 @@
+-- The leaves passed one by one: tests of all, counts, and lists made from those that pass a test. Assumes nothing.
+use Rattle.calculus.proofs.SizeTheorem.{selects-size, projects-size}
+use Prim.Native.Nat.{ℕ, suc, _+_, _*_, _-_, _≤_, _<_, pred, _/_}
+use mathlib.Core.Path.{_≡_, refl, sym, ap, ap₂, _∙_}
+use mathlib.Core.Bool.{Bool, true, false, not, cond, _&&_, false≢true, and-assoc}
+use mathlib.Core.List.{List, [], _∷_, _++_, map}
+use native.Mathlib.Omega.{arith}
+use lib.Dec.{eqb}
+use lib.ListN.{length, length-map, length-append}
+use borrow.Author.Tests.{eq-eqb, ne-eqb}
+use Rattle.relations.specs.Limits.{tripleLimit, listWords}
+use Rattle.relations.specs.Comparison.{Operator, operatorNumber, turned}
+use Rattle.relations.specs.PlanWords.{tripleWords, pairWords}
+use Rattle.relations.proofs.ListLaws.{length-flat}
+use Rattle.calculus.specs.Leaves.{aloneOn, comparesWithOther, ownAttribute, otherVariable, otherAttribute, equatesWith, equatesOutside}
+use Rattle.calculus.specs.ShortRules.{lastNumber, selectNodes, projectNodes, tripleOf, triplesOf, outsideTriples, divisionPairs, shortRule5Columns}
+use Rattle.relations.specs.Columns.{Attribute, Triple, Pair}
+use Rattle.relations.specs.Lists.{all, filter, flat}
+use Rattle.relations.specs.Nodes.{Node, semijoin, antijoin, divide, unite}
+use Rattle.calculus.specs.Question as calculus
+use Rattle.calculus.specs.Scope.{entry, Scope, columnNumber}
+use Rattle.conditions.specs.Entries.{entries}
+use Rattle.conditions.specs.Leaves.{leafAt}
+use Rattle.emission.specs.Listings.{listing, numbersOf}
+use Rattle.emission.specs.declared.listing.Listing.{Listing}
+use Rattle.emission.specs.Written.{Written}
+use Rattle.short_rules.specs.Rules.{selectsBehind, dividendBehind}
+use Rattle.conditions.specs.declared.leaves.Leaves.{Leaves}
+use Rattle.conditions.proofs.EntryLaws.{entries-step}
+use Rattle.emission.proofs.WrittenLaws.{written-then, last-is, written-as}
+
+-- the next leaf of so many
+module _ (words : List ℕ) (collected : Leaves) where
+  abbrev pub rest : ℕ → ℕ → List calculus.Atom
+  rest i left = entries (leafAt words collected) i left
+
+  module _ (i left : ℕ) (h : 0 < left) where
+    next-leaf : rest i left ≡ leafAt words collected i ∷ rest (i + 1) (left - 1)
+    next-leaf = entries-step (leafAt words collected) i left h
+
+    pub all-next : (test : calculus.Atom → Bool) (fits passes whole : Bool) → passes ≡ test (leafAt words collected i) → (fits && all test (rest i left)) ≡ whole → ((fits && passes) && all test (rest (i + 1) (left - 1))) ≡ whole
+    all-next test fits passes whole e w =
+        and-assoc fits passes (all test (rest (i + 1) (left - 1)))
+        ∙ ap (λ b. fits && (b && all test (rest (i + 1) (left - 1)))) e
+        ∙ ap (λ l. fits && all test l) (sym next-leaf) ∙ w
+
+    pub count-next : (test : calculus.Atom → Bool) (passes : Bool) → passes ≡ test (leafAt words collected i) → length (filter test (rest i left)) ≡ cond passes 1 0 + length (filter test (rest (i + 1) (left - 1)))
+    count-next test passes e = ap (λ l. length (filter test l)) next-leaf ∙ rw e (go (test (leafAt words collected i)))
+      where
+        go : (b : Bool) → length (cond b (leafAt words collected i ∷ filter test (rest (i + 1) (left - 1))) (filter test (rest (i + 1) (left - 1)))) ≡ cond b 1 0 + length (filter test (rest (i + 1) (left - 1)))
+        go true = omega arith
+        go false = omega arith
+
+    pub triples-next : (s : Scope) (x : ℕ) → flat tripleWords (triplesOf s x (rest i left)) ≡ flat tripleWords (triplesOf s x (leafAt words collected i ∷ [])) ++ flat tripleWords (triplesOf s x (rest (i + 1) (left - 1)))
+    triples-next s x = ap (λ l. flat tripleWords (triplesOf s x l)) next-leaf ∙ go (comparesWithOther x (leafAt words collected i)) (leafAt words collected i)
+      where
+        go : (b : Bool) (a : calculus.Atom) → flat tripleWords (map (tripleOf s x) (cond b (a ∷ filter (comparesWithOther x) (rest (i + 1) (left - 1))) (filter (comparesWithOther x) (rest (i + 1) (left - 1))))) ≡ flat tripleWords (map (tripleOf s x) (cond b (a ∷ []) [])) ++ flat tripleWords (triplesOf s x (rest (i + 1) (left - 1)))
+        go true a = refl
+        go false a = refl
+
+    pub selects-next : (s : Scope) (x n : ℕ) → 1 ≤ n → selectNodes s (filter (aloneOn x) (rest i left)) (pred n) n ≡ selectNodes s (filter (aloneOn x) (leafAt words collected i ∷ [])) (pred n) n ++ selectNodes s (filter (aloneOn x) (rest (i + 1) (left - 1))) (pred (n + length (selectNodes s (filter (aloneOn x) (leafAt words collected i ∷ [])) (pred n) n))) (n + length (selectNodes s (filter (aloneOn x) (leafAt words collected i ∷ [])) (pred n) n))
+    selects-next s x n h = ap (λ l. selectNodes s (filter (aloneOn x) l) (pred n) n) next-leaf ∙ go (aloneOn x (leafAt words collected i)) (leafAt words collected i)
+      where
+        go : (b : Bool) (a : calculus.Atom) → selectNodes s (cond b (a ∷ filter (aloneOn x) (rest (i + 1) (left - 1))) (filter (aloneOn x) (rest (i + 1) (left - 1)))) (pred n) n ≡ selectNodes s (cond b (a ∷ []) []) (pred n) n ++ selectNodes s (filter (aloneOn x) (rest (i + 1) (left - 1))) (pred (n + length (selectNodes s (cond b (a ∷ []) []) (pred n) n))) (n + length (selectNodes s (cond b (a ∷ []) []) (pred n) n))
+        go true a =
+            let e : n + 1 ≡ suc n = omega arith in
+            rw e
+        go false a =
+            let e : n + 0 ≡ n = omega arith in
+            rw e
+
+    pub own-count : (test : calculus.Atom → Bool) (own : ℕ) (passes : Bool) → passes ≡ test (leafAt words collected i) → length (filter test (rest i left)) ≡ length (cond passes (own ∷ []) []) + length (filter test (rest (i + 1) (left - 1)))
+    own-count test own passes e = count-next test passes e ∙ ap (λ (k : ℕ). k + length (filter test (rest (i + 1) (left - 1)))) (sym (go passes))
+      where
+        go : (b : Bool) → length (cond b (own ∷ []) []) ≡ cond b 1 0
+        go true = refl
+        go false = refl
+
+    pub own-next : (test : calculus.Atom → Bool) (z own : ℕ) (passes : Bool) → passes ≡ test (leafAt words collected i) → own ≡ ownAttribute z (leafAt words collected i) .number
+        → numbersOf (map (ownAttribute z) (filter test (rest i left))) ≡ cond passes (own ∷ []) [] ++ numbersOf (map (ownAttribute z) (filter test (rest (i + 1) (left - 1))))
+    own-next test z own passes e f = ap (λ l. numbersOf (map (ownAttribute z) (filter test l))) next-leaf ∙ rw (e, f) (go (test (leafAt words collected i)))
+      where
+        go : (b : Bool) → numbersOf (map (ownAttribute z) (cond b (leafAt words collected i ∷ filter test (rest (i + 1) (left - 1))) (filter test (rest (i + 1) (left - 1))))) ≡ cond b (ownAttribute z (leafAt words collected i) .number ∷ []) [] ++ numbersOf (map (ownAttribute z) (filter test (rest (i + 1) (left - 1))))
+        go true = refl
+        go false = refl
+
+    pub pairs-next : (test : calculus.Atom → Bool) (z column other : ℕ) (passes : Bool) → passes ≡ test (leafAt words collected i) → other ≡ otherAttribute z (leafAt words collected i) .number
+        → flat pairWords (divisionPairs z (filter test (rest i left)) column) ≡ cond passes (column ∷ other ∷ []) [] ++ flat pairWords (divisionPairs z (filter test (rest (i + 1) (left - 1))) (column + cond passes 1 0))
+    pairs-next test z column other passes e f = ap (λ l. flat pairWords (divisionPairs z (filter test l) column)) next-leaf ∙ rw (e, f) (go (test (leafAt words collected i)))
+      where
+        go : (b : Bool) → flat pairWords (divisionPairs z (cond b (leafAt words collected i ∷ filter test (rest (i + 1) (left - 1))) (filter test (rest (i + 1) (left - 1)))) column) ≡ cond b (column ∷ otherAttribute z (leafAt words collected i) .number ∷ []) [] ++ flat pairWords (divisionPairs z (filter test (rest (i + 1) (left - 1))) (column + cond b 1 0))
+        go true = let k : column + 1 ≡ suc column = omega arith in rw k
+        go false = let k : column + 0 ≡ column = omega arith in rw k
+
+    pub outside-next : (test : calculus.Atom → Bool) (s : Scope) (z column other : ℕ) (passes : Bool) → passes ≡ test (leafAt words collected i) → other ≡ columnNumber s (otherVariable z (leafAt words collected i)) (otherAttribute z (leafAt words collected i) .number)
+        → flat tripleWords (outsideTriples s z (filter test (rest i left)) column) ≡ cond passes (other ∷ 1 ∷ column ∷ []) [] ++ flat tripleWords (outsideTriples s z (filter test (rest (i + 1) (left - 1))) (column + cond passes 1 0))
+    outside-next test s z column other passes e f = ap (λ l. flat tripleWords (outsideTriples s z (filter test l) column)) next-leaf ∙ rw (e, f) (go (test (leafAt words collected i)))
+      where
+        go : (b : Bool) → flat tripleWords (outsideTriples s z (cond b (leafAt words collected i ∷ filter test (rest (i + 1) (left - 1))) (filter test (rest (i + 1) (left - 1)))) column) ≡ cond b (columnNumber s (otherVariable z (leafAt words collected i)) (otherAttribute z (leafAt words collected i) .number) ∷ 1 ∷ column ∷ []) [] ++ flat tripleWords (outsideTriples s z (filter test (rest (i + 1) (left - 1))) (column + cond b 1 0))
+        go true = let k : column + 1 ≡ suc column = omega arith in rw k
+        go false = let k : column + 0 ≡ column = omega arith in rw k
+
+pub three : {a b c d e f : ℕ} → a ≡ d → b ≡ e → c ≡ f → a ∷ b ∷ c ∷ [] ≡ d ∷ e ∷ f ∷ []
+three {a} {b} {c} {d} {e} {f} p q r = ap (λ x. x ∷ b ∷ c ∷ []) p ∙ ap (λ x. d ∷ x ∷ c ∷ []) q ∙ ap (λ x. d ∷ e ∷ x ∷ []) r
+
+-- a triple from its parts
+
+module _ (s : Scope) (x v : ℕ) (a : Attribute) (o : Operator) where
+  pub triple-turned : (operand : calculus.Operand) → comparesWithOther x (calculus.compare v a o operand) ≡ true → v ≡ x
+      → flat tripleWords (triplesOf s x (calculus.compare v a o operand ∷ [])) ≡ columnNumber s (otherVariable x (calculus.compare v a o operand)) (otherAttribute x (calculus.compare v a o operand) .number) ∷ operatorNumber (turned o) ∷ ownAttribute x (calculus.compare v a o operand) .number ∷ []
+  triple-turned (calculus.fixed c) h e = absurd (false≢true h)
+  triple-turned (calculus.ofVariable w b) h e = let t : eqb v x ≡ true = eq-eqb v x e in rw (h, t)
+
+  pub triple-straight : (operand : calculus.Operand) → comparesWithOther x (calculus.compare v a o operand) ≡ true → (v ≡ x → ⊥)
+      → flat tripleWords (triplesOf s x (calculus.compare v a o operand ∷ [])) ≡ columnNumber s (otherVariable x (calculus.compare v a o operand)) (otherAttribute x (calculus.compare v a o operand) .number) ∷ operatorNumber o ∷ ownAttribute x (calculus.compare v a o operand) .number ∷ []
+  triple-straight (calculus.fixed c) h e = absurd (false≢true h)
+  triple-straight (calculus.ofVariable w b) h e = let t : eqb v x ≡ false = ne-eqb v x e in rw (h, t)
+
+pub triple-none : (s : Scope) (x : ℕ) (a : calculus.Atom) → comparesWithOther x a ≡ false → flat tripleWords (triplesOf s x (a ∷ [])) ≡ []
+triple-none s x a h = rw h
+
+-- at most 8 triples are at most 24 words
+pub triples-fit : (s : Scope) (x : ℕ) (atoms : List calculus.Atom) → length (filter (comparesWithOther x) atoms) ≤ tripleLimit → length (flat tripleWords (triplesOf s x atoms)) ≤ listWords
+triples-fit s x atoms h = omega (arith, length-flat 3 tripleWords (triplesOf s x atoms) (λ t. refl), length-map (filter (comparesWithOther x) atoms) (tripleOf s x))
+
+pub alone-here : (x : ℕ) (a : calculus.Atom) → aloneOn x a ≡ true → filter (aloneOn x) (a ∷ []) ≡ a ∷ []
+alone-here x a h = rw h
+
+pub alone-not : (x : ℕ) (a : calculus.Atom) → aloneOn x a ≡ false → filter (aloneOn x) (a ∷ []) ≡ []
+alone-not x a h = rw h
+
+pub alone-count : (x : ℕ) (a : calculus.Atom) → length (filter (aloneOn x) (a ∷ [])) ≡ cond (aloneOn x a) 1 0
+alone-count x a = go (aloneOn x a)
+  where
+    go : (b : Bool) → length (cond b (a ∷ []) []) ≡ cond b 1 0
+    go true = refl
+    go false = refl
+
+pub pairs-size : (z : ℕ) (atoms : List calculus.Atom) (column : ℕ) → length (flat pairWords (divisionPairs z atoms column)) ≡ 2 * length atoms
+pairs-size z [] column = refl
+pairs-size z (a ∷ atoms) column = omega (arith, pairs-size z atoms (suc column))
+
+pub outside-size : (s : Scope) (z : ℕ) (atoms : List calculus.Atom) (column : ℕ) → length (flat tripleWords (outsideTriples s z atoms column)) ≡ 3 * length atoms
+outside-size s z [] column = refl
+outside-size s z (a ∷ atoms) column = omega (arith, outside-size s z atoms (suc column))
+
+-- S5's columns: those of the equations with a variable outside stand first
+module _ (s : Scope) (z y : ℕ) (atoms : List calculus.Atom) {triples : Listing} (outside : triples ≡ listing (flat tripleWords (outsideTriples s z (filter (equatesOutside z y) atoms) 1))) where
+  pub outside-count : triples .used / 3 + 1 ≡ suc (length (filter (equatesOutside z y) atoms))
+  outside-count = omega (arith, ap (λ (list : Listing). list .used) outside, outside-size s z (filter (equatesOutside z y) atoms) 1)
+
+  pub pairs-counted : {pairs : Listing} → pairs ≡ listing (flat pairWords (divisionPairs z (filter (equatesWith z y) atoms) (triples .used / 3 + 1))) → pairs ≡ listing (flat pairWords (divisionPairs z (filter (equatesWith z y) atoms) (suc (length (filter (equatesOutside z y) atoms)))))
+  pairs-counted e = e ∙ ap (λ (first : ℕ). listing (flat pairWords (divisionPairs z (filter (equatesWith z y) atoms) first))) outside-count
+
+pub own-size : (z : ℕ) (atoms : List calculus.Atom) → length (numbersOf (map (ownAttribute z) atoms)) ≡ length atoms
+own-size z atoms = length-map (map (ownAttribute z) atoms) (λ a. a .number) ∙ length-map atoms (ownAttribute z)
+
+-- as many selects as atoms
+pub behind-size : (x width : ℕ) (atoms : List calculus.Atom) (n : ℕ) → length (selectsBehind x width atoms n) ≡ length (filter (aloneOn x) atoms)
+behind-size x width atoms n = selects-size (filter (aloneOn x) atoms) (entry x width ∷ []) (pred n) n
+
+pub not-false : (b : Bool) → not b ≡ false → b ≡ true
+not-false true h = refl
+not-false false h = sym h
+
+-- S5's nodes
+
+pub dividend-size : (y z width : ℕ) (atoms : List calculus.Atom) (n : ℕ) → length (dividendBehind y z width atoms n) ≤ length (filter (aloneOn z) atoms) + 1
+dividend-size y z width atoms n =
+    omega (arith, behind-size z width atoms n, projects-size true width (lastNumber n (selectsBehind z width atoms n)) (shortRule5Columns z y atoms), length-append (selectsBehind z width atoms n) (projectNodes true width (lastNumber n (selectsBehind z width atoms n)) (shortRule5Columns z y atoms)))
+
+module _ {k p : ℕ} {pairs : List Pair} {triples : List Triple} where
+  four : {h i j l h′ i′ j′ l′ : ℕ} → h ≡ h′ → i ≡ i′ → j ≡ j′ → l ≡ l′ → divide h k pairs ∷ semijoin p i triples ∷ antijoin p k [] ∷ unite j l ∷ [] ≡ divide h′ k pairs ∷ semijoin p i′ triples ∷ antijoin p k [] ∷ unite j′ l′ ∷ []
+  four {h} {i} {j} {l} {h′} {i′} {j′} {l′} e f g d =
+      ap (λ x. divide x k pairs ∷ semijoin p i triples ∷ antijoin p k [] ∷ unite j l ∷ []) e
+      ∙ ap (λ x. divide h′ k pairs ∷ semijoin p x triples ∷ antijoin p k [] ∷ unite j l ∷ []) f
+      ∙ ap₂ (λ x y. divide h′ k pairs ∷ semijoin p i′ triples ∷ antijoin p k [] ∷ unite x y ∷ []) g d
+
+module _ {b m₀ m₁ m₂ m₃ m₄ : List ℕ} {n q divided matched unmatched count : ℕ} {dividend : List Node} {k p : ℕ} {pairs : List Pair} {triples : List Triple} where
+  pub division-written : Written b n dividend m₀ q → Written m₀ q (divide (q - 1) k pairs ∷ []) m₁ divided → Written m₁ divided (semijoin p q triples ∷ []) m₂ matched → Written m₂ matched (antijoin p k [] ∷ []) m₃ unmatched → Written m₃ unmatched (unite divided matched ∷ []) m₄ count
+      → Written b n (dividend ++ (divide (pred (n + length dividend)) k pairs ∷ semijoin p (n + length dividend) triples ∷ antijoin p k [] ∷ unite (suc (n + length dividend)) (suc (suc (n + length dividend))) ∷ [])) m₄ count
+  division-written w d s a u =
+      let e : suc (n + length dividend) ≡ divided = omega (arith, w .counted, d .counted) in
+      let f : suc (suc (n + length dividend)) ≡ matched = omega (arith, w .counted, d .counted, s .counted) in
+      written-then w (written-as (four (last-is w) (sym (w .counted)) e f) (written-then (written-then (written-then d s) a) u))

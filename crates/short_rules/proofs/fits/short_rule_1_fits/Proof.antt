@@ -1,0 +1,74 @@
+use Rattle.short_rules.proofs.ProjectLaws.{other-number, same-on, same-stop, same-end}
+use Prim.Native.Nat.{_+_, _-_, _≤_}
+use mathlib.Core.Path.{_≡_, sym, _∙_}
+use mathlib.Core.List.{List}
+use lib.ListN.{drop}
+use Rattle.relations.specs.Columns.{Attribute}
+use Rattle.calculus.specs.Scope.{columnsFrom}
+use Rattle.calculus.specs.ShortRules.{sameAttributes, shortRule1Fits}
+use Rattle.emission.specs.Listings.{listing, numbersOf}
+use native.Mathlib.Omega.{arith}
+use Rattle.short_rules.proofs.fits.short_rule_1_fits.Statement.{statement}
+use Rattle.short_rules.proofs.fits.short_rule_1_fits.Tie as tie
+
+abbrev Inv-loop : tie.InvT-loop
+Inv-loop width attributes i₀ i = (i ≤ width) × (attributes .used ≡ width) × ((listed : List Attribute) → attributes ≡ listing (numbersOf listed) → shortRule1Fits width listed ≡ sameAttributes (drop i listed) (columnsFrom (width - i) (i + 1)))
+
+abbrev μ-loop : tie.MeasureT-loop
+μ-loop width attributes i₀ i = width - i
+
+returns : tie.Need-returns Inv-loop μ-loop
+returns c = λ listed e. sym (other-number (c .before .args .width) (c .before .args .t2) listed e (c .if1 .taken))
+
+loop-holds : tie.Need-loop-holds Inv-loop μ-loop
+loop-holds c = (omega arith, c .if1 .left, λ listed e. let k : c .before .args .width - 0 ≡ c .before .args .width = omega arith in rw k)
+
+cast-if2 : tie.Need-cast-if2 Inv-loop μ-loop
+cast-if2 c = omega arith
+
+mul-if2 : tie.Need-mul-if2 Inv-loop μ-loop
+mul-if2 c = omega arith
+
+element-copy-out-if2 : tie.Need-element-copy-out-if2 Inv-loop μ-loop
+element-copy-out-if2 c = omega (arith, c .before .before .before .pre)
+
+add-if2 : tie.Need-add-if2 Inv-loop μ-loop
+add-if2 c = omega arith
+
+returns-2 : tie.Need-returns-2 Inv-loop μ-loop
+returns-2 c = λ listed e.
+    let s = c .before .before .before .before .before in
+    let l = c .before .before .before .loop in
+    sym (l .inv .2 listed e ∙ same-stop (s .args .width) (s .args .t2) listed e (l .i) (l .inv .1) (omega arith) (c .if2 .taken))
+
+add-i : tie.Need-add-i Inv-loop μ-loop
+add-i c = omega arith
+
+loop-less : tie.Need-loop-less Inv-loop μ-loop
+loop-less c = omega arith
+
+loop-again : tie.Need-loop-again Inv-loop μ-loop
+loop-again c = let s = c .before .before .before .before .before in
+    let l = c .before .before .before .loop in
+    (omega arith, l .inv .1, λ listed e. l .inv .2 listed e ∙ same-on (s .args .width) (s .args .t2) listed e (l .i) (l .inv .1) (omega arith) (c .if2 .left))
+
+returns-3 : tie.Need-returns-3 Inv-loop μ-loop
+returns-3 c = λ listed e. sym (c .before .loop .inv .2 listed e ∙ same-end (c .before .before .before .args .width) (c .before .before .before .args .t2) listed e (c .before .loop .i) (c .before .loop .inv .1) (omega arith))
+
+pub short-rule-1-fits-spec : {M : Type 1} → statement M
+short-rule-1-fits-spec =
+    tie.close
+    (tie.spec
+    Inv-loop
+    μ-loop
+    returns
+    loop-holds
+    cast-if2
+    mul-if2
+    element-copy-out-if2
+    add-if2
+    returns-2
+    add-i
+    loop-less
+    loop-again
+    returns-3)

@@ -1,0 +1,107 @@
+use Rattle.short_rules.proofs.RuleLaws.{rest, pairs-next, pairs-size}
+use Rattle.calculus.specs.ShortRules.{divisionPairs}
+use Rattle.calculus.specs.Leaves.{equatesWith, otherAttribute}
+use Rattle.relations.specs.PlanWords.{pairWords}
+use Rattle.emission.proofs.ListingLaws.{longer-then, longer-none}
+use Rattle.emission.specs.declared.listing.Listing.{Listing}
+use Rattle.emission.specs.Listings.{listing, Longer}
+use Rattle.conditions.specs.Leaves.{atomsOf}
+use Rattle.calculus.specs.Question as calculus
+use Rattle.relations.specs.Lists.{flat, filter}
+use lib.ListN.{length, length-append}
+use mathlib.Core.List.{List, [], _∷_}
+use mathlib.Core.Bool.{cond}
+use mathlib.Core.Path.{_≡_, ap, subst, sym, _∙_}
+use Prim.Native.Nat.{ℕ, _+_, _-_, _≤_}
+use native.Mathlib.Omega.{arith}
+use Rattle.short_rules.proofs.rules.division_pairs.Statement.{statement}
+use Rattle.short_rules.proofs.rules.division_pairs.Tie as tie
+
+abbrev Inv-loop : tie.InvT-loop
+Inv-loop words z y leaves first list₀ column₀ i₀ left₀ list column i left = (i + left ≡ leaves .count)
+    × (column ≤ first + i)
+    × (list .used + length (flat pairWords (divisionPairs z (filter (equatesWith z y) (rest words leaves i left)) column)) ≤ 32)
+    × ((r : Listing) → Longer list (flat pairWords (divisionPairs z (filter (equatesWith z y) (rest words leaves i left)) column)) r → r ≡ listing (flat pairWords (divisionPairs z (filter (equatesWith z y) (atomsOf words leaves)) first)))
+
+abbrev μ-loop : tie.MeasureT-loop
+μ-loop words z y leaves first list₀ column₀ i₀ left₀ list column i left = left
+
+no-list-requires : tie.Need-no-list-requires Inv-loop μ-loop
+no-list-requires c κs = tt
+
+loop-holds : tie.Need-loop-holds Inv-loop μ-loop
+loop-holds c = let s = c .before .before in
+    (omega arith, omega arith, omega (arith, s .pre .1, ap (λ (l : Listing). l .used) (c .no-list .ensures), pairs-size (s .args .z) (filter (equatesWith (s .args .z) (s .args .y)) (atomsOf (s .args .words .now) (s .args .leaves))) (s .args .first)), λ r l. l .holds [] (c .no-list .ensures))
+
+leaf-requires : tie.Need-leaf-requires Inv-loop μ-loop
+leaf-requires c κs = (c .before .before .before .before .pre .0, omega arith)
+
+equates-with-requires : tie.Need-equates-with-requires Inv-loop μ-loop
+equates-with-requires c κs = c .leaf .ensures .1
+
+other-attribute-requires : tie.Need-other-attribute-requires Inv-loop μ-loop
+other-attribute-requires c κs = c .before .leaf .ensures .1
+
+with-pair-if-requires : tie.Need-with-pair-if-requires Inv-loop μ-loop
+with-pair-if-requires c κs = let s = c .before .before .before .before .before .before .before in
+    let l = c .before .before .before .before .loop in
+    let a = c .before .before .leaf .ensures .0 in
+    let t = c .before .equates-with .ensures ∙ ap (equatesWith (s .args .z) (s .args .y)) a in
+    let o = c .other-attribute .ensures .0 ∙ ap (λ (b : calculus.Atom). otherAttribute (s .args .z) b .number) a in
+    let e = pairs-next (s .args .words .now) (s .args .leaves) (l .i) (l .left) (omega arith) (equatesWith (s .args .z) (s .args .y)) (s .args .z) (l .column) _ _ t o in
+    omega (arith, l .inv .2, ap length e, length-append (cond (c .before .equates-with .result) (l .column ∷ c .other-attribute .result .0 ∷ []) []) (flat pairWords (divisionPairs (s .args .z) (filter (equatesWith (s .args .z) (s .args .y)) (rest (s .args .words .now) (s .args .leaves) (l .i + 1) (l .left - 1))) (l .column + cond (c .before .equates-with .result) 1 0))))
+
+once-requires : tie.Need-once-requires Inv-loop μ-loop
+once-requires c κs = tt
+
+add-column : tie.Need-add-column Inv-loop μ-loop
+add-column c = omega (arith, c .once .ensures .1, c .before .before .before .before .before .before .before .before .before .pre .2)
+
+add-i : tie.Need-add-i Inv-loop μ-loop
+add-i c = omega arith
+
+sub-left : tie.Need-sub-left Inv-loop μ-loop
+sub-left c = omega arith
+
+loop-less : tie.Need-loop-less Inv-loop μ-loop
+loop-less c = omega arith
+
+loop-again : tie.Need-loop-again Inv-loop μ-loop
+loop-again c = let s = c .before .before .before .before .before .before .before .before .before in
+    let l = c .before .before .before .before .before .before .loop in
+    let a = c .before .before .before .before .leaf .ensures .0 in
+    let t = c .before .before .before .equates-with .ensures ∙ ap (equatesWith (s .args .z) (s .args .y)) a in
+    let o = c .before .before .other-attribute .ensures .0 ∙ ap (λ (b : calculus.Atom). otherAttribute (s .args .z) b .number) a in
+    let e = pairs-next (s .args .words .now) (s .args .leaves) (l .i) (l .left) (omega arith) (equatesWith (s .args .z) (s .args .y)) (s .args .z) (l .column) _ _ t o in
+    let m = length-append (cond (c .before .before .before .equates-with .result) (l .column ∷ c .before .before .other-attribute .result .0 ∷ []) []) (flat pairWords (divisionPairs (s .args .z) (filter (equatesWith (s .args .z) (s .args .y)) (rest (s .args .words .now) (s .args .leaves) (l .i + 1) (l .left - 1))) (l .column + cond (c .before .before .before .equates-with .result) 1 0))) in
+    let k = ap (λ (x : ℕ). flat pairWords (divisionPairs (s .args .z) (filter (equatesWith (s .args .z) (s .args .y)) (rest (s .args .words .now) (s .args .leaves) (l .i + 1) (l .left - 1))) (l .column + x))) (c .once .ensures .0) in (
+      omega arith,
+      omega (arith, c .once .ensures .1),
+      omega (arith, l .inv .2, c .before .with-pair-if .ensures .grown, ap length e, ap length k, m),
+      λ r longer. l .inv .3 r (subst (λ (more : List ℕ). Longer (l .list) more r) (sym e) (longer-then (c .before .with-pair-if .ensures) (subst (λ (more : List ℕ). Longer (c .before .with-pair-if .result) more r) k longer))),
+    )
+
+returns : tie.Need-returns Inv-loop μ-loop
+returns c = let l = c .before .loop in
+    let e : l .left ≡ 0 = omega arith in
+    l .inv .3 (l .list) (rw e (longer-none (l .list)))
+
+pub division-pairs-spec : {M : Type 1} → statement M
+division-pairs-spec =
+    tie.close
+    (tie.spec
+    Inv-loop
+    μ-loop
+    no-list-requires
+    loop-holds
+    leaf-requires
+    equates-with-requires
+    other-attribute-requires
+    with-pair-if-requires
+    once-requires
+    add-column
+    add-i
+    sub-left
+    loop-less
+    loop-again
+    returns)

@@ -1,0 +1,73 @@
+use Rattle.short_rules.proofs.RuleLaws.{own-size, behind-size}
+use Rattle.emission.proofs.WrittenLaws.{written-then, room-after, room-less, last-is, written-as}
+use Rattle.emission.proofs.ListingLaws.{longer-then, numbers-append}
+use Rattle.emission.specs.declared.listing.Listing.{Listing}
+use Rattle.emission.specs.Listings.{listing, numbersOf}
+use Rattle.short_rules.specs.Rules.{links}
+use Rattle.conditions.specs.Leaves.{atomsOf}
+use Rattle.calculus.specs.ShortRules.{projectNodes, shortRule5Columns}
+use Rattle.calculus.specs.Leaves.{ownAttribute, equatesWith, equatesOutside}
+use Rattle.relations.specs.Lists.{filter}
+use lib.ListN.{length}
+use mathlib.Core.List.{[], map}
+use mathlib.Core.Bool.{true, false}
+use mathlib.Core.Path.{_≡_, ap, sym, _∙_}
+use Prim.Native.Nat.{ℕ, _≤_}
+use native.Mathlib.Omega.{arith}
+use Rattle.short_rules.proofs.rules.write_dividend.Statement.{statement}
+use Rattle.short_rules.proofs.rules.write_dividend.Tie as tie
+
+no-list-requires : tie.Need-no-list-requires
+no-list-requires c κs = tt
+
+with-own-columns-requires : tie.Need-with-own-columns-requires
+with-own-columns-requires c κs = let s = c .before .before .before in
+    let h : length (filter (links true (s .args .z) (s .args .y)) (atomsOf (s .args .words .now) (s .args .leaves))) ≤ 8 = s .pre .few-outside in
+    (s .pre .leaves-fit, omega (arith, h, ap (λ (l : Listing). l .used) (c .no-list .ensures)))
+
+with-own-columns-requires-2 : tie.Need-with-own-columns-requires-2
+with-own-columns-requires-2 c κs = let s = c .before .before .before .before in
+    let atoms = atomsOf (s .args .words .now) (s .args .leaves) in
+    let h : length (filter (links true (s .args .z) (s .args .y)) atoms) ≤ 8 = s .pre .few-outside in
+    let k : length (filter (links false (s .args .z) (s .args .y)) atoms) ≤ 8 = s .pre .few-shared in
+    (s .pre .leaves-fit, omega (arith, h, k, ap (λ (l : Listing). l .used) (c .before .no-list .ensures), c .with-own-columns .ensures .grown, own-size (s .args .z) (filter (links true (s .args .z) (s .args .y)) atoms)))
+
+write-own-selects-requires : tie.Need-write-own-selects-requires
+write-own-selects-requires c κs = let s = c .before .before .before .before .before .before in
+    (s .pre .leaves-fit, s .pre .some-columns, s .pre .few-columns, s .pre .some-nodes, room-less _ (s .pre .room) (omega arith))
+
+sub-write-project : tie.Need-sub-write-project
+sub-write-project c = omega (arith, c .before .before .before .before .before .before .before .before .before .pre .some-nodes, c .before .before .write-own-selects .ensures .counted)
+
+write-project-requires : tie.Need-write-project-requires
+write-project-requires c κs = let s = c .before .before .before .before .before .before .before .before .before .before in
+    let atoms = atomsOf (s .args .words .now) (s .args .leaves) in
+    let h : length (filter (links true (s .args .z) (s .args .y)) atoms) ≤ 8 = s .pre .few-outside in
+    let k : length (filter (links false (s .args .z) (s .args .y)) atoms) ≤ 8 = s .pre .few-shared in (
+      omega (arith, h, k, ap (λ (l : Listing). l .used) (c .before .before .before .before .before .before .before .no-list .ensures), c .before .before .before .before .before .before .with-own-columns .ensures .grown, c .before .before .before .before .before .with-own-columns2 .ensures .grown, own-size (s .args .z) (filter (links true (s .args .z) (s .args .y)) atoms), own-size (s .args .z) (filter (links false (s .args .z) (s .args .y)) atoms)),
+      room-after 1 (s .pre .room) (c .before .before .before .write-own-selects .ensures) (omega (arith, behind-size (s .args .z) (s .args .width) atoms (s .args .n))),
+    )
+
+same-length : tie.Need-same-length
+same-length c = c .before .before .write-project .kept .1 .1 .1 .1 .0 ∙ c .before .before .before .before .before .before .write-own-selects .kept .1 .1 .1 .1 .0
+
+returns : tie.Need-returns
+returns c = let s = c .before .before .before .before .before .before .before .before .before .before .before .before .before in
+    let atoms = atomsOf (s .args .words .now) (s .args .leaves) in
+    let listed = shortRule5Columns (s .args .z) (s .args .y) atoms in
+    let e : c .before .before .before .before .before .before .before .before .with-own-columns2 .result ≡ listing (numbersOf listed) = longer-then (c .before .before .before .before .before .before .before .before .before .with-own-columns .ensures) (c .before .before .before .before .before .before .before .before .with-own-columns2 .ensures) .holds [] (c .before .before .before .before .before .before .before .before .before .before .no-list .ensures) ∙ ap listing (sym (numbers-append (map (ownAttribute (s .args .z)) (filter (equatesOutside (s .args .z) (s .args .y)) atoms)) (map (ownAttribute (s .args .z)) (filter (equatesWith (s .args .z) (s .args .y)) atoms)))) in
+    let w = c .before .before .before .before .before .before .write-own-selects .ensures in
+    written-then w (written-as (ap (λ (k : ℕ). projectNodes true (s .args .width) k listed) (last-is w)) (c .before .before .write-project .ensures listed e))
+
+pub write-dividend-spec : {M : Type 1} → statement M
+write-dividend-spec =
+    tie.close
+    (tie.spec
+    no-list-requires
+    with-own-columns-requires
+    with-own-columns-requires-2
+    write-own-selects-requires
+    sub-write-project
+    write-project-requires
+    same-length
+    returns)

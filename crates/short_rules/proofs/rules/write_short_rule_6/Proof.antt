@@ -1,0 +1,26 @@
+use Rattle.emission.proofs.WrittenLaws.{written-as}
+use Rattle.conditions.specs.Scopes.{scopeOf}
+use Rattle.calculus.specs.ShortRules.{selectNode}
+use Rattle.calculus.specs.Question as calculus
+use mathlib.Core.List.{[], _∷_}
+use mathlib.Core.Path.{sym, ap}
+use borrow.Author.Needs.{needs}
+use Rattle.short_rules.proofs.rules.write_short_rule_6.Statement.{statement}
+use Rattle.short_rules.proofs.rules.write_short_rule_6.Tie as tie
+
+opposite-atom-requires : tie.Need-opposite-atom-requires
+opposite-atom-requires c κs = search needs
+
+write-select-requires : tie.Need-write-select-requires
+write-select-requires c κs = search needs
+
+same-length : tie.Need-same-length
+same-length c = search needs
+
+returns : tie.Need-returns
+returns c = let s = c .before .before .before .before .before .before in
+    written-as (ap (λ (a : calculus.Atom). selectNode (scopeOf (s .args .scope)) (s .args .p) a ∷ []) (sym (c .before .before .before .before .opposite-atom .ensures .0))) (c .before .before .write-select .ensures)
+
+pub write-short-rule-6-spec : {M : Type 1} → statement M
+write-short-rule-6-spec =
+    tie.close (tie.spec opposite-atom-requires write-select-requires same-length returns)

@@ -1,0 +1,150 @@
+// When each of the short rules fits.
+ghost use mathlib.Core.Path.{_≡_};
+ghost use mathlib.Core.Bool.{cond, _&&_, _||_};
+ghost use mathlib.Core.List.{List};
+ghost use Prim.Native.Nat.{_≤_};
+ghost use Rattle.relations.specs.Limits.{listWords, questionNodeLimit};
+ghost use Rattle.relations.specs.Columns as columns;
+ghost use Rattle.calculus.specs.Question as calculus;
+ghost use Rattle.calculus.specs.ShortRules.{shortRule1Fits, shortRule2Atoms, shortRule3Fits, shortRule5Atoms, shortRule5Fits, shortRule6Fits};
+ghost use Rattle.conditions.specs.Readings.{Names, conditionAt};
+ghost use Rattle.conditions.specs.Leaves.{atomsOf, LeavesFit};
+ghost use Rattle.emission.specs.Listings.{listing, numbersOf};
+use conditions::atom::alone_on;
+use conditions::atom::compares_with_other;
+use conditions::atom::equates_outside;
+use conditions::atom::equates_with;
+use conditions::leaves::Leaves;
+use conditions::leaves::leaf;
+use conditions::leaves::leaves_of;
+use emission::limits::PAIRS;
+use emission::limits::TRIPLES;
+use emission::listing::Listing;
+use question::node::Node;
+use question::node::decode;
+
+// S1: a project on all columns in order is not written.
+pub fn short_rule_1_fits(width: u32, attributes: Listing) -> bool
+    requires { ⌜ attributes .used ≤ listWords ⌝ }
+    ensures { λ r. ⌜ ((listed : List columns.Attribute) → attributes ≡ listing (numbersOf listed) → r ≡ shortRule1Fits width listed) ⌝ }
+{
+    if attributes.used != width {
+        return false;
+    }
+    let mut i: u32 = 0;
+    while i < width {
+        if attributes.words[i as usize] != i + 1 {
+            return false;
+        }
+        i += 1;
+    }
+    true
+}
+
+// 1 where the test holds, for counting.
+pub fn once(test: bool) -> u32
+    ensures { λ r. ⌜ (r ≡ cond test 1 0) × (r ≤ 1) ⌝ }
+{
+    if test {
+        return 1;
+    }
+    0
+}
+
+// The atoms that S2 and S4 ask for: each on x alone or comparing x with another variable, the latter at most 8.
+fn short_rule_2_atoms(words: &[u32], x: u32, leaves: Leaves) -> bool
+    requires { ⌜ LeavesFit (now words) leaves ⌝ }
+    ensures { λ r. ⌜ r ≡ shortRule2Atoms x (atomsOf (now (words .entry)) leaves) ⌝ }
+{
+    let mut fits = true;
+    let mut comparing: u32 = 0;
+    let mut i: usize = 0;
+    let mut left = leaves.count;
+    while 0 < left {
+        let atom = leaf(words, leaves, i);
+        let compares = compares_with_other(x, atom);
+        fits = fits & (alone_on(x, atom) | compares);
+        comparing += once(compares);
+        i += 1;
+        left -= 1;
+    }
+    fits & (comparing <= TRIPLES)
+}
+
+pub fn short_rule_2_fits(words: &[u32], x: u32, leaves: Leaves) -> bool
+    requires { ⌜ LeavesFit (now words) leaves ⌝ }
+    ensures { λ r. ⌜ r ≡ (leaves .conjoined && shortRule2Atoms x (atomsOf (now (words .entry)) leaves)) ⌝ }
+{
+    leaves.conjoined & short_rule_2_atoms(words, x, leaves)
+}
+
+pub fn short_rule_4_fits(words: &[u32], x: u32, leaves: Leaves) -> bool
+    requires { ⌜ LeavesFit (now words) leaves ⌝ }
+    ensures { λ r. ⌜ r ≡ (leaves .disjoined && shortRule2Atoms x (atomsOf (now (words .entry)) leaves)) ⌝ }
+{
+    leaves.disjoined & short_rule_2_atoms(words, x, leaves)
+}
+
+// S5 fits "every y" above "some z" with these leaves.
+pub fn short_rule_5_fits(words: &[u32], z: u32, y: u32, leaves: Leaves) -> bool
+    requires { ⌜ LeavesFit (now words) leaves ⌝ }
+    ensures { λ r. ⌜ r ≡ (leaves .conjoined && shortRule5Atoms z y (atomsOf (now (words .entry)) leaves)) ⌝ }
+{
+    let mut fits = true;
+    let mut shared: u32 = 0;
+    let mut outside: u32 = 0;
+    let mut i: usize = 0;
+    let mut left = leaves.count;
+    while 0 < left {
+        let atom = leaf(words, leaves, i);
+        let with_y = equates_with(z, y, atom);
+        let with_other = equates_outside(z, y, atom);
+        fits = fits & (alone_on(z, atom) | (with_y | with_other));
+        shared += once(with_y);
+        outside += once(with_other);
+        i += 1;
+        left -= 1;
+    }
+    leaves.conjoined
+        & (fits & ((1 <= shared) & (shared <= PAIRS) & ((1 <= outside) & (outside <= TRIPLES))))
+}
+
+// S3 or S6 fits a "not" above the condition that a reference names.
+pub fn opposite_fits(words: &[u32], reference: u32) -> bool
+    requires { ⌜ Names (now words) reference × (calculus.conditionNodes (conditionAt (now words) reference) ≤ questionNodeLimit) ⌝ }
+    ensures { λ r. ⌜ r ≡ (shortRule3Fits (conditionAt (now (words .entry)) reference) || shortRule6Fits (conditionAt (now (words .entry)) reference)) ⌝ }
+{
+    let node = decode(words, (reference - 1) as usize);
+    match node {
+        Node::Some {
+            variable,
+            range: _,
+            condition,
+        } => short_rule_2_fits(words, variable, leaves_of(words, condition)),
+        Node::And { left: _, right: _ } => false,
+        Node::Or { left: _, right: _ } => false,
+        Node::Not { inner: _ } => false,
+        Node::Every {
+            variable: _,
+            range: _,
+            condition: _,
+        } => false,
+        _ => true,
+    }
+}
+
+// S5 fits an "every y" above the condition that a reference names.
+pub fn division_fits(words: &[u32], y: u32, reference: u32) -> bool
+    requires { ⌜ Names (now words) reference × (calculus.conditionNodes (conditionAt (now words) reference) ≤ questionNodeLimit) ⌝ }
+    ensures { λ r. ⌜ r ≡ shortRule5Fits y (conditionAt (now (words .entry)) reference) ⌝ }
+{
+    let node = decode(words, (reference - 1) as usize);
+    match node {
+        Node::Some {
+            variable,
+            range: _,
+            condition,
+        } => short_rule_5_fits(words, variable, y, leaves_of(words, condition)),
+        _ => false,
+    }
+}
