@@ -68,19 +68,22 @@ def time_sqlite(shape, words):
     return best and (answer_rows, best)
 
 
-def measured(program, shape, words, last_desk):
-    """One row of the table, and the desk's time for the next row's growth."""
+def measured(program, shape, words, last=(None, None)):
+    """One row of the table, ratios only, and the times of both for the next row's growth."""
     status, rows, desk = time_desk(program, shape, words)
     if status:
-        return f"|{shape.name}|{words:,}|refused {status}|||||", None
-    growth = f"{desk / last_desk:.1f}" if last_desk else ""
+        return f"|{shape.name}|{words:,}|refused {status}||||", (None, None)
     found = time_sqlite(shape, words)
-    if found is None:
-        return f"|{shape.name}|{words:,}|{rows}|{desk * 1e3:.3f}|over {LONGEST_SECONDS} s||{growth}|", desk
     # Different answers would make the times worthless.
-    if found[0] != rows:
+    if found and found[0] != rows:
         raise SystemExit(f"{shape.name}: the desk has {rows} rows, SQLite {found[0]}")
-    return f"|{shape.name}|{words:,}|{rows}|{desk * 1e3:.3f}|{found[1] * 1e3:.3f}|{desk / found[1]:.2f}|{growth}|", desk
+    sqlite = found[1] if found else None
+    against = f"{desk / sqlite:.2f}" if found else f"SQLite over {LONGEST_SECONDS} s"
+    return f"|{shape.name}|{words:,}|{rows}|{against}|{ratio(desk, last[0])}|{ratio(sqlite, last[1])}|", (desk, sqlite)
+
+
+def ratio(time_taken, before):
+    return f"{time_taken / before:.1f}" if time_taken and before else ""
 
 
 def fitting_examples(program, words):
@@ -96,17 +99,17 @@ def fitting_examples(program, words):
 
 def main():
     program, sizes = sys.argv[1], [int(size) for size in sys.argv[2:]] or SIZES
-    print(f"Mode short, times in milliseconds, SQLite {sqlite3.sqlite_version} with fetching through Python.")
-    print("\n|worst shape of|words|rows|desk|SQLite|desk / SQLite|desk against the size before|\n|-|-|-|-|-|-|-|")
+    print(f"Mode short, SQLite {sqlite3.sqlite_version} with fetching through Python.")
+    print("\n|worst shape of|words|rows|desk / SQLite|desk, four times the words before|SQLite, the same|\n|-|-|-|-|-|-|")
     last = {}
     for words in sizes:
         for shape in operation_shapes(words):
-            row, last[shape.name] = measured(program, shape, words, last.get(shape.name))
+            row, last[shape.name] = measured(program, shape, words, last.get(shape.name, (None, None)))
             print(row, flush=True)
-    print("\n|example question|words|rows|desk|SQLite|desk / SQLite||\n|-|-|-|-|-|-|-|")
+    print("\n|example question|words|rows|desk / SQLite|||\n|-|-|-|-|-|-|")
     for words in sizes:
         for shape in fitting_examples(program, words):
-            print(measured(program, shape, words, None)[0], flush=True)
+            print(measured(program, shape, words)[0], flush=True)
 
 
 if __name__ == "__main__":
