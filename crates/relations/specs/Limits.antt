@@ -33,7 +33,7 @@ questionNodeLimit = 64
 abbrev pub questionNodeWords : ℕ
 questionNodeWords = 6
 
--- "at most 16,384 words in all"; also the rows of a table and the capacity
+-- "at most 16,384 words in all"; also the capacity
 abbrev pub wordLimit : ℕ
 wordLimit = 16384
 
