@@ -27,7 +27,7 @@ pub enum Answered {
 }
 
 // What running a plan tells, in the numbers that the desk's callers are told.
-pub fn answer_of(ran: Ran) -> Answered
+fn answer_of(ran: Ran) -> Answered
     requires { ⌜ Bounded (runNumbers ran) ⌝ }
     ensures { λ r. ⌜ answerNumbers r ≡ runNumbers ran ⌝ }
 {
