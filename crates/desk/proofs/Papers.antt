@@ -8,8 +8,7 @@ use Rattle.values.specs.Words.{wordsOf}
 use Rattle.question.specs.Nodes.{kindNamed, usedWords, spelled, nodeAt}
 use Rattle.question.specs.References.{referencesTo, seen, firstFrom}
 use Rattle.question.specs.Trees.{treesBelow, treeOf, reading}
-use Rattle.question.specs.Scopes.{addWidths, walk}
-use Rattle.question.specs.Judgement.{judgeTree, judgeNodes, judged}
+use Rattle.question.specs.Faults.{faultAt, judgedByFaults}
 use Rattle.catalogue.specs.Stored.{startOf, rowsIn}
 use Rattle.plans.specs.Judging.{judgeNodes as judgePlan, nodesIn}
 use Rattle.translation.specs.TranslateCall.{translateOutcome}
@@ -19,5 +18,5 @@ use Rattle.desk.specs.Papers.{PapersHold}
 
 -- each line in the table's order
 pub papers-hold : PapersHold
-unfolding answerOutcome translateOutcome runOutcome pairsOk catalogueWords judged judgeNodes judgeTree nodeAt kindNamed usedWords spelled referencesTo seen firstFrom treesBelow treeOf reading walk addWidths translateRange widthOfRange judgePlan nodesIn startOf rowsIn run fitOf wordsOf
+unfolding answerOutcome translateOutcome runOutcome pairsOk catalogueWords judgedByFaults nodeAt kindNamed usedWords spelled referencesTo seen firstFrom treesBelow treeOf reading faultAt translateRange widthOfRange judgePlan nodesIn startOf rowsIn run fitOf wordsOf
 papers-hold = (record { numbers = refl; rows = refl }, (record { numbers = refl; rows = refl }, (record { numbers = refl; rows = refl }, (record { numbers = refl; rows = refl }, (record { numbers = refl; rows = refl }, (record { numbers = refl; rows = refl }, (record { numbers = refl; rows = refl }, (record { numbers = refl; rows = refl }, (record { numbers = refl; rows = refl }, (record { numbers = refl; rows = refl }, tt))))))))))

@@ -18,10 +18,11 @@ use Rattle.calculus.proofs.RangeValues.{range-good}
 use Rattle.calculus.proofs.Theorems.{translation-right}
 use Rattle.catalogue.specs.Judging.{catalogueWords, catalogueOk, tablesOk}
 use Rattle.question.specs.Accepted.{QuestionRight}
-use Rattle.question.specs.Judgement.{judged}
+use Rattle.question.specs.Faults.{judgedByFaults}
 use Rattle.question.specs.Trees.{questionOf}
 use Rattle.question.specs.declared.judgement.Judgement.the-variants.{Accepted}
 use Rattle.question.proofs.Accepted.{accepted-right}
+use Rattle.question.proofs.FaultsDecide.{faults-decide}
 use Rattle.catalogue.specs.Stored.{relationsOf, columnsOf, storedTables}
 use Rattle.running.specs.RunCall.{answerRows, answerWidth}
 use Rattle.catalogue.proofs.TableLaws.{tables-wide, has-column}
@@ -37,9 +38,9 @@ pub record PlansRight (catalogue tables question : List ℕ) : Type 0 where
 pub catalogue-ok : (catalogue tables : List ℕ) → tablesOk catalogue tables ≡ true → catalogueOk catalogue ≡ true
 catalogue-ok catalogue tables ok = and-left (catalogueOk catalogue) (eqb (length tables) (catalogueWords catalogue)) ok
 
-module _ (catalogue tables question : List ℕ) (ok : tablesOk catalogue tables ≡ true) (accepted : judged catalogue question ≡ Accepted) where
+module _ (catalogue tables question : List ℕ) (ok : tablesOk catalogue tables ≡ true) (accepted : judgedByFaults catalogue question ≡ Accepted) where
   right : QuestionRight catalogue question
-  right = accepted-right catalogue question (λ relation known. has-column catalogue tables ok relation known .0) accepted
+  right = accepted-right catalogue question (λ relation known. has-column catalogue tables ok relation known .0) (faults-decide catalogue question (λ relation known. has-column catalogue tables ok relation known .0) ∙ accepted)
 
   translated : TranslationRight (columnsOf catalogue) (relationsOf catalogue) (questionOf question)
   translated = translation-right (columnsOf catalogue) (relationsOf catalogue) (questionOf question) (right .good)

@@ -15,7 +15,7 @@ use Rattle.calculus.specs.Form.{widthOfRange}
 use Rattle.catalogue.specs.Judging.{tablesOk}
 use Rattle.values.specs.Words.{wordsOf}
 use Rattle.question.specs.Trees.{questionOf}
-use Rattle.question.specs.Judgement.{judged}
+use Rattle.question.specs.Faults.{judgedByFaults}
 use Rattle.question.specs.declared.judgement.Judgement.the-variants.{Accepted}
 use Rattle.catalogue.specs.Stored.{columnsOf, storedTables}
 use Rattle.plans.specs.Judging.{nodesOf}
@@ -111,7 +111,7 @@ pub record SameAnswer (catalogue tables question : List ℕ) (mode : ℕ) (plain
 
 -- an accepted question, plain and short; each call has buffers of its own, of any lengths but for the plan's
 pub record Demand3 (catalogue tables question : List ℕ) : Type 0 where
-  pub same : tablesOk catalogue tables ≡ true → judged catalogue question ≡ Accepted
+  pub same : tablesOk catalogue tables ≡ true → judgedByFaults catalogue question ≡ Accepted
       → (mode : ℕ) → (mode ≡ 0 → ⊥) → (plain short : Buffers) → planBufferWords ≤ length (plain .plan) → planBufferWords ≤ length (short .plan)
       → HadRoom (answerWith catalogue tables question 0 plain) → HadRoom (answerWith catalogue tables question mode short)
       → SameAnswer catalogue tables question mode plain short

@@ -4,7 +4,6 @@ use mathlib.Core.List.{List, [], _∷_, _++_}
 use mathlib.Core.Bool.{Bool, true, false, cond, not}
 use lib.ListN.{length, take}
 use lib.Dec.{ltb}
-use Rattle.relations.specs.Limits.{questionNodeLimit}
 use Rattle.relations.specs.Lists.{flat}
 use Rattle.relations.specs.Nodes.{Node}
 use Rattle.relations.specs.Plan.{valueWords}
@@ -12,7 +11,8 @@ use Rattle.relations.specs.PlanWords.{nodeWords}
 use Rattle.catalogue.specs.Judging.{catalogueOk, tablesOk}
 use Rattle.question.specs.Nodes.{nodeCount, nodeAt}
 use Rattle.question.specs.References.{lowest}
-use Rattle.question.specs.Judgement.{countOk, isAlpha, lowestIllFormed, lastNode, lowestNotOnce, lowestUnknown, faultsFound}
+use Rattle.question.specs.Judgement.{countOk, isAlpha, lowestIllFormed, lastNode, lowestNotOnce, lowestUnknown}
+use Rattle.question.specs.Faults.{lowestUnbound, lowestUnfit}
 use Rattle.plans.specs.Judging.{judgement, nodesOf}
 use Rattle.plans.specs.declared.judging.Judgement.{Judgement}
 use Rattle.plans.specs.declared.judging.Judgement.the-variants.{Legal, Illegal}
@@ -57,11 +57,11 @@ module _ (question : List ℕ) where
 
     -- "variable not in scope, or bound while in scope", at the "lowest node"
     abbrev pub wrongScope : Line
-    wrongScope = line 5 (ltb (faultsFound catalogue question .unbound) questionNodeLimit) (faultsFound catalogue question .unbound)
+    wrongScope = line 5 (ltb (lowestUnbound catalogue question) (nodeCount question)) (lowestUnbound catalogue question)
 
     -- "range sides differ in width; attribute beyond its variable; columns in scope, or an alpha's width, over 32", at the "lowest"
     abbrev pub wrongWidth : Line
-    wrongWidth = line 6 (ltb (faultsFound catalogue question .unfit) questionNodeLimit) (faultsFound catalogue question .unfit)
+    wrongWidth = line 6 (ltb (lowestUnfit catalogue question) (nodeCount question)) (lowestUnfit catalogue question)
 
     -- "2 to 6"
     abbrev pub questionLines : List Line

@@ -40,13 +40,13 @@ pub record Clean (found : Found) : Type 0 where
   pub bound : questionNodeLimit ≤ found .unbound
   pub fit : questionNodeLimit ≤ found .unfit
 
-record NoFault (fault : Bool) (first second third : ℕ) : Type 0 where
-  clear : fault ≡ false
-  none-first : questionNodeLimit ≤ first
-  none-second : questionNodeLimit ≤ second
-  none-third : questionNodeLimit ≤ third
+pub record NoFault (fault : Bool) (first second third : ℕ) : Type 0 where
+  pub clear : fault ≡ false
+  pub none-first : questionNodeLimit ≤ first
+  pub none-second : questionNodeLimit ≤ second
+  pub none-third : questionNodeLimit ≤ third
 
-no-fault : (fault : Bool) (i first second third : ℕ) → i < questionNodeLimit → questionNodeLimit ≤ lowestOf fault i first second third → NoFault fault first second third
+pub no-fault : (fault : Bool) (i first second third : ℕ) → i < questionNodeLimit → questionNodeLimit ≤ lowestOf fault i first second third → NoFault fault first second third
 no-fault true i first second third h k = absurd (omega arith)
 no-fault false i first second third h k = record { clear = refl; none-first = omega arith; none-second = omega arith; none-third = omega arith }
 
@@ -160,21 +160,21 @@ module _ (columns : ℕ → ℕ) (relations : ℕ) where
     pub wide : widthOfRange columns range ≡ width
     pub some : 1 ≤ width
 
-  record BindingsGood (bindings : calculus.Bindings) (s : scopes.Scope) (after : Scope) : Type 0 where
-    good : GoodBindings columns relations bindings s
-    shows-after : Shows after (scopeOfBindings columns bindings s)
+  pub record BindingsGood (bindings : calculus.Bindings) (s : scopes.Scope) (after : Scope) : Type 0 where
+    pub good : GoodBindings columns relations bindings s
+    pub shows-after : Shows after (scopeOfBindings columns bindings s)
 
-  record TargetsGood (targets : List calculus.Target) (s : scopes.Scope) (width : ℕ) : Type 0 where
-    good : All (GoodTarget s) targets
-    wide : width ≡ min (suc columnLimit) (form.targetsWidth s targets)
+  pub record TargetsGood (targets : List calculus.Target) (s : scopes.Scope) (width : ℕ) : Type 0 where
+    pub good : All (GoodTarget s) targets
+    pub wide : width ≡ min (suc columnLimit) (form.targetsWidth s targets)
 
   -- a binder: the variable is new, its columns fit, and what follows is shown
-  record BinderGood (v : ℕ) (range : calculus.Range) (scope : Scope) (s : scopes.Scope) (width : ℕ) : Type 0 where
-    is-new : NotInScope v s
-    fits : columnsIn s + widthOfRange columns range ≤ columnLimit
-    shows-next : Shows (bind scope v width) (extend s v (widthOfRange columns range))
+  pub record BinderGood (v : ℕ) (range : calculus.Range) (scope : Scope) (s : scopes.Scope) (width : ℕ) : Type 0 where
+    pub is-new : NotInScope v s
+    pub fits : columnsIn s + widthOfRange columns range ≤ columnLimit
+    pub shows-next : Shows (bind scope v width) (extend s v (widthOfRange columns range))
 
-  binder : {scope : Scope} {s : scopes.Scope} {range : calculus.Range} {width : ℕ} (v : ℕ) → v < variableCount → Shows scope s → RangeGood range width
+  pub binder : {scope : Scope} {s : scopes.Scope} {range : calculus.Range} {width : ℕ} (v : ℕ) → v < variableCount → Shows scope s → RangeGood range width
       → ltb 0 (widthIn scope v) ≡ false → ltb columnLimit (addWidths (scope .columns) width) ≡ false → BinderGood v range scope s width
   binder {scope} {s} {range} {width} v small shows r new fit =
       let narrow : addWidths (scope .columns) width ≤ columnLimit = ltb-false columnLimit (addWidths (scope .columns) width) fit in
@@ -219,7 +219,7 @@ module _ (columns : ℕ → ℕ) (relations : ℕ) where
           let S = range-good t scope (n .clean-second) in
           record { good = (R .good, S .good, same-widths R S (n .fit-here)); wide = R .wide; some = R .some }
 
-      target-good : {tree : Tree} → TargetTree relations tree → (scope : Scope) (s : scopes.Scope) → Shows scope s → Clean (walk columns tree scope) → TargetsGood (reading tree .targets) s (walk columns tree scope .width)
+      pub target-good : {tree : Tree} → TargetTree relations tree → (scope : Scope) (s : scopes.Scope) → Shows scope s → Clean (walk columns tree scope) → TargetsGood (reading tree .targets) s (walk columns tree scope .width)
       target-good (targetTree {v = v} {a = a} {b = b} {x = x} small inside ts) scope s shows clean =
           let n = clean-branch columns (Target v a b) x nothing nothing scope small clean in
           let T = targets-good ts scope s shows (n .clean-first) in
@@ -232,7 +232,7 @@ module _ (columns : ℕ → ℕ) (relations : ℕ) where
       targets-good noTarget scope s shows clean = record { good = tt; wide = refl }
       targets-good (moreTargets ts) scope s shows clean = target-good ts scope s shows clean
 
-      binding-good : {tree : Tree} → BindingTree relations tree → (scope : Scope) (s : scopes.Scope) → Shows scope s → Clean (walk columns tree scope) → BindingsGood (reading tree .bindings) s (walk columns tree scope .scope)
+      pub binding-good : {tree : Tree} → BindingTree relations tree → (scope : Scope) (s : scopes.Scope) → Shows scope s → Clean (walk columns tree scope) → BindingsGood (reading tree .bindings) s (walk columns tree scope .scope)
       binding-good (bindingTree {v = v} {a = a} {b = b} {x = x} {y = y} small inside r bs) scope s shows clean =
           let first : Found = walk columns x scope in
           let n = clean-branch columns (Binding v a b) x y nothing scope small clean in

@@ -12,4 +12,10 @@ pub mod SortedTrees
 pub mod TreeSizes
 pub mod ScopesShown
 pub mod GoodForm
+pub mod CleanForm
+pub mod LowestLaws
+pub mod UnboundLaws
+pub mod Ordered
+pub mod UnfitLaws
 pub mod Accepted
+pub mod FaultsDecide

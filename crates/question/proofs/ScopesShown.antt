@@ -21,7 +21,7 @@ use Rattle.question.specs.Limits.{variableCount}
 use Rattle.question.specs.Scopes.{widthIn, emptyScope, addWidths, boundWidth, bind}
 use Rattle.question.specs.declared.scope.Scope.{Scope}
 
-abbrev HasWidth : ScopeEntry → Type 0
+abbrev pub HasWidth : ScopeEntry → Type 0
 HasWidth (entry variable width) = 1 ≤ width
 
 pub record Shows (scope : Scope) (s : calculus.Scope) : Type 0 where
@@ -43,7 +43,7 @@ fresh v (entry x w ∷ s) h e = go (true-or-false (eqb v x)) (λ k. fresh v s (h
     go (inl t) ih = absurd (omega (arith, h .0, rw t at e))
     go (inr f) ih = (f, ih (rw f at e))
 
-width-extend : (s : calculus.Scope) (v w u : ℕ) → NotInScope v s → calculus.widthIn (extend s v w) u ≡ cond (eqb u v) w (calculus.widthIn s u)
+pub width-extend : (s : calculus.Scope) (v w u : ℕ) → NotInScope v s → calculus.widthIn (extend s v w) u ≡ cond (eqb u v) w (calculus.widthIn s u)
 width-extend [] v w u f = refl
 width-extend (entry x k ∷ s) v w u f = go (true-or-false (eqb u x)) (width-extend s v w u (f .1))
   where

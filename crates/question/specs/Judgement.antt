@@ -8,10 +8,10 @@ use Rattle.relations.specs.Limits.{questionNodeLimit, questionNodeWords}
 use Rattle.question.specs.Nodes.{nodeCount, nodeAt, isIllFormed}
 use Rattle.question.specs.References.{referencesTo, lowest, notOnce}
 use Rattle.catalogue.specs.Stored.{relationsOf, columnsOf}
+use Rattle.question.specs.Roles.{Role, stored, alpha, takes, binds, sides, compares, joins, roleOf}
 use Rattle.question.specs.Trees.{questionTree}
 use Rattle.question.specs.Scopes.{emptyScope, walk}
 use Rattle.question.specs.declared.node.Node.{Node}
-use Rattle.question.specs.declared.node.Node.the-variants.{Table, Alpha, Target, Binding, RangeOr, RangeAnd, RangeAndNot, Atom as AtomNode, And, Or, Not, Some, Every, IllFormed}
 use Rattle.question.specs.declared.scope.Found.{Found}
 use Rattle.question.specs.declared.judgement.Judgement.{Judgement}
 use Rattle.question.specs.declared.judgement.Judgement.the-variants.{Accepted, Refused}
@@ -23,37 +23,29 @@ countOk words = eqb (length words % questionNodeWords) 0 && leb 1 (nodeCount wor
 abbrev pub judgeCount : List ℕ → Judgement
 judgeCount words = cond (countOk words) Accepted (Refused 1 0)
 
+abbrev pub isAlphaRole : Role → Bool
+isAlphaRole (stored relation) = false
+isAlphaRole alpha = true
+isAlphaRole (takes operand) = false
+isAlphaRole (binds variable) = false
+isAlphaRole sides = false
+isAlphaRole (compares left right) = false
+isAlphaRole joins = false
+
 abbrev pub isAlpha : Node → Bool
-isAlpha (Table relation) = false
-isAlpha (Alpha target binding condition) = true
-isAlpha (Target variable attribute next) = false
-isAlpha (Binding variable range next) = false
-isAlpha (RangeOr left right) = false
-isAlpha (RangeAnd left right) = false
-isAlpha (RangeAndNot left right) = false
-isAlpha (AtomNode atom) = false
-isAlpha (And left right) = false
-isAlpha (Or left right) = false
-isAlpha (Not inner) = false
-isAlpha (Some variable range condition) = false
-isAlpha (Every variable range condition) = false
-isAlpha IllFormed = false
+isAlpha node = isAlphaRole (roleOf node)
+
+abbrev pub isUnknownRole : ℕ → Role → Bool
+isUnknownRole relations (stored relation) = leb relations relation
+isUnknownRole relations alpha = false
+isUnknownRole relations (takes operand) = false
+isUnknownRole relations (binds variable) = false
+isUnknownRole relations sides = false
+isUnknownRole relations (compares left right) = false
+isUnknownRole relations joins = false
 
 abbrev pub isUnknown : ℕ → Node → Bool
-isUnknown relations (Table relation) = leb relations relation
-isUnknown relations (Alpha target binding condition) = false
-isUnknown relations (Target variable attribute next) = false
-isUnknown relations (Binding variable range next) = false
-isUnknown relations (RangeOr left right) = false
-isUnknown relations (RangeAnd left right) = false
-isUnknown relations (RangeAndNot left right) = false
-isUnknown relations (AtomNode atom) = false
-isUnknown relations (And left right) = false
-isUnknown relations (Or left right) = false
-isUnknown relations (Not inner) = false
-isUnknown relations (Some variable range condition) = false
-isUnknown relations (Every variable range condition) = false
-isUnknown relations IllFormed = false
+isUnknown relations node = isUnknownRole relations (roleOf node)
 
 module _ (words : List ℕ) where
   -- 2: "a word breaks the node's form": "lowest such node"

@@ -6,6 +6,7 @@ use lib.ListN.{getD, length}
 use lib.Dec.{ltb, leb, eqb}
 use Rattle.relations.specs.Limits.{columnLimit, questionNodeWords}
 use Rattle.question.specs.Limits.{variableCount, operatorCount}
+use Rattle.question.specs.Roles.{Role, stored, alpha, takes, binds, sides, compares, joins, roleOf}
 use Rattle.question.specs.declared.node.Operand.{Operand}
 use Rattle.question.specs.declared.node.Operand.the-variants.{Of, Fixed}
 use Rattle.question.specs.declared.node.Atom.{Atom}
@@ -132,18 +133,14 @@ abbrev pub OperandVariableFits : Operand → Type 0
 OperandVariableFits (Of variable attribute) = variable < variableCount
 OperandVariableFits (Fixed constant) = Unit {0}
 
+abbrev pub RoleFits : Role → Type 0
+RoleFits (stored relation) = Unit {0}
+RoleFits alpha = Unit {0}
+RoleFits (takes operand) = OperandVariableFits operand
+RoleFits (binds variable) = variable < variableCount
+RoleFits sides = Unit {0}
+RoleFits (compares left right) = OperandVariableFits left × OperandVariableFits right
+RoleFits joins = Unit {0}
+
 abbrev pub VariableFits : Node → Type 0
-VariableFits (Table relation) = Unit {0}
-VariableFits (Alpha target binding condition) = Unit {0}
-VariableFits (Target variable attribute next) = variable < variableCount
-VariableFits (Binding variable range next) = variable < variableCount
-VariableFits (RangeOr left right) = Unit {0}
-VariableFits (RangeAnd left right) = Unit {0}
-VariableFits (RangeAndNot left right) = Unit {0}
-VariableFits (AtomNode atom) = (atom .variable < variableCount) × OperandVariableFits (atom .operand)
-VariableFits (And left right) = Unit {0}
-VariableFits (Or left right) = Unit {0}
-VariableFits (Not inner) = Unit {0}
-VariableFits (Some variable range condition) = variable < variableCount
-VariableFits (Every variable range condition) = variable < variableCount
-VariableFits IllFormed = Unit {0}
+VariableFits node = RoleFits (roleOf node)

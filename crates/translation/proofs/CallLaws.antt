@@ -29,6 +29,8 @@ use Rattle.question.specs.Trees.{questionOf}
 use Rattle.question.specs.declared.judgement.Judgement.{Judgement}
 use Rattle.question.specs.declared.judgement.Judgement.the-variants.{Accepted, Refused}
 use Rattle.question.proofs.Accepted.{accepted-right, accepted-passed}
+use Rattle.question.specs.Faults.{judgedByFaults}
+use Rattle.question.proofs.FaultsDecide.{faults-decide}
 use Rattle.question.proofs.Counts.{counted}
 use Rattle.translation.specs.TranslateCall.{TranslateOutcome, planOf, planBufferWords, unwritten, written, judgedOutcome, behindCatalogue, isShort, translateOutcome}
 use Rattle.emission.specs.HeavyCount.{heavyIn}
@@ -87,7 +89,7 @@ module _ (catalogue question : List ℕ) (mode : ℕ) (plan : List ℕ) where
   count-refused {status} {place} e = go (countOk question) e
     where
       go : (good : Bool) → Refused status place ≡ cond good Accepted (Refused 1 0)
-          → unwritten catalogue question mode plan status place ≡ cond (not good) (unwritten catalogue question mode plan 1 0) (cond (ltb (length plan) planBufferWords) (unwritten catalogue question mode plan 8 0) (judgedOutcome catalogue question mode plan (judged catalogue question)))
+          → unwritten catalogue question mode plan status place ≡ cond (not good) (unwritten catalogue question mode plan 1 0) (cond (ltb (length plan) planBufferWords) (unwritten catalogue question mode plan 8 0) (judgedOutcome catalogue question mode plan (judgedByFaults catalogue question)))
       go true h = let never : _≡_ {A = ℕ} 0 1 = cc in absurd (omega arith)
       go false h = let one : status ≡ 1 = cc in let first : place ≡ 0 = cc in rw (one, first)
 
@@ -102,8 +104,9 @@ module _ (catalogue question : List ℕ) (mode : ℕ) (plan : List ℕ) where
     pub plan-short : length plan < planBufferWords → unwritten catalogue question mode plan 8 0 ≡ behindCatalogue catalogue question mode plan
     plan-short h = rw (count-good, lt-ltb (length plan) planBufferWords h)
 
-    pub question-judged : planBufferWords ≤ length plan → (judgement : Judgement) → judgement ≡ judged catalogue question → judgedOutcome catalogue question mode plan judgement ≡ behindCatalogue catalogue question mode plan
-    question-judged h judgement e = rw (count-good, le-ltb (length plan) planBufferWords h) (ap (judgedOutcome catalogue question mode plan) e)
+    pub question-judged : catalogueOk catalogue ≡ true → planBufferWords ≤ length plan → (judgement : Judgement) → judgement ≡ judged catalogue question → judgedOutcome catalogue question mode plan judgement ≡ behindCatalogue catalogue question mode plan
+    question-judged ok h judgement e =
+        rw (count-good, le-ltb (length plan) planBufferWords h) (ap (judgedOutcome catalogue question mode plan) (e ∙ faults-decide catalogue question (known-columns catalogue ok)))
 
 -- Refusal 7.
 

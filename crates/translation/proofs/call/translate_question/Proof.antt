@@ -37,10 +37,10 @@ same-length : tie.Need-same-length
 same-length c = search needs
 
 returns-3 : tie.Need-returns-3
-returns-3 c = c .before .before .translate-accepted .ensures ∙ question-judged (c .before .before .before .before .before .before .before .before .before .before .before .before .before .before .args .catalogue .now) (c .before .before .before .before .before .before .before .before .before .before .before .before .before .before .args .question .now) (c .before .before .before .before .before .before .before .before .before .before .before .before .before .before .args .mode) (c .before .before .before .before .before .before .before .before .before .before .before .before .before .before .args .plan .now) (sym (c .before .before .before .before .before .before .before .before .enum-told .given .1) ∙ c .before .before .before .before .before .before .before .before .before .before .judge-count .ensures) (c .before .before .before .before .before .before .before .if1 .left) Accepted (sym (c .before .before .before .before .enum-told2 .given .1) ∙ c .before .before .before .before .before .before .judge .ensures)
+returns-3 c = c .before .before .translate-accepted .ensures ∙ question-judged (c .before .before .before .before .before .before .before .before .before .before .before .before .before .before .args .catalogue .now) (c .before .before .before .before .before .before .before .before .before .before .before .before .before .before .args .question .now) (c .before .before .before .before .before .before .before .before .before .before .before .before .before .before .args .mode) (c .before .before .before .before .before .before .before .before .before .before .before .before .before .before .args .plan .now) (sym (c .before .before .before .before .before .before .before .before .enum-told .given .1) ∙ c .before .before .before .before .before .before .before .before .before .before .judge-count .ensures) (c .before .before .before .before .before .before .before .before .before .before .before .before .before .before .pre) (c .before .before .before .before .before .before .before .if1 .left) Accepted (sym (c .before .before .before .before .enum-told2 .given .1) ∙ c .before .before .before .before .before .before .judge .ensures)
 
 returns-4 : tie.Need-returns-4
-returns-4 c = question-judged (c .before .before .before .before .before .before .before .before .before .before .before .args .catalogue .now) (c .before .before .before .before .before .before .before .before .before .before .before .args .question .now) (c .before .before .before .before .before .before .before .before .before .before .before .args .mode) (c .before .before .before .before .before .before .before .before .before .before .before .args .plan .now) (sym (c .before .before .before .before .before .enum-told .given .1) ∙ c .before .before .before .before .before .before .before .judge-count .ensures) (c .before .before .before .before .if1 .left) (Refused (c .before .status2 .given .0 .0) (c .before .status2 .given .0 .1 .0)) (sym (c .before .status2 .given .1) ∙ c .before .before .before .judge .ensures)
+returns-4 c = question-judged (c .before .before .before .before .before .before .before .before .before .before .before .args .catalogue .now) (c .before .before .before .before .before .before .before .before .before .before .before .args .question .now) (c .before .before .before .before .before .before .before .before .before .before .before .args .mode) (c .before .before .before .before .before .before .before .before .before .before .before .args .plan .now) (sym (c .before .before .before .before .before .enum-told .given .1) ∙ c .before .before .before .before .before .before .before .judge-count .ensures) (c .before .before .before .before .before .before .before .before .before .before .before .pre) (c .before .before .before .before .if1 .left) (Refused (c .before .status2 .given .0 .0) (c .before .status2 .given .0 .1 .0)) (sym (c .before .status2 .given .1) ∙ c .before .before .before .judge .ensures)
 
 pub translate-question-spec : {M : Type 1} → statement M
 translate-question-spec =
