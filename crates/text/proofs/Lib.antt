@@ -8,6 +8,10 @@ pub mod WritingLaws
 pub mod RoundTrip
 pub mod Rooms
 pub mod LineNumbers
+-- The first wrong line
+pub mod SameLines
+pub mod Completed
+pub mod FirstWrong
 -- What the code's loops carry
 pub mod Stores
 pub mod ReadingSteps

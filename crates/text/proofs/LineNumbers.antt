@@ -18,7 +18,7 @@ use Rattle.text.specs.declared.bundle.Reading.{Reading}
 use Rattle.text.specs.declared.bundle.Reading.the-variants.{WrongLine}
 
 -- the line at which a reading stands
-abbrev lineOf : Next → ℕ
+abbrev pub lineOf : Next → ℕ
 lineOf (goesOn line bytes) = line
 lineOf (wrongAt line) = line
 

@@ -239,18 +239,23 @@ linesOf-mode mode bytes = go (eqb mode 0)
     go true = refl
     go false = refl
 
--- The text of a bundle that `write` accepts reads as that bundle.
-pub reading-of-text : (mode : ℕ) (catalogue tables nodes : List ℕ) → tablesOk catalogue tables ≡ true → nodesOk nodes ≡ true
-    → Words32 tables → Words32 nodes → length (bundleText mode catalogue tables nodes) ≤ byteLimit
-    → reading (bundleText mode catalogue tables nodes) ≡ bundleOf mode catalogue tables nodes
-unfolding reading bundleText
-reading-of-text mode catalogue tables nodes ok nodes-ok h k short =
+-- The text of a bundle that `write` accepts reads as that bundle, whatever its length
+pub lines-of-text : (mode : ℕ) (catalogue tables nodes : List ℕ) → tablesOk catalogue tables ≡ true → nodesOk nodes ≡ true → Words32 tables → Words32 nodes
+    → linesOf (bundleText mode catalogue tables nodes) ≡ bundleOf mode catalogue tables nodes
+unfolding bundleText
+lines-of-text mode catalogue tables nodes ok nodes-ok h k =
     let good : GoodNodes nodes = good-nodes nodes nodes-ok in
     let more : ℕ = length nodes / questionNodeWords - 1 in
     let count : length nodes / questionNodeWords ≡ suc more = omega arith in
-    let lines : List ℕ = linesText nodeKey questionNodeWords (suc more) nodes in
-    rw (le-ltb byteLimit (length (bundleText mode catalogue tables nodes)) short)
-    (ap (λ (text : List ℕ). linesOf text)
+    ap (λ (text : List ℕ). linesOf text)
     (append-assoc (modeText mode) (tablesText catalogue tables) (linesText nodeKey questionNodeWords (length nodes / questionNodeWords) nodes))
     ∙ linesOf-mode mode (tablesText catalogue tables ++ linesText nodeKey questionNodeWords (length nodes / questionNodeWords) nodes)
-    ∙ rw count (tables-and-nodes (cond (eqb mode 0) 0 1) more catalogue tables nodes ok (omega arith) (omega arith) h k))
+    ∙ rw count (tables-and-nodes (cond (eqb mode 0) 0 1) more catalogue tables nodes ok (omega arith) (omega arith) h k)
+
+-- and within the limit it is read.
+pub reading-of-text : (mode : ℕ) (catalogue tables nodes : List ℕ) → tablesOk catalogue tables ≡ true → nodesOk nodes ≡ true
+    → Words32 tables → Words32 nodes → length (bundleText mode catalogue tables nodes) ≤ byteLimit
+    → reading (bundleText mode catalogue tables nodes) ≡ bundleOf mode catalogue tables nodes
+unfolding reading
+reading-of-text mode catalogue tables nodes ok nodes-ok h k short =
+    rw (le-ltb byteLimit (length (bundleText mode catalogue tables nodes)) short) (lines-of-text mode catalogue tables nodes ok nodes-ok h k)

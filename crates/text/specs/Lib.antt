@@ -5,5 +5,6 @@ pub mod Reading
 pub mod ReadCall
 pub mod WriteCall
 pub mod RoundTrip
+pub mod FirstWrong
 pub mod Answers
 pub mod Put
