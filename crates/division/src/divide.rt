@@ -7,7 +7,7 @@ ghost use lib.ListN.{length, take};
 ghost use lib.Dec.{ltb};
 ghost use Rattle.relations.specs.Limits.{columnLimit};
 ghost use Rattle.relations.specs.Legality.{distinct};
-ghost use Rattle.relations.specs.Lists.{All, any};
+ghost use Rattle.relations.specs.Lists.{All};
 ghost use Rattle.relations.specs.Rows.{sameRow};
 ghost use Rattle.relations.specs.Columns.{leftNumbers, listed};
 ghost use Rattle.relations.specs.Operations.{divideCandidates};
@@ -16,16 +16,18 @@ ghost use Rattle.relations.specs.Values.{Ascending, member};
 ghost use Rattle.values.specs.Building.{Builds};
 ghost use Rattle.values.specs.Words.{rowIn, rowsAt, rowsOf, end};
 ghost use Rattle.division.specs.Divisions as meaning;
-ghost use Rattle.division.specs.Divisions.{columnsLeft, kept, partner, quotient, DivisionFits};
+ghost use Rattle.relations.specs.Meanings.{partnered};
+ghost use Rattle.division.specs.Divisions.{columnsLeft, kept, withPairs, PairsFit, quotient, DivisionFits};
 use operations::columns::Attribute;
 use operations::columns::COLUMNS;
 use operations::columns::column_of;
-use operations::columns::equal_on;
 use operations::columns::pair_at;
 use operations::project::place_picked;
 use values::placing::Placed;
+use values::placing::write_row;
 use values::rows::Value;
 use values::rows::row;
+use values::search::has_row;
 
 // Whether a column is the left attribute of one of so many pairs.
 fn is_listed(list: &[u32], count: usize, number: u32) -> bool
@@ -83,77 +85,44 @@ fn same_columns(columns: &[u32], a: &[u32], b: &[u32]) -> bool
     true
 }
 
-// Whether a left row agrees with the row `t` on the columns and equals the right row `r` on the pairs.
-fn is_partner(
-    columns: &[u32],
-    list: &[u32],
-    count: usize,
-    t: &[u32],
-    r: &[u32],
-    candidate: &[u32],
-) -> bool
-    requires { ⌜ count * 2 ≤ length (now list) ⌝ }
-    ensures { λ r′. ⌜ r′ ≡ partner (now (columns .entry)) (readPairs count (now (list .entry))) (now (t .entry)) (now (r .entry)) (now (candidate .entry)) ⌝ }
+// The only row that can be the partner of `t` for the right row `r`: `t` with the columns of `r` at the pairs' left attributes.
+fn partner_row(list: &[u32], count: usize, t: &[u32], r: &[u32]) -> [u32; COLUMNS]
+    requires { ⌜ PairsFit (now list) count (length (now t)) ⌝ }
+    ensures { λ r′. ⌜ take (length (now (t .entry))) r′ ≡ withPairs (readPairs count (now (list .entry))) (now (t .entry)) (now (r .entry)) ⌝ }
 {
-    if same_columns(columns, candidate, t) {
-        equal_on(list, count, candidate, r)
-    } else {
-        false
-    }
-}
-
-// Whether some row of the left value is such a partner.
-fn has_partner(
-    columns: &[u32],
-    list: &[u32],
-    count: usize,
-    work: &[u32],
-    left: Value,
-    t: &[u32],
-    r: &[u32],
-) -> bool
-    requires { ⌜ (count * 2 ≤ length (now list)) × (end left ≤ length (now work)) ⌝ }
-    ensures { λ r′. ⌜ r′ ≡ any (partner (now (columns .entry)) (readPairs count (now (list .entry))) (now (t .entry)) (now (r .entry))) (rowsOf left (now (work .entry))) ⌝ }
-{
-    let width = left.width;
-    let mut at = left.base;
-    let mut more = left.rows;
+    let mut made = [0u32; COLUMNS];
+    write_row(t, &mut made, false, 0, t.len(), 0);
+    let mut at: usize = 0;
+    let mut more = count;
     while 0 < more {
-        if is_partner(columns, list, count, t, r, row(work, work, true, at, width)) {
-            return true;
-        }
-        at += width;
+        let pair = pair_at(list, at);
+        let number = pair.left.0 as usize;
+        made[number - 1] = column_of(r, pair.right);
+        at += 2;
         more -= 1;
     }
-    false
+    made
+}
+
+// Whether some left row agrees with the row `t` on the remaining columns and equals the right row `r` on the pairs: it is sought by halving.
+fn has_partner(list: &[u32], count: usize, work: &[u32], left: Value, t: &[u32], r: &[u32]) -> bool
+    requires { ⌜ PairsFit (now list) count (left .width) × (length (now t) ≡ left .width) × (end left ≤ length (now work)) × Ascending (rowsOf left (now work)) ⌝ }
+    ensures { λ r′. ⌜ r′ ≡ partnered (readPairs count (now (list .entry))) (rowsOf left (now (work .entry))) (now (t .entry)) (now (r .entry)) ⌝ }
+{
+    let sought = partner_row(list, count, t, r);
+    has_row(work, left, &sought[..t.len()])
 }
 
 // Whether the row `t` has a partner for every right row.
-fn divides(
-    columns: &[u32],
-    list: &[u32],
-    count: usize,
-    work: &[u32],
-    left: Value,
-    right: Value,
-    t: &[u32],
-) -> bool
-    requires { ⌜ (count * 2 ≤ length (now list)) × (end left ≤ length (now work)) × (end right ≤ length (now work)) ⌝ }
-    ensures { λ r. ⌜ r ≡ meaning.divides (now (columns .entry)) (readPairs count (now (list .entry))) (rowsOf left (now (work .entry))) (rowsOf right (now (work .entry))) (now (t .entry)) ⌝ }
+fn divides(list: &[u32], count: usize, work: &[u32], left: Value, right: Value, t: &[u32]) -> bool
+    requires { ⌜ PairsFit (now list) count (left .width) × (length (now t) ≡ left .width) × (end left ≤ length (now work)) × Ascending (rowsOf left (now work)) × (end right ≤ length (now work)) ⌝ }
+    ensures { λ r. ⌜ r ≡ meaning.divides (readPairs count (now (list .entry))) (rowsOf left (now (work .entry))) (rowsOf right (now (work .entry))) (now (t .entry)) ⌝ }
 {
     let width = right.width;
     let mut at = right.base;
     let mut more = right.rows;
     while 0 < more {
-        if has_partner(
-            columns,
-            list,
-            count,
-            work,
-            left,
-            t,
-            row(work, work, true, at, width),
-        ) {
+        if has_partner(list, count, work, left, t, row(work, work, true, at, width)) {
             at += width;
             more -= 1;
         } else {
@@ -201,7 +170,6 @@ fn divide_row(
         return Placed::Rows(made);
     }
     if divides(
-        columns,
         list,
         count,
         work,
@@ -257,7 +225,7 @@ pub fn divide(
     right: Value,
     out: usize,
 ) -> Placed
-    requires { ⌜ (count * 2 ≤ length (now list)) × (count < left .width) × (left .width ≤ columnLimit) × (end left ≤ out) × (end right ≤ out) × (out ≤ length (now work)) ⌝ }
+    requires { ⌜ (count * 2 ≤ length (now list)) × (count < left .width) × (left .width ≤ columnLimit) × (end left ≤ out) × (end right ≤ out) × (out ≤ length (now work)) × Ascending (rowsOf left (now work)) ⌝ }
     requires { ⌜ So (distinct (leftNumbers (readPairs count (now list)))) × All (λ number. (1 ≤ number) × (number ≤ left .width)) (leftNumbers (readPairs count (now list))) ⌝ }
     ensures { λ r. ⌜ Builds (left .width - count) out 0 (divideCandidates (readPairs count (now (list .entry))) (rowsOf left (now (work .entry))) (rowsOf right (now (work .entry)))) (now (work .entry)) (now (work .exit)) r ⌝ }
 {

@@ -40,7 +40,7 @@ divide-by-requires : tie.Need-divide-by-requires
 divide-by-requires c κs = let s = c .before .before .before .before .before .before .before .args in let p = c .before .before .before .before .before .before .before .pre .0 in
     let k : length (take (c .before .before .before .remaining-columns .result) (c .before .before .before .remaining-columns .last .1 .1 .1 .0)) ≡ s .left .width - s .count =
     ap length (c .before .before .before .remaining-columns .ensures .1) ∙ left-count (readPairs (s .count) (s .list .now)) (s .left .width) (c .before .before .before .before .before .before .before .pre .1 .0) (c .before .before .before .before .before .before .before .pre .1 .1) ∙ ap (λ (n : ℕ). s .left .width - n) (pairs-count (s .count) (s .list .now)) in
-    (omega arith, omega arith, p .0, p .3, p .4, p .5)
+    (omega arith, omega arith, (p .0, p .2, c .before .before .before .before .before .before .before .pre .1 .0, c .before .before .before .before .before .before .before .pre .1 .1), p .3, p .4, p .5, c .before .before .before .remaining-columns .ensures .1, p .6)
 
 -- src/divide.rt:190:1
 same-length : tie.Need-same-length

@@ -2,7 +2,7 @@ use Rattle.division.proofs.DivisionLaws.{quotient-step, quotient-now}
 use Rattle.operations.proofs.FillSteps.{builds-by, builds-there, builds-made, there-by}
 use Rattle.operations.proofs.RowSteps.{no-rows}
 use Rattle.division.specs.Divisions.{quotient}
-use Rattle.values.proofs.FillLaws.{Filled, filled-none, filled-on, filled-off, filled-end}
+use Rattle.values.proofs.FillLaws.{Filled, filled-rows, filled-none, filled-on, filled-off, filled-end}
 use Rattle.values.proofs.RowsLaws.{times-step}
 use Rattle.values.specs.Words.{rowIn, rowsAt, rowsOf}
 use Rattle.relations.specs.PlanWords.{readPairs}
@@ -39,7 +39,7 @@ loop-holds c = let s = c .before .before .before .args in
 divide-row-requires : tie.Need-divide-row-requires Inv-loop μ-loop
 divide-row-requires c κs = let s = c .before .before .before .before .before .before .args in let l = c .before .before .loop in let w = s .left .width in let f = l .inv .3 in
     let ahead : l .at + w ≤ s .out = omega (arith, times-step (l .more) w (omega arith)) in (
-      ((c .before .before .before .before .before .before .pre .0, c .before .before .before .before .before .before .pre .1, c .before .before .before .before .before .before .pre .2, c .before .before .before .before .before .before .pre .3, c .before .before .before .before .before .before .pre .4, omega (arith, f .fits)), omega arith, ahead, f .fits, f .ascending),
+      ((c .before .before .before .before .before .before .pre .0, c .before .before .before .before .before .before .pre .1, c .before .before .before .before .before .before .pre .2, c .before .before .before .before .before .before .pre .3, c .before .before .before .before .before .before .pre .4, omega (arith, f .fits), c .before .before .before .before .before .before .pre .6, rw (filled-rows f (s .left .width) (s .left .rows) (s .left .base) (c .before .before .before .before .before .before .pre .3)) (c .before .before .before .before .before .before .pre .7)), omega arith, ahead, f .fits, f .ascending),
       λ h. there-by (rowsAt (length (s .columns .now)) (l .made) (s .out) (l .work)) (quotient-now f (s .columns .now) (readPairs (s .count) (s .list .now)) (s .left) (s .right) (l .last) w (c .before .before .before .before .before .before .pre .3) (c .before .before .before .before .before .before .pre .4) (omega arith)) (l .inv .2 h),
     )
 

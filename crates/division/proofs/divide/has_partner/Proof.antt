@@ -1,80 +1,49 @@
-use Rattle.operations.proofs.RowSteps.{any-step, no-rows}
-use Rattle.division.specs.Divisions.{partner}
-use Rattle.values.proofs.RowsLaws.{times-step}
-use Rattle.values.specs.Words.{rowIn, rowsAt}
-use Rattle.relations.specs.PlanWords.{readPairs}
-use Rattle.relations.specs.Lists.{any}
 use lib.ListN.{length}
-use Prim.Native.Nat.{_+_, _*_, _≤_, _-_}
-use mathlib.Core.Bool.{true, false}
+use lib.Seq.{length-take-le}
+use Rattle.division.proofs.DivisionLaws.{partnered-member}
+use Rattle.relations.specs.PlanWords.{readPairs}
+use Rattle.relations.specs.Values.{member}
+use Rattle.relations.specs.Rows.{Row}
+use Rattle.values.proofs.RowsLaws.{rowsAt-wide}
+use Rattle.values.specs.Words.{rowsOf}
 use mathlib.Core.Path.{_≡_, refl, sym, ap, _∙_}
-use borrow.Author.Needs.{needs}
 use native.Mathlib.Omega.{arith}
+use borrow.Author.Needs.{needs}
 use Rattle.division.proofs.divide.has_partner.Statement.{statement}
 use Rattle.division.proofs.divide.has_partner.Tie as tie
 use Rattle.division.proofs.divide.has_partner.Reads as reads
 use Rattle.division.proofs.divide.has_partner.Lts as lts
-use Rattle.division.proofs.divide.is_partner.Reads as is-partner-reads
-use Rattle.values.proofs.rows.row.Reads as row-reads
+use Rattle.division.proofs.divide.partner_row.Reads as partner-row-reads
+use Rattle.values.proofs.search.has_row.Reads as has-row-reads
 
-abbrev Inv-loop : tie.InvT-loop
-Inv-loop columns list count work t r width at₀ more₀ at more =
-    (at + more * width ≤ length work) × (any (partner columns (readPairs count list) t r) (rowsAt width more₀ at₀ work) ≡ any (partner columns (readPairs count list) t r) (rowsAt width more at work))
+-- src/divide.rt:119:18
+partner-row-requires : tie.Need-partner-row-requires
+partner-row-requires c κs = let p = c .before .before .before .before .pre in (p .0 .0, omega arith, p .0 .2, rw (p .1) (p .0 .3))
 
-abbrev μ-loop : tie.MeasureT-loop
-μ-loop columns list count work t r width at₀ more₀ at more = more
+-- src/divide.rt:120:25
+array-share-prefix-sought : tie.Need-array-share-prefix-sought
+array-share-prefix-sought c = search needs
 
--- src/divide.rt:99:5
-loop-holds : tie.Need-loop-holds Inv-loop μ-loop
-loop-holds c = (omega arith, refl)
+-- src/divide.rt:120:25
+slice-aggregate-has-row : tie.Need-slice-aggregate-has-row
+slice-aggregate-has-row c = sym (length-take-le (length (c .before .before .before .before .before .before .args .t .now)) (c .before .partner-row .result) (omega arith))
 
--- src/divide.rt:100:51
-row-requires : tie.Need-row-requires Inv-loop μ-loop
-row-requires c κs = tt
+-- src/divide.rt:120:5
+has-row-requires : tie.Need-has-row-requires
+has-row-requires c κs = search needs
 
--- src/divide.rt:100:12
-is-partner-requires : tie.Need-is-partner-requires Inv-loop μ-loop
-is-partner-requires c κs = c .before .before .before .before .before .before .before .before .pre .0
-
--- src/divide.rt:101:13
-returns : tie.Need-returns Inv-loop μ-loop
-returns c = let s = c .before .before .before .before .before .before .before .before .before .before .args in let l = c .before .before .before .before .loop in let w = s .left .width in let p = partner (s .columns .now) (readPairs (s .count) (s .list .now)) (s .t .now) (s .r .now) in
-    sym (l .inv .1 ∙ any-step w (l .more) (l .at) (s .work .now) (omega arith) (l .inv .0) p ∙ rw (ap p (sym (c .before .before .row .ensures)) ∙ sym (c .before .is-partner .ensures) ∙ c .if1 .taken))
-
--- src/divide.rt:103:9
-add-at : tie.Need-add-at Inv-loop μ-loop
-add-at c = let l = c .before .before .before .before .loop in let w = c .before .before .before .before .before .before .before .before .before .before .args .left .width in omega (arith, times-step (l .more) w (omega arith))
-
--- src/divide.rt:104:9
-sub-more : tie.Need-sub-more Inv-loop μ-loop
-sub-more c = omega arith
-
--- src/divide.rt:99:5
-loop-less : tie.Need-loop-less Inv-loop μ-loop
-loop-less c = omega arith
-
--- src/divide.rt:99:5
-loop-again : tie.Need-loop-again Inv-loop μ-loop
-loop-again c = let s = c .before .before .before .before .before .before .before .before .before .before .args in let l = c .before .before .before .before .loop in let w = s .left .width in let p = partner (s .columns .now) (readPairs (s .count) (s .list .now)) (s .t .now) (s .r .now) in
-    (omega (arith, times-step (l .more) w (omega arith)), l .inv .1 ∙ any-step w (l .more) (l .at) (s .work .now) (omega arith) (l .inv .0) p ∙ rw (ap p (sym (c .before .before .row .ensures)) ∙ sym (c .before .is-partner .ensures) ∙ c .if1 .left))
-
--- src/divide.rt:92:1
-returns-2 : tie.Need-returns-2 Inv-loop μ-loop
-returns-2 c = let s = c .before .before .before .before .before .before .before .args in let l = c .before .loop in
-    sym (l .inv .1 ∙ no-rows (any (partner (s .columns .now) (readPairs (s .count) (s .list .now)) (s .t .now) (s .r .now))) (s .left .width) (l .at) (s .work .now) (omega arith))
+-- src/divide.rt:108:1
+returns : tie.Need-returns
+returns c = let s = c .before .before .before .before .before .before .before .args in let p = c .before .before .before .before .before .before .before .pre in let l = s .work .now in
+    c .has-row .ensures ∙ ap (λ (row : Row). member row (rowsOf (s .left) l)) (c .before .before .partner-row .ensures)
+    ∙ sym (partnered-member (readPairs (s .count) (s .list .now)) (s .left .width) (rowsOf (s .left) l) (s .t .now) (s .r .now) (rowsAt-wide (s .left .width) (s .left .rows) (s .left .base) l (p .2)) (p .1) (p .0 .2) (p .0 .3))
 
 pub has-partner-spec : {M : Type 1} → statement M
 has-partner-spec =
     tie.close
     (tie.spec
-    Inv-loop
-    μ-loop
-    loop-holds
-    row-requires
-    is-partner-requires
-    returns
-    add-at
-    sub-more
-    loop-less
-    loop-again
-    returns-2)
+    partner-row-requires
+    array-share-prefix-sought
+    slice-aggregate-has-row
+    has-row-requires
+    returns)

@@ -168,7 +168,7 @@ enum-told-8 c = search needs
 
 -- src/node.rt:112:30
 divide-requires : tie.Need-divide-requires
-divide-requires c κs = let v = c .before .before .before in let a = asked v Divide (c .before .enum-told8 .given .1) in ((a .2, a .3, a .0 .1, a .0 .2, a .1 .2, inside v), (a .4, a .5))
+divide-requires c κs = let v = c .before .before .before in let a = asked v Divide (c .before .enum-told8 .given .1) in ((a .2, a .3, a .0 .1, a .0 .2, a .1 .2, inside v, a .0 .3), (a .4, a .5))
 
 -- src/node.rt:113:35
 enum-told-9 : tie.Need-enum-told-9
