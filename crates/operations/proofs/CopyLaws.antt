@@ -1,14 +1,16 @@
 -- Rows taken over from where they stand, the tables or the work area in front of what is made. Assumes nothing.
 use mathlib.Core.Path.{_≡_, refl, sym, ap, _∙_}
-use mathlib.Core.Bool.{Bool, true, false}
+use mathlib.Core.Bool.{Bool, true, false, _||_}
 use mathlib.Core.List.{List, [], _∷_, _++_}
 use Prim.Native.Nat.{ℕ, _+_, _*_, _-_, _≤_, _<_}
 use native.Mathlib.Omega.{arith}
 use lib.ListN.{length}
-use Rattle.relations.specs.Values.{Rows}
+use Rattle.relations.specs.Rows.{Row, sameRow}
+use Rattle.relations.specs.Values.{Rows, member}
+use Rattle.relations.proofs.ListLaws.{any-append}
 use Rattle.values.specs.Words.{held, rowIn, rowsAt, wordsOf}
 use Rattle.values.specs.Building.{Stands}
-use Rattle.values.proofs.RowsLaws.{times-step, rowsAt-row}
+use Rattle.values.proofs.RowsLaws.{times-step, rowsAt-row, rowsAt-none}
 use Rattle.values.proofs.StandLaws.{stands-same, stands-later}
 use Rattle.values.proofs.FillLaws.{Filled}
 
@@ -53,3 +55,27 @@ module _ {w out rows made : ℕ} {all todo : Rows} {before now : List ℕ} (f : 
 
   pub row-now : (inWork : Bool) (at width : ℕ) (tables : List ℕ) → Stands inWork at width out tables before → rowIn (held inWork tables now) at width ≡ rowIn (held inWork tables before) at width
   row-now inWork at width tables h = stands-same inWork at width out tables before now out (wordsOf (rowsAt w made out now)) h (omega arith) (omega (arith, f .fits, f .size)) (f .words)
+
+-- The rows of two values, whichever has the next one.
+
+module _ (w more at others beside : ℕ) (l : List ℕ) where
+  pub left-next : 0 < more → at + more * w ≤ length l → (row : Row)
+      → member row (rowsAt w more at l ++ rowsAt w others beside l) ≡ (sameRow row (rowIn l at w) || member row (rowsAt w (more - 1) (at + w) l ++ rowsAt w others beside l))
+  left-next h k row = ap (λ (rows : Rows). member row (rows ++ rowsAt w others beside l)) (rowsAt-row w more at l h k)
+
+  pub right-next : 0 < others → beside + others * w ≤ length l → (row : Row)
+      → member row (rowsAt w more at l ++ rowsAt w others beside l) ≡ (sameRow row (rowIn l beside w) || member row (rowsAt w more at l ++ rowsAt w (others - 1) (beside + w) l))
+  right-next h k row =
+      ap (λ (rows : Rows). member row (rowsAt w more at l ++ rows)) (rowsAt-row w others beside l h k)
+      ∙ any-append (sameRow row) (rowsAt w more at l) (rowIn l beside w ∷ rowsAt w (others - 1) (beside + w) l)
+      ∙ or-swap (member row (rowsAt w more at l)) (sameRow row (rowIn l beside w)) (member row (rowsAt w (others - 1) (beside + w) l))
+      ∙ ap (λ (b : Bool). sameRow row (rowIn l beside w) || b) (sym (any-append (sameRow row) (rowsAt w more at l) (rowsAt w (others - 1) (beside + w) l)))
+    where
+      or-swap : (a b c : Bool) → (a || (b || c)) ≡ (b || (a || c))
+      or-swap true true c = refl
+      or-swap true false c = refl
+      or-swap false true c = refl
+      or-swap false false c = refl
+
+  pub both-over : more ≡ 0 → others ≡ 0 → (row : Row) → member row (rowsAt w more at l ++ rowsAt w others beside l) ≡ false
+  both-over h k row = rw (h, k, rowsAt-none w at l, rowsAt-none w beside l)

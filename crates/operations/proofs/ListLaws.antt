@@ -12,8 +12,8 @@ use lib.Dec.{eqb}
 use borrow.Author.Tests.{eqb-true, eq-eqb}
 use Rattle.relations.specs.Rows.{Row}
 use Rattle.relations.specs.Comparison.{Operator, equal, notEqual, less, atMost, greater, atLeast, holds, operatorOf}
-use Rattle.relations.specs.Columns.{Triple, Pair, wordAt, column, attribute, meets, equalOn}
-use Rattle.relations.specs.PlanWords.{readTriples, readPairs, tripleBefore}
+use Rattle.relations.specs.Columns.{Triple, wordAt, column, attribute, meets}
+use Rattle.relations.specs.PlanWords.{readTriples, tripleBefore}
 use Rattle.operations.specs.Lists.{operatorNamed, firstTriple, firstPair, triplesIn}
 
 -- a column is the word one before its number, and 0 outside the row
@@ -32,18 +32,12 @@ first-word list at = getD-drop at list 0 0 ∙ rw add-zero
 pub next-word : (list : List ℕ) (at i : ℕ) → getD (drop at list) i 0 ≡ getD list (at + i) 0
 next-word list at i = getD-drop at list i 0
 
--- a turn of a loop over triples or pairs
+-- a turn of a loop over triples
 pub meets-step : (list : List ℕ) (at more : ℕ) (left right : Row) → 0 < more
     → meets (triplesIn more (drop at list)) left right
     ≡ (holds (firstTriple (drop at list) .operator) (column left (firstTriple (drop at list) .left)) (column right (firstTriple (drop at list) .right)) && meets (triplesIn (more - 1) (drop (at + 3) list)) left right)
 meets-step list at zero left right h = absurd (omega arith)
 meets-step list at (suc more) left right h = let e : suc more - 1 ≡ more = omega arith in rw (e, drop-drop 3 at list)
-
-pub equal-step : (list : List ℕ) (at more : ℕ) (left right : Row) → 0 < more
-    → equalOn (readPairs more (drop at list)) left right
-    ≡ (eqb (column left (firstPair (drop at list) .left)) (column right (firstPair (drop at list) .right)) && equalOn (readPairs (more - 1) (drop (at + 2) list)) left right)
-equal-step list at zero left right h = absurd (omega arith)
-equal-step list at (suc more) left right h = let e : suc more - 1 ≡ more = omega arith in rw (e, drop-drop 2 at list)
 
 -- where a number is an operator's, it is the operator of that number
 pub operator-named : (number : ℕ) (o : Operator) → operatorOf number ≡ some o → operatorNamed number ≡ o
@@ -74,7 +68,3 @@ triples-read (suc count) list triples h = go (operatorOf (getD list 1 0)) refl (
 pub triple-test : (left right : Row) (t : Triple) {u : Triple} {x y : ℕ} → t ≡ u → x ≡ column left (t .left) → y ≡ column right (t .right)
     → holds (t .operator) x y ≡ holds (u .operator) (column left (u .left)) (column right (u .right))
 triple-test left right t e p q = rw (p, q, e)
-
-pub pair-test : (left right : Row) (p : Pair) {q : Pair} {x y : ℕ} → p ≡ q → x ≡ column left (p .left) → y ≡ column right (p .right)
-    → eqb x y ≡ eqb (column left (q .left)) (column right (q .right))
-pair-test left right p e f g = rw (f, g, e)

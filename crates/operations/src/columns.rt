@@ -4,7 +4,6 @@ ghost use Prim.Native.Nat.{ℕ, _+_, _*_, _≤_};
 ghost use lib.ListN.{length, drop};
 ghost use Rattle.relations.specs.Comparison as comparison;
 ghost use Rattle.relations.specs.Columns as meaning;
-ghost use Rattle.relations.specs.PlanWords.{readPairs};
 ghost use Rattle.operations.specs.Lists.{attributeIn, operatorIn, tripleIn, pairIn, operatorNamed, firstTriple, firstPair, triplesIn};
 
 // The most columns of a row.
@@ -120,25 +119,6 @@ pub fn meets(list: &[u32], count: usize, left: &[u32], right: &[u32]) -> bool
             column_of(right, triple.right),
         ) {
             at += 3;
-            more -= 1;
-        } else {
-            return false;
-        }
-    }
-    true
-}
-
-// Whether a left row equals a right row on all of so many pairs.
-pub fn equal_on(list: &[u32], count: usize, left: &[u32], right: &[u32]) -> bool
-    requires { ⌜ count * 2 ≤ length (now list) ⌝ }
-    ensures { λ r. ⌜ r ≡ meaning.equalOn (readPairs count (now (list .entry))) (now (left .entry)) (now (right .entry)) ⌝ }
-{
-    let mut at: usize = 0;
-    let mut more = count;
-    while 0 < more {
-        let pair = pair_at(list, at);
-        if column_of(left, pair.left) == column_of(right, pair.right) {
-            at += 2;
             more -= 1;
         } else {
             return false;

@@ -1,15 +1,19 @@
 // The operations that take all rows over: load and union.
 ghost use mathlib.Core.Path.{_≡_};
+ghost use mathlib.Core.Bool.{true, false};
+ghost use mathlib.Core.List.{[], _∷_};
 ghost use Prim.Native.Nat.{ℕ, _+_, _*_, _≤_, _<_};
 ghost use lib.ListN.{length};
 ghost use Rattle.relations.specs.Values.{Ascending};
 ghost use Rattle.relations.specs.Operations.{loadCandidates, uniteCandidates};
-ghost use Rattle.values.specs.Words.{held, rowsAt, rowsOf, end};
-ghost use Rattle.values.specs.Building.{Stands, Builds};
+ghost use Rattle.values.specs.Words.{held, rowIn, rowsAt, rowsOf, end};
+ghost use Rattle.values.specs.Building.{Stands, Builds, Makes};
 use crate::columns::NO_WORDS;
 use values::placing::Placed;
 use values::placing::place_row;
 use values::rows::Value;
+use values::rows::row;
+use values::search::stands_before;
 
 // The rows of a table or of a value in the work area are put into the value of `made` rows at `out`.
 fn copy_rows(
@@ -60,13 +64,84 @@ pub fn load(tables: &[u32], work: &mut [u32], stored: Value, out: usize) -> Plac
     copy_rows(tables, work, false, stored, out, 0)
 }
 
-// Operation 9: the left rows, then those of the right rows that are new.
+// Whether the next left row is to be offered, and not the next right row: the earlier of the two, or the only one.
+fn left_is_next(
+    work: &[u32],
+    width: usize,
+    at: usize,
+    more: usize,
+    beside: usize,
+    others: usize,
+) -> bool
+    requires { ⌜ 0 < more + others ⌝ }
+    ensures { λ r. ⌜ (r ≡ true → 0 < more) × (r ≡ false → 0 < others) ⌝ }
+{
+    if others == 0 {
+        return true;
+    }
+    if more == 0 {
+        return false;
+    }
+    if stands_before(work, beside, width, row(work, work, true, at, width)) {
+        false
+    } else {
+        true
+    }
+}
+
+// A row in front of `out` is put into the value of `made` rows there.
+fn place_next(work: &mut [u32], start: usize, width: usize, out: usize, made: usize) -> Placed
+    requires { ⌜ (0 < width) × (start + width ≤ out) × (out + made * width ≤ length (now work)) × Ascending (rowsAt width made out (now work)) ⌝ }
+    ensures { λ r. ⌜ Builds width out made (rowIn (now (work .entry)) start width ∷ []) (now (work .entry)) (now (work .exit)) r ⌝ }
+{
+    place_row(
+        &NO_WORDS,
+        work,
+        true,
+        start,
+        Value {
+            base: out,
+            rows: made,
+            width,
+        },
+    )
+}
+
+// Operation 9: the rows of both values, the earlier one first, so that each is placed by one comparison.
 pub fn unite(work: &mut [u32], left: Value, right: Value, out: usize) -> Placed
     requires { ⌜ (0 < left .width) × (right .width ≡ left .width) × (end left ≤ out) × (end right ≤ out) × (out ≤ length (now work)) ⌝ }
-    ensures { λ r. ⌜ Builds (left .width) out 0 (uniteCandidates (rowsOf left (now (work .entry))) (rowsOf right (now (work .entry)))) (now (work .entry)) (now (work .exit)) r ⌝ }
+    ensures { λ r. ⌜ Makes (left .width) out (uniteCandidates (rowsOf left (now (work .entry))) (rowsOf right (now (work .entry)))) (now (work .entry)) (now (work .exit)) r ⌝ }
 {
-    match copy_rows(&NO_WORDS, work, true, left, out, 0) {
-        Placed::Rows(made) => copy_rows(&NO_WORDS, work, true, right, out, made),
-        Placed::Full => Placed::Full,
+    let width = left.width;
+    let mut at = left.base;
+    let mut more = left.rows;
+    let mut beside = right.base;
+    let mut others = right.rows;
+    let mut made: usize = 0;
+    while 0 < more + others {
+        if left_is_next(work, width, at, more, beside, others) {
+            match place_next(work, at, width, out, made) {
+                Placed::Rows(rows) => {
+                    made = rows;
+                }
+                Placed::Full => {
+                    return Placed::Full;
+                }
+            }
+            at += width;
+            more -= 1;
+        } else {
+            match place_next(work, beside, width, out, made) {
+                Placed::Rows(rows) => {
+                    made = rows;
+                }
+                Placed::Full => {
+                    return Placed::Full;
+                }
+            }
+            beside += width;
+            others -= 1;
+        }
     }
+    Placed::Rows(made)
 }

@@ -22,7 +22,7 @@ use Rattle.relations.specs.PlanWords.{shapeOf, readTriples, readPairs, readPart
 use Rattle.relations.proofs.LegalityLaws.{Between, LegalFacts, legal-facts}
 use Rattle.relations.proofs.ListLaws.{all-mono, all-map}
 use Rattle.values.specs.Words.{rowsOf}
-use Rattle.values.specs.Building.{Builds}
+use Rattle.values.specs.Building.{Makes}
 use Rattle.values.specs.declared.rows.Value.{Value}
 use Rattle.values.specs.declared.placing.Placed.{Placed}
 use Rattle.operations.specs.Lists.{operatorNamed, triplesIn}
@@ -206,9 +206,9 @@ module _ (catalogue tables words : List ℕ) (plan : PlanNode) (size : length wo
   asks-named Subtract o = let k = facts Subtract o in (side (plan .left) (k .0), side (plan .right) (k .1))
 
   makes-named : (operation : Operation) → plan .operation ≡ operation → {after : List ℕ} {r : Placed}
-      → Builds (widthMade (columnsOf catalogue) operation (plan .left) (plan .count) (valueNamed made (plan .left) .width) (valueNamed made (plan .right) .width)) out 0
+      → Makes (widthMade (columnsOf catalogue) operation (plan .left) (plan .count) (valueNamed made (plan .left) .width) (valueNamed made (plan .right) .width)) out
       (offered (storedTables catalogue tables) operation (plan .left) (plan .count) list (rowsOf (valueNamed made (plan .left)) work) (rowsOf (valueNamed made (plan .right)) work)) work after r
-      → Builds (widthRead (columnsOf catalogue) widths (readNode words)) out 0 (candidatesRead (storedTables catalogue tables) (standing made work) (readNode words)) work after r
+      → Makes (widthRead (columnsOf catalogue) widths (readNode words)) out (candidatesRead (storedTables catalogue tables) (standing made work) (readNode words)) work after r
   makes-named operation o g =
       let w : widthOfNode (columnsOf catalogue) widths (nodeIn operation (plan .left) (plan .right) (plan .count) list) ≡ widthMade (columnsOf catalogue) operation (plan .left) (plan .count) (valueNamed made (plan .left) .width) (valueNamed made (plan .right) .width) =
       width-node (columnsOf catalogue) widths operation (plan .left) (plan .right) (plan .count) list (λ p. omega (arith, room, counts Project (o ∙ p) .1))
@@ -225,9 +225,9 @@ module _ (catalogue tables words : List ℕ) (plan : PlanNode) (size : length wo
 
     -- what an operation makes of its values is what the words' node makes
     pub makes : {after : List ℕ} {p : Placed}
-        → Builds (widthMade (columnsOf catalogue) operation (plan .left) (plan .count) (left .width) (right .width)) out 0
+        → Makes (widthMade (columnsOf catalogue) operation (plan .left) (plan .count) (left .width) (right .width)) out
         (offered (storedTables catalogue tables) operation (plan .left) (plan .count) words′ (rowsOf left work) (rowsOf right work)) work after p
-        → Builds (widthRead (columnsOf catalogue) widths (readNode words)) out 0 (candidatesRead (storedTables catalogue tables) (standing made work) (readNode words)) work after p
+        → Makes (widthRead (columnsOf catalogue) widths (readNode words)) out (candidatesRead (storedTables catalogue tables) (standing made work) (readNode words)) work after p
     makes g = makes-named operation o (rw (l, r, i) at g)
 
 -- What `run_node` answers beside the value.
@@ -254,8 +254,8 @@ module _ (words : List ℕ) (plan : PlanNode) (stood : Stands words plan) where
       ap (λ (p : PlanNode). weightOf (heavyOperation (operationIn (p .operation)))) (sym (stood .is))
       ∙ ap weightOf (heavy-planned (nodes.operationOfNode (stood .node))) ∙ ap weightRead (sym (stood .read))
 
-pub builds-as : {w out rows : ℕ} {cs : Rows} {before after : List ℕ} {r p : Placed} → r ≡ p → Builds w out rows cs before after r → Builds w out rows cs before after p
-builds-as e g = rw e at g
+pub makes-told : {w out : ℕ} {cs : Rows} {before after : List ℕ} {r p : Placed} → r ≡ p → Makes w out cs before after r → Makes w out cs before after p
+makes-told e g = rw e at g
 
 -- words that read as no node are not legal
 pub no-node {ℓ} : {C : Type ℓ} (relations : ℕ) (made : List ℕ) (read : Option nodes.Node) → decoded read ≡ NoNode → legalRead relations made read ≡ true → C

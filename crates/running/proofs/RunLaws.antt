@@ -27,10 +27,10 @@ use Rattle.relations.proofs.PlanWidths.{widths-kept}
 use Rattle.relations.proofs.ValueLaws.{ascending-canonical}
 use Rattle.catalogue.specs.Judging.{tablesOk}
 use Rattle.values.specs.Words.{rowsAt, rowsOf, end}
-use Rattle.values.specs.Building.{Builds}
+use Rattle.values.specs.Building.{Makes}
 use Rattle.values.specs.declared.rows.Value.{Value}
 use Rattle.values.specs.declared.placing.Placed.the-variants.{Rows as Placed·Rows}
-use Rattle.values.proofs.FillLaws.{made-length, made-rows, made-fits, made-value, made-count, made-full}
+use Rattle.values.proofs.MakeLaws.{makes-fits, makes-count, makes-full}
 use Rattle.catalogue.specs.Stored.{relationsOf, columnsOf, storedTables}
 use Rattle.plans.specs.Judging.{legalRead, judgeNodes, judgement, nodesIn, nodesOf}
 use Rattle.plans.specs.declared.judging.Judgement.the-variants.{Legal}
@@ -255,14 +255,14 @@ module _ (catalogue tables plan : List ℕ) (nodes : ℕ) (ok : tablesOk catalog
       running-legal = rw (coming .read) (coming .legal)
 
       module _ {after : List ℕ} {answer : Made} (run : NodeRun catalogue tables (readNode (take planNodeWords (drop at plan))) (take place ws) there out work after answer) where
-        made : Builds (widthOfNode columns (take place ws) (coming .node)) out 0 (candidates stored there (coming .node)) work after (placedOf answer)
-        made = rw (coming .read) at (run .builds)
+        made : Makes (widthOfNode columns (take place ws) (coming .node)) out (candidates stored there (coming .node)) work after (placedOf answer)
+        made = rw (coming .read) at (run .makes)
 
         -- its value has no room
         pub running-off : answer ≡ NoRoom → fitWithin catalogue tables whole (length after) ≡ passesAt place
         running-off e =
-            let over : length work - out < length (valueOfNode stored there (coming .node)) * widthOfNode columns (take place ws) (coming .node) = made-full (rw e at made) (wide (r .reached) widths-there values-there more) in
-            let same : length after ≡ capacity = made-length made ∙ r .size in
+            let over : length work - out < length (valueOfNode stored there (coming .node)) * widthOfNode columns (take place ws) (coming .node) = makes-full (rw e at made) (wide (r .reached) widths-there values-there more) in
+            let same : length after ≡ capacity = made .size ∙ r .size in
             rw same (reached-off (r .reached) widths-there values-there more (omega (arith, over, r .size, r .stand .inside)))
 
         -- its value stands behind the others
@@ -270,11 +270,11 @@ module _ (catalogue tables plan : List ℕ) (nodes : ℕ) (ok : tablesOk catalog
           counted : (width ≡ widthOfNode columns (take place ws) (coming .node)) × (weight ≡ weightOf (heavyNode (coming .node)))
           counted = rw (e, coming .read) at (run .counts)
 
-          placed : Builds width out 0 (candidates stored there (coming .node)) work after (Placed·Rows count)
+          placed : Makes width out (candidates stored there (coming .node)) work after (Placed·Rows count)
           placed = rw (counted .0) (rw e at made)
 
           pub running-fits : out + count * width ≤ length work
-          running-fits = omega (arith, made-fits (r .stand .inside) placed, made-length placed)
+          running-fits = omega (arith, makes-fits placed, placed .size)
 
           pub running-on : Running catalogue tables plan nodes capacity (set ws place width) (set ns place count) (set bs place out) (heavies + weight) (out + count * width) (place + 1) (at + planNodeWords) after
           running-on =
@@ -283,7 +283,7 @@ module _ (catalogue tables plan : List ℕ) (nodes : ℕ) (ok : tablesOk catalog
               let tn : take (place + 1) (set ns place count) ≡ take place ns ++ (count ∷ []) = rw (add-one place) (take-suc-set ns place count (omega (arith, r .rowsLong))) in
               let tb : take (place + 1) (set bs place out) ≡ take place bs ++ (out ∷ []) = rw (add-one place) (take-suc-set bs place out (omega (arith, r .basesLong))) in
               let thin : (1 ≤ width) × (width ≤ columnLimit) = rw (counted .0) (narrow (r .reached) widths-there values-there more) in
-              let many : count ≡ length (valueOfNode stored there (coming .node)) = made-count (r .stand .inside) placed in
+              let many : count ≡ length (valueOfNode stored there (coming .node)) = makes-count placed in
               let words : count * width ≡ valueWords (widthOfNode columns (take place ws) (coming .node)) (valueOfNode stored there (coming .node)) = ap₂ _*_ many (counted .0) in
               record {
                 inPlan = omega arith;
@@ -291,7 +291,7 @@ module _ (catalogue tables plan : List ℕ) (nodes : ℕ) (ok : tablesOk catalog
                 widthsLong = length-set ws place width ∙ r .widthsLong;
                 rowsLong = length-set ns place count ∙ r .rowsLong;
                 basesLong = length-set bs place out ∙ r .basesLong;
-                size = made-length placed ∙ r .size;
+                size = placed .size ∙ r .size;
                 stand = rw (tw, tn, tb) (stand-more (r .stand) placed (thin .0) (thin .1));
                 reached =
                     rw (tw, tn, tb, standing-more (r .stand) placed, words, counted .1, counted .0)

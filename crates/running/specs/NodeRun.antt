@@ -7,7 +7,7 @@ use Prim.Native.Nat.{ℕ}
 use Rattle.relations.specs.Values.{Rows, Tables}
 use Rattle.relations.specs.Nodes.{Node}
 use Rattle.relations.specs.Plan.{candidates, widthOfNode, heavyNode}
-use Rattle.values.specs.Building.{Builds}
+use Rattle.values.specs.Building.{Makes}
 use Rattle.values.specs.declared.placing.Placed.{Placed}
 use Rattle.values.specs.declared.placing.Placed.the-variants.{Rows as Placed·Rows, Full}
 use Rattle.catalogue.specs.Stored.{columnsOf, storedTables}
@@ -40,5 +40,5 @@ Counts w h (Value width rows heavy) = (width ≡ w) × (heavy ≡ h)
 Counts w h NoRoom = Unit {0}
 
 pub record NodeRun (catalogue tables : List ℕ) (read : Option Node) (widths : List ℕ) (made : List Rows) (out : ℕ) (before after : List ℕ) (answer : Made) : Type 0 where
-  pub builds : Builds (widthRead (columnsOf catalogue) widths read) out 0 (candidatesRead (storedTables catalogue tables) made read) before after (placedOf answer)
+  pub makes : Makes (widthRead (columnsOf catalogue) widths read) out (candidatesRead (storedTables catalogue tables) made read) before after (placedOf answer)
   pub counts : Counts (widthRead (columnsOf catalogue) widths read) (weightRead read) answer

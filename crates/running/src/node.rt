@@ -10,7 +10,7 @@ ghost use Rattle.relations.specs.Operations.{loadCandidates, selectConstantCand
 ghost use Rattle.relations.specs.PlanWords.{readNode};
 ghost use Rattle.catalogue.specs.Judging.{tablesOk};
 ghost use Rattle.values.specs.Words.{rowsOf, end};
-ghost use Rattle.values.specs.Building.{Builds};
+ghost use Rattle.values.specs.Building.{Builds, Makes};
 ghost use Rattle.operations.specs.Lists.{operatorNamed};
 ghost use Rattle.catalogue.specs.Stored.{relationsOf, columnsOf, storedTables};
 ghost use Rattle.plans.specs.Decoding.{operationIn, decoded};
@@ -123,7 +123,7 @@ fn make_value(
     out: usize,
 ) -> Placed
     requires { ⌜ (length (now words) ≡ planNodeWords) × (decoded (readNode (now words)) ≡ Decoded.Node node) × (tablesOk (now catalogue) (now tables) ≡ true) × (legalRead (relationsOf (now catalogue)) (now widths) (readNode (now words)) ≡ true) × Stand (now widths) (now rows) (now bases) out (now work) ⌝ }
-    ensures { λ r. ⌜ Builds (widthRead (columnsOf (now (catalogue .entry))) (now (widths .entry)) (readNode (now (words .entry)))) out 0 (candidatesRead (storedTables (now (catalogue .entry)) (now (tables .entry))) (standing (valuesIn (now (widths .entry)) (now (rows .entry)) (now (bases .entry))) (now (work .entry))) (readNode (now (words .entry)))) (now (work .entry)) (now (work .exit)) r ⌝ }
+    ensures { λ r. ⌜ Makes (widthRead (columnsOf (now (catalogue .entry))) (now (widths .entry)) (readNode (now (words .entry)))) out (candidatesRead (storedTables (now (catalogue .entry)) (now (tables .entry))) (standing (valuesIn (now (widths .entry)) (now (rows .entry)) (now (bases .entry))) (now (work .entry))) (readNode (now (words .entry)))) (now (work .entry)) (now (work .exit)) r ⌝ }
 {
     let operation = node.operation;
     let count = node.count;

@@ -12,7 +12,6 @@ use lib.Dec.{leb}
 use borrow.Author.Tests.{leb-true, leb-false}
 use Rattle.relations.specs.Values.{Rows, Wide, Ascending, canonical, placeRows}
 use Rattle.relations.proofs.PlaceLaws.{placeRows-canonical}
-use Rattle.relations.proofs.WidthLaws.{wide-canonical}
 use Rattle.values.specs.Words.{part, rowsAt, wordsOf}
 use Rattle.values.specs.Building.{Built, done, stopped, build, answerOf, leftOf, Builds}
 use Rattle.values.specs.declared.placing.Placed.{Placed}
@@ -142,20 +141,25 @@ module _ {w out n : ℕ} {cs : Rows} {before after : List ℕ} (inside : out ≤
       go (inl e) = let z : done (rowsAt w n out after) ≡ done (placeRows cs []) = sym (made-filled .next) ∙ e in let y : rowsAt w n out after ≡ placeRows cs [] = cc in y ∙ placeRows-canonical cs
       go (inr e) = let z : Made n ≡ Full = g .answers ∙ e in let y : _≡_ {A = ℕ} 0 1 = cc in absurd (omega arith)
 
-  pub made-count : n ≡ length (canonical cs)
-  made-count = sym (length-rowsAt w n out after) ∙ ap length made-value
-
-  pub made-wide : Wide w (canonical cs)
-  made-wide = rw made-value at (rowsAt-wide w n out after made-fits)
-
 -- It is refused exactly when the whole of it has no room.
-pub made-full : {w out : ℕ} {cs : Rows} {before after : List ℕ} → Builds w out 0 cs before after Full → Wide w cs → length before - out < length (canonical cs) * w
+pub made-full : {w out : ℕ} {cs : Rows} {before after : List ℕ} → Builds w out 0 cs before after Full → length before - out < length (wordsOf (canonical cs))
 unfolding rowsAt
-made-full {w} {out} {cs} {before} {after} g h =
-    rw (ap length (ap wordsOf (placeRows-canonical cs)) ∙ length-words w (canonical cs) (wide-canonical w cs h)) at (go (leb (length (wordsOf (placeRows cs []))) (length before - out)) refl)
+made-full {w} {out} {cs} {before} {after} g =
+    rw (ap (λ (rows : Rows). length (wordsOf rows)) (placeRows-canonical cs)) at (go (leb (length (wordsOf (placeRows cs []))) (length before - out)) refl)
   where
     go : (b : Bool) → leb (length (wordsOf (placeRows cs []))) (length before - out) ≡ b → length before - out < length (wordsOf (placeRows cs []))
     go true q =
         let z : Full ≡ Made (length (placeRows cs [])) = rw (build-fits (length before - out) cs [] (leb-true _ _ q)) at (g .answers) in
         let y : _≡_ {A = ℕ} 0 1 = cc in absurd (omega arith)
     go false q = leb-false _ _ q
+
+-- All candidates are in the value, and some more are to come.
+pub filled-wider : {w out rows made : ℕ} {all : Rows} {before now : List ℕ} → Filled w out rows made all [] before now → (some : Rows) → Filled w out rows made (all ++ some) some before now
+unfolding build
+filled-wider {w} {out} {rows} {made} {all} {before} {now} f some = record {
+  size = f .size;
+  fits = f .fits;
+  next = build-append (length before - out) all some (rowsAt w rows out before) ∙ ap (thenBuild (length before - out) some) (f .next);
+  words = f .words;
+  ascending = f .ascending;
+}

@@ -7,3 +7,4 @@ pub mod PlaceLaws
 pub mod BuildLaws
 pub mod FillLaws
 pub mod PutLaws
+pub mod MakeLaws

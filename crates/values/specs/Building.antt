@@ -2,12 +2,12 @@
 use mathlib.Core.Path.{_≡_}
 use mathlib.Core.Bool.{Bool, true, false, cond}
 use mathlib.Core.List.{List, [], _∷_}
-use Prim.Native.Nat.{ℕ, _+_, _-_, _≤_}
+use Prim.Native.Nat.{ℕ, _+_, _*_, _-_, _≤_, _<_}
 use lib.Dec.{leb}
 use lib.ListN.{length}
 use lib.Seq.{sets}
-use Rattle.relations.specs.Values.{Rows, Wide, insertRow}
-use Rattle.values.specs.Words.{rowsAt, wordsOf}
+use Rattle.relations.specs.Values.{Rows, Wide, insertRow, canonical}
+use Rattle.values.specs.Words.{part, rowsAt, wordsOf}
 use Rattle.values.specs.declared.placing.Placed.{Placed}
 use Rattle.values.specs.declared.placing.Placed.the-variants.{Rows as Made, Full}
 
@@ -40,3 +40,15 @@ pub record Builds (width out rows : ℕ) (candidates : Rows) (before after : Lis
   pub answers : answer ≡ answerOf (build (length before - out) candidates (rowsAt width rows out before))
   pub words : after ≡ sets before out (wordsOf (leftOf (build (length before - out) candidates (rowsAt width rows out before))))
   pub wide : Wide width (leftOf (build (length before - out) candidates (rowsAt width rows out before)))
+
+-- What a value's maker answers: that the value stands there, or that it has no room.
+abbrev pub Told : (width out : ℕ) (value : Rows) (before after : List ℕ) → Placed → Type 0
+Told width out value before after (Made rows) = (rowsAt width rows out after ≡ value) × (out + rows * width ≤ length after)
+Told width out value before after Full = length before - out < length (wordsOf value)
+
+-- What a function leaves that makes the value of the candidates from `out` on, in whatever order and with whatever help from the words there: its answer,
+-- the value, and every word in front of `out`. The words behind the value are left open.
+pub record Makes (width out : ℕ) (candidates : Rows) (before after : List ℕ) (answer : Placed) : Type 0 where
+  pub size : length after ≡ length before
+  pub front : (start count : ℕ) → start + count ≤ out → part start count after ≡ part start count before
+  pub told : Told width out (canonical candidates) before after answer

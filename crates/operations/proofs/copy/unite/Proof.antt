@@ -1,79 +1,167 @@
-use Rattle.operations.proofs.FillSteps.{builds-wide}
-use Rattle.operations.proofs.FillSteps.{builds-by, filled-last}
-use Rattle.values.proofs.FillLaws.{Filled, filled-none, filled-on, filled-off, filled-rows}
-use Rattle.values.proofs.RowsLaws.{rowsAt-none}
-use Rattle.values.specs.Words.{rowsAt, rowsOf}
-use Rattle.relations.specs.Values.{Rows}
-use lib.ListN.{length}
-use Prim.Native.Nat.{ℕ}
-use mathlib.Core.List.{_++_}
+use Prim.Native.Nat.{_+_, _*_, _≤_, _-_}
 use mathlib.Core.Path.{_≡_, refl, sym, ap, _∙_}
-use native.Mathlib.Nat.{zero-mul}
-use native.Mathlib.Omega.{arith}
-use native.Mathlib.Omega.{arith}
+use mathlib.Core.List.{_++_}
+use lib.ListN.{length}
+use Rattle.relations.specs.Values.{member}
+use Rattle.values.specs.Words.{rowIn, rowsAt, rowsOf}
+use Rattle.values.proofs.RowsLaws.{times-step, times-least}
+use Rattle.values.proofs.MakeLaws.{Offered, offered-start, offered-on, offered-off, offered-end, builds-row}
+use Rattle.operations.proofs.FillSteps.{filled-row}
+use Rattle.operations.proofs.CopyLaws.{left-next, right-next, both-over}
 use borrow.Author.Needs.{needs}
+use native.Mathlib.Omega.{arith}
 use Rattle.operations.proofs.copy.unite.Statement.{statement}
 use Rattle.operations.proofs.copy.unite.Tie as tie
 use Rattle.operations.proofs.copy.unite.Reads as reads
 use Rattle.operations.proofs.copy.unite.Lts as lts
-use Rattle.operations.proofs.copy.copy_rows.Reads as copy-rows-reads
+use Rattle.operations.proofs.copy.left_is_next.Reads as left-is-next-reads
+use Rattle.operations.proofs.copy.place_next.Reads as place-next-reads
 
--- src/copy.rt:51:21
-slice-aggregate-copy-rows : tie.Need-slice-aggregate-copy-rows
-slice-aggregate-copy-rows c = search needs
+abbrev Inv-loop : tie.InvT-loop
+Inv-loop work₀ out width at₀ more₀ beside₀ others₀ made₀ work at more beside others made = (at + more * width ≤ out) × (beside + others * width ≤ out) × Offered width out made (rowsAt width more at work₀ ++ rowsAt width others beside work₀) (rowsAt width more₀ at₀ work₀ ++ rowsAt width others₀ beside₀ work₀) work₀ work
 
--- src/copy.rt:51:11
-copy-rows-requires : tie.Need-copy-rows-requires
-copy-rows-requires c κs = let s = c .before .before .before .args in (c .before .before .before .pre .0, (c .before .before .before .pre .2, c .before .before .before .pre .4), omega (arith, zero-mul (s .left .width)), rw (rowsAt-none (s .left .width) (s .out) (s .work .now)) tt)
+abbrev μ-loop : tie.MeasureT-loop
+μ-loop work₀ out width at₀ more₀ beside₀ others₀ made₀ work at more beside others made = more + others
 
--- src/copy.rt:52:22
-enum-known-made : tie.Need-enum-known-made
-enum-known-made c = search needs
+-- src/copy.rt:138:5
+loop-holds : tie.Need-loop-holds Inv-loop μ-loop
+loop-holds c = let s = c .before .args in let p = c .before .pre in
+    (p .2, rw (p .1) at (p .3), offered-start (s .left .width) (s .out) (rowsAt (s .left .width) (s .left .rows) (s .left .base) (s .work .now) ++ rowsAt (s .left .width) (s .right .rows) (s .right .base) (s .work .now)) (s .work .now) (p .4))
 
--- src/copy.rt:52:41
-slice-aggregate-copy-rows-2 : tie.Need-slice-aggregate-copy-rows-2
-slice-aggregate-copy-rows-2 c = search needs
+-- src/copy.rt:138:15
+add-loop : tie.Need-add-loop Inv-loop μ-loop
+add-loop c = let s = c .before .before .args in let l = c .loop in omega (arith, times-least (l .more) (s .left .width) (c .before .before .pre .0), times-least (l .others) (s .left .width) (c .before .before .pre .0))
 
--- src/copy.rt:52:31
-copy-rows-requires-2 : tie.Need-copy-rows-requires-2
-copy-rows-requires-2 c κs = let s = c .before .before .before .before .before .before .before .before .before .before .before .args in let l = s .work .now in
-    let f = filled-on (filled-none (s .left .width) (s .out) (rowsOf (s .left) l ++ rowsOf (s .right) l) l (c .before .before .before .before .before .before .before .before .before .before .before .pre .4)) (rowsOf (s .right) l) refl (c .before .before .before .before .before .before .before .copy-rows .ensures) (c .before .before .before .made .given .0 .0) (c .before .before .before .made .given .1) in
-    (omega arith, (c .before .before .before .before .before .before .before .before .before .before .before .pre .3, omega (arith, f .size)), rw (c .before .before .before .before .before .before .before .before .before .before .before .pre .1) (f .fits), rw (c .before .before .before .before .before .before .before .before .before .before .before .pre .1) (f .ascending))
+-- src/copy.rt:139:12
+left-is-next-requires : tie.Need-left-is-next-requires Inv-loop μ-loop
+left-is-next-requires c κs = omega arith
 
--- src/copy.rt:53:25
-enum-told : tie.Need-enum-told
+-- src/copy.rt:140:19
+place-next-requires : tie.Need-place-next-requires Inv-loop μ-loop
+place-next-requires c κs = let s = c .before .before .before .before .before .before .before .args in let l = c .before .before .before .before .before .loop in let w = s .left .width in let some = c .before .before .left-is-next .ensures .0 (c .before .if1 .taken) in
+    (c .before .before .before .before .before .before .before .pre .0, omega (arith, times-step (l .more) w some), l .inv .2 .filled .fits, l .inv .2 .filled .ascending)
+
+-- src/copy.rt:141:30
+enum-known-rows : tie.Need-enum-known-rows Inv-loop μ-loop
+enum-known-rows c = search needs
+
+-- src/copy.rt:145:21
+enum-told : tie.Need-enum-told Inv-loop μ-loop
 enum-told c = search needs
 
--- src/copy.rt:47:1
-same-length : tie.Need-same-length
-same-length c = search needs
+-- src/copy.rt:145:21
+same-length : tie.Need-same-length Inv-loop μ-loop
+same-length c = omega (arith, c .before .before .before .before .place-next .kept, c .before .before .before .before .before .before .before .before .before .before .loop .inv .2 .filled .size)
 
--- src/copy.rt:47:1
-returns : tie.Need-returns
-returns c = let s = c .before .before .before .before .before .before .before .before .before .before .before .before .before .before .args in let l = s .work .now in
-    let f = filled-on (filled-none (s .left .width) (s .out) (rowsOf (s .left) l ++ rowsOf (s .right) l) l (c .before .before .before .before .before .before .before .before .before .before .before .before .before .before .pre .4)) (rowsOf (s .right) l) refl (c .before .before .before .before .before .before .before .before .before .before .copy-rows .ensures) (c .before .before .before .before .before .before .made .given .0 .0) (c .before .before .before .before .before .before .made .given .1) in
-    filled-last f refl (builds-by (filled-rows f (s .right .width) (s .right .rows) (s .right .base) (c .before .before .before .before .before .before .before .before .before .before .before .before .before .before .pre .3)) (builds-wide (c .before .before .before .before .before .before .before .before .before .before .before .before .before .before .pre .1) (c .before .before .copy-rows2 .ensures)))
+-- src/copy.rt:145:21
+returns : tie.Need-returns Inv-loop μ-loop
+returns c = let s = c .before .before .before .before .before .before .before .before .before .before .before .before .args in let l = c .before .before .before .before .before .before .before .before .before .before .loop in let w = s .left .width in let d = s .work .now in let some = c .before .before .before .before .before .before .before .left-is-next .ensures .0 (c .before .before .before .before .before .before .if1 .taken) in
+    rw (c .before .before .before .before .before .before .before .before .before .before .before .before .pre .1) (offered-off (l .inv .2) (rowsAt w (l .more - 1) (l .at + w) d ++ rowsAt w (l .others) (l .beside) d)
+    (left-next w (l .more) (l .at) (l .others) (l .beside) d some (omega (arith, c .before .before .before .before .before .before .before .before .before .before .before .before .pre .4)))
+    (builds-row (filled-row (l .inv .2 .filled) (l .at) w (omega (arith, times-step (l .more) w some))) (c .before .before .before .before .place-next .ensures)) (c .enum-told .given .1))
 
--- src/copy.rt:47:1
-same-length-2 : tie.Need-same-length-2
-same-length-2 c = search needs
+-- src/copy.rt:148:13
+add-at : tie.Need-add-at Inv-loop μ-loop
+add-at c = let s = c .before .before .before .before .before .before .before .before .before .before .before .before .before .args in let l = c .before .before .before .before .before .before .before .before .before .before .before .loop in let w = s .left .width in let some = c .before .before .before .before .before .before .before .before .left-is-next .ensures .0 (c .before .before .before .before .before .before .before .if1 .taken) in omega (arith, times-step (l .more) w some)
 
--- src/copy.rt:47:1
-returns-2 : tie.Need-returns-2
-returns-2 c = let s = c .before .before .before .before .before .before .before .before .args in let l = s .work .now in
-    filled-off (filled-none (s .left .width) (s .out) (rowsOf (s .left) l ++ rowsOf (s .right) l) l (c .before .before .before .before .before .before .before .before .pre .4)) (rowsOf (s .right) l) refl (c .before .before .before .before .copy-rows .ensures) (c .enum-told .given .1)
+-- src/copy.rt:149:13
+sub-more : tie.Need-sub-more Inv-loop μ-loop
+sub-more c = omega (arith, c .before .before .before .before .before .before .before .before .left-is-next .ensures .0 (c .before .before .before .before .before .before .before .if1 .taken))
+
+-- src/copy.rt:138:5
+loop-less : tie.Need-loop-less Inv-loop μ-loop
+loop-less c = omega (arith, c .before .before .before .before .before .before .before .before .left-is-next .ensures .0 (c .before .before .before .before .before .before .before .if1 .taken))
+
+-- src/copy.rt:138:5
+loop-again : tie.Need-loop-again Inv-loop μ-loop
+loop-again c = let s = c .before .before .before .before .before .before .before .before .before .before .before .before .before .args in let l = c .before .before .before .before .before .before .before .before .before .before .before .loop in let w = s .left .width in let d = s .work .now in let some = c .before .before .before .before .before .before .before .before .left-is-next .ensures .0 (c .before .before .before .before .before .before .before .if1 .taken) in (
+  omega (arith, times-step (l .more) w some),
+  l .inv .1,
+  offered-on (l .inv .2) (rowsAt w (l .more - 1) (l .at + w) d ++ rowsAt w (l .others) (l .beside) d)
+      (left-next w (l .more) (l .at) (l .others) (l .beside) d some (omega (arith, c .before .before .before .before .before .before .before .before .before .before .before .before .before .pre .4)))
+      (builds-row (filled-row (l .inv .2 .filled) (l .at) w (omega (arith, times-step (l .more) w some))) (c .before .before .before .before .before .place-next .ensures)) (c .before .rows .given .0 .0) (c .before .rows .given .1),
+)
+
+-- src/copy.rt:151:19
+place-next-requires-2 : tie.Need-place-next-requires-2 Inv-loop μ-loop
+place-next-requires-2 c κs = let s = c .before .before .before .before .before .before .before .args in let l = c .before .before .before .before .before .loop in let w = s .left .width in let some = c .before .before .left-is-next .ensures .1 (c .before .if1 .left) in
+    (c .before .before .before .before .before .before .before .pre .0, omega (arith, times-step (l .others) w some), l .inv .2 .filled .fits, l .inv .2 .filled .ascending)
+
+-- src/copy.rt:152:30
+enum-known-rows-2 : tie.Need-enum-known-rows-2 Inv-loop μ-loop
+enum-known-rows-2 c = search needs
+
+-- src/copy.rt:156:21
+enum-told-2 : tie.Need-enum-told-2 Inv-loop μ-loop
+enum-told-2 c = search needs
+
+-- src/copy.rt:156:21
+same-length-2 : tie.Need-same-length-2 Inv-loop μ-loop
+same-length-2 c = omega (arith, c .before .before .before .before .place-next2 .kept, c .before .before .before .before .before .before .before .before .before .before .loop .inv .2 .filled .size)
+
+-- src/copy.rt:156:21
+returns-2 : tie.Need-returns-2 Inv-loop μ-loop
+returns-2 c = let s = c .before .before .before .before .before .before .before .before .before .before .before .before .args in let l = c .before .before .before .before .before .before .before .before .before .before .loop in let w = s .left .width in let d = s .work .now in let some = c .before .before .before .before .before .before .before .left-is-next .ensures .1 (c .before .before .before .before .before .before .if1 .left) in
+    rw (c .before .before .before .before .before .before .before .before .before .before .before .before .pre .1) (offered-off (l .inv .2) (rowsAt w (l .more) (l .at) d ++ rowsAt w (l .others - 1) (l .beside + w) d)
+    (right-next w (l .more) (l .at) (l .others) (l .beside) d some (omega (arith, c .before .before .before .before .before .before .before .before .before .before .before .before .pre .4)))
+    (builds-row (filled-row (l .inv .2 .filled) (l .beside) w (omega (arith, times-step (l .others) w some))) (c .before .before .before .before .place-next2 .ensures)) (c .enum-told2 .given .1))
+
+-- src/copy.rt:159:13
+add-beside : tie.Need-add-beside Inv-loop μ-loop
+add-beside c = let s = c .before .before .before .before .before .before .before .before .before .before .before .before .before .args in let l = c .before .before .before .before .before .before .before .before .before .before .before .loop in let w = s .left .width in let some = c .before .before .before .before .before .before .before .before .left-is-next .ensures .1 (c .before .before .before .before .before .before .before .if1 .left) in omega (arith, times-step (l .others) w some)
+
+-- src/copy.rt:160:13
+sub-others : tie.Need-sub-others Inv-loop μ-loop
+sub-others c = omega (arith, c .before .before .before .before .before .before .before .before .left-is-next .ensures .1 (c .before .before .before .before .before .before .before .if1 .left))
+
+-- src/copy.rt:138:5
+loop-less-2 : tie.Need-loop-less-2 Inv-loop μ-loop
+loop-less-2 c = omega (arith, c .before .before .before .before .before .before .before .before .left-is-next .ensures .1 (c .before .before .before .before .before .before .before .if1 .left))
+
+-- src/copy.rt:138:5
+loop-again-2 : tie.Need-loop-again-2 Inv-loop μ-loop
+loop-again-2 c = let s = c .before .before .before .before .before .before .before .before .before .before .before .before .before .args in let l = c .before .before .before .before .before .before .before .before .before .before .before .loop in let w = s .left .width in let d = s .work .now in let some = c .before .before .before .before .before .before .before .before .left-is-next .ensures .1 (c .before .before .before .before .before .before .before .if1 .left) in (
+  l .inv .0,
+  omega (arith, times-step (l .others) w some),
+  offered-on (l .inv .2) (rowsAt w (l .more) (l .at) d ++ rowsAt w (l .others - 1) (l .beside + w) d)
+      (right-next w (l .more) (l .at) (l .others) (l .beside) d some (omega (arith, c .before .before .before .before .before .before .before .before .before .before .before .before .before .pre .4)))
+      (builds-row (filled-row (l .inv .2 .filled) (l .beside) w (omega (arith, times-step (l .others) w some))) (c .before .before .before .before .before .place-next2 .ensures)) (c .before .rows2 .given .0 .0) (c .before .rows2 .given .1),
+)
+
+-- src/copy.rt:128:1
+same-length-3 : tie.Need-same-length-3 Inv-loop μ-loop
+same-length-3 c = omega (arith, c .before .loop .inv .2 .filled .size)
+
+-- src/copy.rt:128:1
+returns-3 : tie.Need-returns-3 Inv-loop μ-loop
+returns-3 c = let s = c .before .before .before .args in let l = c .before .loop in rw (c .before .before .before .pre .1) (offered-end (l .inv .2) (both-over (s .left .width) (l .more) (l .at) (l .others) (l .beside) (s .work .now) (omega arith) (omega arith)))
 
 pub unite-spec : {M : Type 1} → statement M
 unite-spec =
     tie.close
     (tie.spec
-    slice-aggregate-copy-rows
-    copy-rows-requires
-    enum-known-made
-    slice-aggregate-copy-rows-2
-    copy-rows-requires-2
+    Inv-loop
+    μ-loop
+    loop-holds
+    add-loop
+    left-is-next-requires
+    place-next-requires
+    enum-known-rows
     enum-told
     same-length
     returns
+    add-at
+    sub-more
+    loop-less
+    loop-again
+    place-next-requires-2
+    enum-known-rows-2
+    enum-told-2
     same-length-2
-    returns-2)
+    returns-2
+    add-beside
+    sub-others
+    loop-less-2
+    loop-again-2
+    same-length-3
+    returns-3)

@@ -6,7 +6,8 @@ use lib.Seq.{take-all}
 use Rattle.relations.specs.Limits.{headWords, listWords}
 use Rattle.relations.specs.PlanWords.{readNode}
 use Rattle.values.specs.Words.{rowsOf}
-use Rattle.values.specs.Building.{Builds}
+use Rattle.values.specs.Building.{Makes}
+use Rattle.values.proofs.MakeLaws.{builds-makes}
 use Rattle.values.specs.declared.rows.Value.{Value}
 use Rattle.values.specs.declared.placing.Placed.{Placed}
 use Rattle.catalogue.specs.Stored.{relationsOf, columnsOf, storedTables}
@@ -78,9 +79,9 @@ module _ (v : Sides) where
 
   -- what it makes is what the words' node makes
   built : (operation : Operation) → start .args .node .operation ≡ operation → {after : List ℕ} {r : Placed}
-      → Builds (widthMade (columnsOf (start .args .catalogue .now)) operation (start .args .node .left) (start .args .node .count) (left .width) (right .width)) (start .args .out) 0
+      → Makes (widthMade (columnsOf (start .args .catalogue .now)) operation (start .args .node .left) (start .args .node .count) (left .width) (right .width)) (start .args .out)
       (offered (storedTables (start .args .catalogue .now) (start .args .tables .now)) operation (start .args .node .left) (start .args .node .count) list (rowsOf left work) (rowsOf right work)) work after r
-      → Builds (widthRead (columnsOf (start .args .catalogue .now)) (start .args .widths .now) (readNode words)) (start .args .out) 0
+      → Makes (widthRead (columnsOf (start .args .catalogue .now)) (start .args .widths .now) (readNode words)) (start .args .out)
       (candidatesRead (storedTables (start .args .catalogue .now) (start .args .tables .now)) (standing (valuesIn (start .args .widths .now) (start .args .rows .now) (start .args .bases .now)) work) (readNode words)) work after r
   built operation o g =
       makes (start .args .catalogue .now) (start .args .tables .now) words (start .args .node) (start .pre .0) stood (start .pre .3) (start .pre .4)
@@ -200,7 +201,7 @@ same-length c = search needs
 
 -- src/node.rt:95:1
 returns : tie.Need-returns
-returns c = built (c .before .before .before .before .before .before) Load (c .before .before .before .before .enum-told .given .1) (c .before .before .load-relation .ensures)
+returns c = built (c .before .before .before .before .before .before) Load (c .before .before .before .before .enum-told .given .1) (builds-makes (inside (c .before .before .before .before .before .before)) (c .before .before .load-relation .ensures))
 
 -- src/node.rt:95:1
 same-length-2 : tie.Need-same-length-2
@@ -208,7 +209,7 @@ same-length-2 c = search needs
 
 -- src/node.rt:95:1
 returns-2 : tie.Need-returns-2
-returns-2 c = built (c .before .before .before .before .before .before) Project (c .before .before .before .before .enum-told2 .given .1) (c .before .before .project .ensures)
+returns-2 c = built (c .before .before .before .before .before .before) Project (c .before .before .before .before .enum-told2 .given .1) (builds-makes (inside (c .before .before .before .before .before .before)) (c .before .before .project .ensures))
 
 -- src/node.rt:95:1
 same-length-3 : tie.Need-same-length-3
@@ -216,7 +217,7 @@ same-length-3 c = search needs
 
 -- src/node.rt:95:1
 returns-3 : tie.Need-returns-3
-returns-3 c = built (c .before .before .before .before .before .before) SelectConstant (c .before .before .before .before .enum-told3 .given .1) (c .before .before .select-by-constant .ensures)
+returns-3 c = built (c .before .before .before .before .before .before) SelectConstant (c .before .before .before .before .enum-told3 .given .1) (builds-makes (inside (c .before .before .before .before .before .before)) (c .before .before .select-by-constant .ensures))
 
 -- src/node.rt:95:1
 same-length-4 : tie.Need-same-length-4
@@ -224,7 +225,7 @@ same-length-4 c = search needs
 
 -- src/node.rt:95:1
 returns-4 : tie.Need-returns-4
-returns-4 c = built (c .before .before .before .before .before .before) SelectAttribute (c .before .before .before .before .enum-told4 .given .1) (c .before .before .select-by-attribute .ensures)
+returns-4 c = built (c .before .before .before .before .before .before) SelectAttribute (c .before .before .before .before .enum-told4 .given .1) (builds-makes (inside (c .before .before .before .before .before .before)) (c .before .before .select-by-attribute .ensures))
 
 -- src/node.rt:95:1
 same-length-5 : tie.Need-same-length-5
@@ -232,7 +233,7 @@ same-length-5 c = search needs
 
 -- src/node.rt:95:1
 returns-5 : tie.Need-returns-5
-returns-5 c = built (c .before .before .before .before .before .before) Join (c .before .before .before .before .enum-told5 .given .1) (c .before .before .join .ensures)
+returns-5 c = built (c .before .before .before .before .before .before) Join (c .before .before .before .before .enum-told5 .given .1) (builds-makes (inside (c .before .before .before .before .before .before)) (c .before .before .join .ensures))
 
 -- src/node.rt:95:1
 same-length-6 : tie.Need-same-length-6
@@ -240,7 +241,7 @@ same-length-6 c = search needs
 
 -- src/node.rt:95:1
 returns-6 : tie.Need-returns-6
-returns-6 c = built (c .before .before .before .before .before .before) Semijoin (c .before .before .before .before .enum-told6 .given .1) (c .before .before .semijoin .ensures)
+returns-6 c = built (c .before .before .before .before .before .before) Semijoin (c .before .before .before .before .enum-told6 .given .1) (builds-makes (inside (c .before .before .before .before .before .before)) (c .before .before .semijoin .ensures))
 
 -- src/node.rt:95:1
 same-length-7 : tie.Need-same-length-7
@@ -248,7 +249,7 @@ same-length-7 c = search needs
 
 -- src/node.rt:95:1
 returns-7 : tie.Need-returns-7
-returns-7 c = built (c .before .before .before .before .before .before) Antijoin (c .before .before .before .before .enum-told7 .given .1) (c .before .before .antijoin .ensures)
+returns-7 c = built (c .before .before .before .before .before .before) Antijoin (c .before .before .before .before .enum-told7 .given .1) (builds-makes (inside (c .before .before .before .before .before .before)) (c .before .before .antijoin .ensures))
 
 -- src/node.rt:95:1
 same-length-8 : tie.Need-same-length-8
@@ -256,7 +257,7 @@ same-length-8 c = search needs
 
 -- src/node.rt:95:1
 returns-8 : tie.Need-returns-8
-returns-8 c = built (c .before .before .before .before .before .before) Divide (c .before .before .before .before .enum-told8 .given .1) (c .before .before .divide .ensures)
+returns-8 c = built (c .before .before .before .before .before .before) Divide (c .before .before .before .before .enum-told8 .given .1) (builds-makes (inside (c .before .before .before .before .before .before)) (c .before .before .divide .ensures))
 
 -- src/node.rt:95:1
 same-length-9 : tie.Need-same-length-9
@@ -272,7 +273,7 @@ same-length-10 c = search needs
 
 -- src/node.rt:95:1
 returns-10 : tie.Need-returns-10
-returns-10 c = built (c .before .before .before .before .before .before) Intersect (c .before .before .before .before .enum-told10 .given .1) (c .before .before .intersect .ensures)
+returns-10 c = built (c .before .before .before .before .before .before) Intersect (c .before .before .before .before .enum-told10 .given .1) (builds-makes (inside (c .before .before .before .before .before .before)) (c .before .before .intersect .ensures))
 
 -- src/node.rt:95:1
 same-length-11 : tie.Need-same-length-11
@@ -280,7 +281,7 @@ same-length-11 c = search needs
 
 -- src/node.rt:95:1
 returns-11 : tie.Need-returns-11
-returns-11 c = built (c .before .before .before .before .before .before) Subtract (c .before .before .before .before .enum-told11 .given .1) (c .before .before .subtract .ensures)
+returns-11 c = built (c .before .before .before .before .before .before) Subtract (c .before .before .before .before .enum-told11 .given .1) (builds-makes (inside (c .before .before .before .before .before .before)) (c .before .before .subtract .ensures))
 
 pub make-value-spec : {M : Type 1} → statement M
 make-value-spec =

@@ -1,6 +1,6 @@
 use Rattle.relations.specs.PlanWords.{readNode}
 use Rattle.catalogue.specs.Stored.{relationsOf, columnsOf}
-use Rattle.running.proofs.NodeLaws.{width-read, weight-read, builds-as, no-node}
+use Rattle.running.proofs.NodeLaws.{width-read, weight-read, makes-told, no-node}
 use mathlib.Core.Path.{_≡_, sym, _∙_}
 use Rattle.plans.proofs.DecodeLaws.{stands}
 use Rattle.plans.proofs.JudgeLaws.{fits-if-legal}
@@ -57,7 +57,7 @@ returns : tie.Need-returns
 returns c = let s = c .before .before .before .before .before .before .before .before .before .before .before .before .before .before .before .before .before .before .before .before in
     let stood = stands (s .args .words .now) (c .before .before .before .before .before .before .before .before .before .before .node .given .0 .0) (s .pre .0) (sym (c .before .before .before .before .before .before .before .before .before .before .before .before .decode-node .ensures) ∙ c .before .before .before .before .before .before .before .before .before .before .node .given .1) in
     record {
-      builds = builds-as (c .before .before .rows .given .1) (c .before .before .before .before .before .before .make-value .ensures);
+      makes = makes-told (c .before .before .rows .given .1) (c .before .before .before .before .before .before .make-value .ensures);
       counts = (
         c .before .before .before .before .before .before .before .before .width-of .ensures ∙ width-read (s .args .words .now) (c .before .before .before .before .before .before .before .before .before .before .node .given .0 .0) stood (columnsOf (s .args .catalogue .now)) (s .args .widths .now),
         c .weight .ensures ∙ weight-read (s .args .words .now) (c .before .before .before .before .before .before .before .before .before .before .node .given .0 .0) stood,
@@ -70,7 +70,7 @@ same-length-2 c = search needs
 
 -- src/node.rt:139:1
 returns-2 : tie.Need-returns-2
-returns-2 c = record { builds = builds-as (c .enum-told .given .1) (c .before .before .before .before .make-value .ensures); counts = tt }
+returns-2 c = record { makes = makes-told (c .enum-told .given .1) (c .before .before .before .before .make-value .ensures); counts = tt }
 
 -- src/node.rt:139:1
 returns-3 : tie.Need-returns-3
