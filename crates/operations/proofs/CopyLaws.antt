@@ -10,7 +10,7 @@ use Rattle.relations.specs.Values.{Rows, member}
 use Rattle.relations.proofs.ListLaws.{any-append}
 use Rattle.values.specs.Words.{held, rowIn, rowsAt, wordsOf}
 use Rattle.values.specs.Building.{Stands}
-use Rattle.values.proofs.RowsLaws.{times-step, rowsAt-row, rowsAt-none}
+use Rattle.values.proofs.RowsLaws.{times-step, rowsAt-row, rowsAt-none, rowsAt-split}
 use Rattle.values.proofs.StandLaws.{stands-same, stands-later}
 use Rattle.values.proofs.FillLaws.{Filled}
 
@@ -79,3 +79,26 @@ module _ (w more at others beside : ℕ) (l : List ℕ) where
 
   pub both-over : more ≡ 0 → others ≡ 0 → (row : Row) → member row (rowsAt w more at l ++ rowsAt w others beside l) ≡ false
   both-over h k row = rw (h, k, rowsAt-none w at l, rowsAt-none w beside l)
+
+-- The rows of a value from the last to the first.
+
+pub last-next : (w left base : ℕ) (l : List ℕ) → 0 < left → base + left * w ≤ length l → (row : Row)
+    → member row (rowsAt w left base l) ≡ (sameRow row (rowIn l (base + (left - 1) * w) w) || member row (rowsAt w (left - 1) base l))
+last-next w left base l h k row =
+    let n : ℕ = left - 1 in
+    let e : left ≡ n + 1 = omega arith in
+    let room : base + n * w + w ≤ length l = omega (arith, times-step left w h) in
+    let z : _-_ 1 1 ≡ 0 = refl in
+    let last : rowsAt w 1 (base + n * w) l ≡ rowIn l (base + n * w) w ∷ [] =
+    rw (z, rowsAt-none w (base + n * w + w) l) at (rowsAt-row w 1 (base + n * w) l (omega arith) (omega (arith, one-mul w))) in
+    ap (λ (x : ℕ). member row (rowsAt w x base l)) e ∙ ap (member row) (rowsAt-split w n 1 base l ∙ ap (λ (rows : Rows). rowsAt w n base l ++ rows) last)
+    ∙ any-append (sameRow row) (rowsAt w n base l) (rowIn l (base + n * w) w ∷ []) ∙ turn (member row (rowsAt w n base l)) (sameRow row (rowIn l (base + n * w) w))
+  where
+    turn : (a b : Bool) → (a || (b || false)) ≡ (b || a)
+    turn true true = refl
+    turn true false = refl
+    turn false true = refl
+    turn false false = refl
+
+    one-mul : (x : ℕ) → 1 * x ≡ x
+    one-mul x = omega arith

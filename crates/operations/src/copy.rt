@@ -56,12 +56,68 @@ fn copy_rows(
     Placed::Rows(total)
 }
 
-// Operation 1: the stored rows, each once.
+// Whether the last stored row stands before the first: they may stand in descending order. It only says what is quicker.
+fn ends_before(tables: &[u32], stored: Value) -> bool
+    requires { ⌜ end stored ≤ length (now tables) ⌝ }
+{
+    let base = stored.base;
+    let rows = stored.rows;
+    let width = stored.width;
+    if rows == 0 {
+        return false;
+    }
+    stands_before(
+        tables,
+        base + (rows - 1) * width,
+        width,
+        row(tables, tables, true, base, width),
+    )
+}
+
+// The stored rows are offered from the last to the first.
+fn load_backwards(tables: &[u32], work: &mut [u32], stored: Value, out: usize) -> Placed
+    requires { ⌜ (0 < stored .width) × (end stored ≤ length (now tables)) × (out ≤ length (now work)) ⌝ }
+    ensures { λ r. ⌜ Makes (stored .width) out (rowsOf stored (now (tables .entry))) (now (work .entry)) (now (work .exit)) r ⌝ }
+{
+    let base = stored.base;
+    let width = stored.width;
+    let mut left = stored.rows;
+    let mut made: usize = 0;
+    while 0 < left {
+        left -= 1;
+        match place_row(
+            tables,
+            work,
+            false,
+            base + left * width,
+            Value {
+                base: out,
+                rows: made,
+                width,
+            },
+        ) {
+            Placed::Rows(rows) => {
+                made = rows;
+            }
+            Placed::Full => {
+                return Placed::Full;
+            }
+        }
+    }
+    Placed::Rows(made)
+}
+
+// Operation 1: the stored rows, each once. Rows that come in ascending order cost one comparison each, so rows that stand in descending order are
+// offered from the last one on.
 pub fn load(tables: &[u32], work: &mut [u32], stored: Value, out: usize) -> Placed
     requires { ⌜ (0 < stored .width) × (end stored ≤ length (now tables)) × (out ≤ length (now work)) ⌝ }
-    ensures { λ r. ⌜ Builds (stored .width) out 0 (loadCandidates (rowsOf stored (now (tables .entry)))) (now (work .entry)) (now (work .exit)) r ⌝ }
+    ensures { λ r. ⌜ Makes (stored .width) out (loadCandidates (rowsOf stored (now (tables .entry)))) (now (work .entry)) (now (work .exit)) r ⌝ }
 {
-    copy_rows(tables, work, false, stored, out, 0)
+    if ends_before(tables, stored) {
+        load_backwards(tables, work, stored, out)
+    } else {
+        copy_rows(tables, work, false, stored, out, 0)
+    }
 }
 
 // Whether the next left row is to be offered, and not the next right row: the earlier of the two, or the only one.

@@ -7,7 +7,7 @@ use lib.Seq.{drop-drop}
 use Rattle.relations.specs.Values.{Rows}
 use Rattle.relations.specs.Operations.{loadCandidates}
 use Rattle.values.specs.Words.{rowsAt}
-use Rattle.values.specs.Building.{Builds}
+use Rattle.values.specs.Building.{Makes}
 use Rattle.values.specs.declared.placing.Placed.{Placed}
 use Rattle.catalogue.specs.Stored.{columnsOf, rowsOf, startOf, rowsIn, storedTables}
 
@@ -23,5 +23,5 @@ module _ (catalogue tables : List ℕ) (relation : ℕ) where
   stored-rows = rows-from (columnsOf catalogue relation) (rowsOf catalogue relation) (startOf catalogue relation) tables
 
   pub loaded : {start rows columns out : ℕ} {before after : List ℕ} {r : Placed} → start ≡ startOf catalogue relation → rows ≡ rowsOf catalogue relation → columns ≡ columnsOf catalogue relation
-      → Builds columns out 0 (loadCandidates (rowsAt columns rows start tables)) before after r → Builds (columnsOf catalogue relation) out 0 (loadCandidates (storedTables catalogue tables relation)) before after r
+      → Makes columns out (loadCandidates (rowsAt columns rows start tables)) before after r → Makes (columnsOf catalogue relation) out (loadCandidates (storedTables catalogue tables relation)) before after r
   loaded s n w g = rw (s, n, w, stored-rows) at g

@@ -82,7 +82,7 @@ fn load_relation(
     out: usize,
 ) -> Placed
     requires { ⌜ (tablesOk (now catalogue) (now tables) ≡ true) × (relation < relationsOf (now catalogue)) × (out ≤ length (now work)) ⌝ }
-    ensures { λ r. ⌜ Builds (columnsOf (now (catalogue .entry)) relation) out 0 (loadCandidates (storedTables (now (catalogue .entry)) (now (tables .entry)) relation)) (now (work .entry)) (now (work .exit)) r ⌝ }
+    ensures { λ r. ⌜ Makes (columnsOf (now (catalogue .entry)) relation) out (loadCandidates (storedTables (now (catalogue .entry)) (now (tables .entry)) relation)) (now (work .entry)) (now (work .exit)) r ⌝ }
 {
     let base = start_of(catalogue, relation);
     let rows = wide(rows_of(catalogue, relation));

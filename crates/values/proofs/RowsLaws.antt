@@ -140,3 +140,12 @@ value-words w n a l h = sym (ap (sets l a) (words-rowsAt w n a l) ∙ sets-part 
 
 pub length-value : (w n a : ℕ) (l : List ℕ) → a + n * w ≤ length l → length (wordsOf (rowsAt w n a l)) ≡ n * w
 length-value w n a l h = length-words w (rowsAt w n a l) (rowsAt-wide w n a l h) ∙ ap (λ (x : ℕ). x * w) (length-rowsAt w n a l)
+
+-- the first rows, and those behind them
+pub rowsAt-split : (w n m a : ℕ) (l : List ℕ) → rowsAt w (n + m) a l ≡ rowsAt w n a l ++ rowsAt w m (a + n * w) l
+unfolding rowsAt
+rowsAt-split w zero m a l = let z : a + zero * w ≡ a = rw zero-mul (add-zero a) in let y : zero + m ≡ m = omega arith in rw (z, y)
+rowsAt-split w (suc n) m a l =
+    let z : a + suc n * w ≡ a + w + n * w = omega (arith, suc-mul n w) in
+    let y : suc n + m ≡ suc (n + m) = omega arith in
+    rw (z, y) (ap (λ (rows : Rows). part a w l ∷ rows) (rowsAt-split w n m (a + w) l))

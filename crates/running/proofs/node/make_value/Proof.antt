@@ -201,7 +201,7 @@ same-length c = search needs
 
 -- src/node.rt:95:1
 returns : tie.Need-returns
-returns c = built (c .before .before .before .before .before .before) Load (c .before .before .before .before .enum-told .given .1) (builds-makes (inside (c .before .before .before .before .before .before)) (c .before .before .load-relation .ensures))
+returns c = built (c .before .before .before .before .before .before) Load (c .before .before .before .before .enum-told .given .1) (c .before .before .load-relation .ensures)
 
 -- src/node.rt:95:1
 same-length-2 : tie.Need-same-length-2
