@@ -6,3 +6,5 @@ pub mod TestLaws
 pub mod CopyLaws
 pub mod MadeLaws
 pub mod JoinLaws
+pub mod KeyLaws
+pub mod TriedLaws

@@ -1,4 +1,5 @@
 -- In reading order.
 pub mod Lists
+pub mod Keys
 pub mod Tests
 pub mod Joins

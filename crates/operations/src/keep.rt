@@ -1,31 +1,36 @@
 // The operations that keep some of the left rows: select, semijoin, antijoin, intersection, difference. The left order stays, so each row that is
 // kept is placed by one comparison, with the last row.
 ghost use mathlib.Core.Path.{_≡_};
+ghost use mathlib.Core.Bool.{not, cond};
 ghost use mathlib.Core.List.{[], _∷_};
 ghost use Prim.Native.Nat.{ℕ, _+_, _*_, _≤_, _<_};
-ghost use lib.ListN.{length};
+ghost use lib.ListN.{length, take};
+ghost use Rattle.relations.specs.Limits.{columnLimit};
 ghost use Rattle.relations.specs.Lists.{any, filter};
 ghost use Rattle.relations.specs.Columns as meaning;
-ghost use Rattle.relations.specs.Values.{Ascending};
+ghost use Rattle.relations.specs.Values.{Ascending, member};
 ghost use Rattle.values.specs.Words.{rowIn, rowsAt, rowsOf, end};
 ghost use Rattle.values.specs.Building.{Builds};
-ghost use Rattle.relations.specs.Operations.{selectConstantCandidates, selectAttributeCandidates, semijoinCandidates, antijoinCandidates, intersectCandidates, subtractCandidates};
+ghost use Rattle.relations.specs.Operations.{selectConstantCandidates, selectAttributeCandidates, intersectCandidates, subtractCandidates};
 ghost use Rattle.operations.specs.Lists.{attributeIn, constantIn, operatorIn, triplesIn};
+ghost use Rattle.operations.specs.Keys.{equatesFrom, leftKey};
 ghost use Rattle.operations.specs.Tests.{rightOf, keeps, Fits};
 use crate::columns::Attribute;
+use crate::columns::COLUMNS;
 use crate::columns::Constant;
 use crate::columns::NO_WORDS;
 use crate::columns::Operator;
 use crate::columns::column_of;
 use crate::columns::holds;
 use crate::columns::meets;
+use values::beginning::has_beginning;
 use values::placing::Placed;
 use values::placing::place_row;
 use values::rows::Value;
 use values::rows::row;
 use values::search::has_row;
 
-// Which left rows are kept: by a comparison of their own columns, by whether they meet so many triples with some right row, by whether the right value has them.
+// Which left rows are kept: by a comparison of their own columns, by whether they meet so many triples with some right row, by whether the right value has them, or has their key where that is wanted.
 pub enum Test {
     Constant(Attribute, Operator, Constant),
     Attribute(Attribute, Operator, Attribute),
@@ -33,10 +38,11 @@ pub enum Test {
     MeetsNone(usize, Value),
     In(Value),
     NotIn(Value),
+    Key(usize, Value, bool),
 }
 
-// Whether a row meets so many triples with some right row.
-pub fn meets_some(list: &[u32], count: usize, work: &[u32], sought: &[u32], right: Value) -> bool
+// Whether a row meets so many triples with some right row: each is asked.
+fn meets_one(list: &[u32], count: usize, work: &[u32], sought: &[u32], right: Value) -> bool
     requires { ⌜ (count * 3 ≤ length (now list)) × (end right ≤ length (now work)) ⌝ }
     ensures { λ r. ⌜ r ≡ any (meaning.meets (triplesIn count (now (list .entry))) (now (sought .entry))) (rowsOf right (now (work .entry))) ⌝ }
 {
@@ -53,6 +59,75 @@ pub fn meets_some(list: &[u32], count: usize, work: &[u32], sought: &[u32], righ
     false
 }
 
+// Whether so many triples equate left attributes with the first right attributes in their order.
+pub fn equates_first(list: &[u32], count: usize) -> bool
+    requires { ⌜ (count ≤ columnLimit) × (count * 3 ≤ length (now list)) ⌝ }
+    ensures { λ r. ⌜ r ≡ equatesFrom 1 count (now (list .entry)) ⌝ }
+{
+    let mut number: u32 = 1;
+    let mut at: usize = 0;
+    let mut more = count;
+    while 0 < more {
+        let operator = list[at + 1];
+        let right = list[at + 2];
+        if operator != 1 {
+            return false;
+        }
+        if right != number {
+            return false;
+        }
+        number += 1;
+        at += 3;
+        more -= 1;
+    }
+    true
+}
+
+// A left row's columns that such triples equate.
+fn left_key(list: &[u32], count: usize, row: &[u32]) -> [u32; COLUMNS]
+    requires { ⌜ (count ≤ columnLimit) × (count * 3 ≤ length (now list)) ⌝ }
+    ensures { λ r. ⌜ take count r ≡ leftKey count (now (list .entry)) (now (row .entry)) ⌝ }
+{
+    let mut made = [0u32; COLUMNS];
+    let mut at: usize = 0;
+    let mut i: usize = 0;
+    while i < count {
+        made[i] = column_of(row, Attribute(list[at]));
+        at += 3;
+        i += 1;
+    }
+    made
+}
+
+// Whether a row meets so many triples with some right row. Where they equate its columns with the first right columns, it is sought by halving.
+pub fn meets_some(list: &[u32], count: usize, work: &[u32], sought: &[u32], right: Value) -> bool
+    requires { ⌜ (count * 3 ≤ length (now list)) × (end right ≤ length (now work)) × Ascending (rowsOf right (now work)) ⌝ }
+    ensures { λ r. ⌜ r ≡ any (meaning.meets (triplesIn count (now (list .entry))) (now (sought .entry))) (rowsOf right (now (work .entry))) ⌝ }
+{
+    if COLUMNS < count {
+        return meets_one(list, count, work, sought, right);
+    }
+    if right.width < count {
+        return meets_one(list, count, work, sought, right);
+    }
+    if equates_first(list, count) {
+        let key = left_key(list, count, sought);
+        has_beginning(work, right, &key[..count])
+    } else {
+        meets_one(list, count, work, sought, right)
+    }
+}
+
+// Whether a value of keys has the key of a left row, where that is wanted; else whether it has not.
+fn has_key(list: &[u32], count: usize, work: &[u32], row: &[u32], keys: Value, wanted: bool) -> bool
+    requires { ⌜ (count ≤ columnLimit) × (count * 3 ≤ length (now list)) × (end keys ≤ length (now work)) × Ascending (rowsOf keys (now work)) ⌝ }
+    ensures { λ r. ⌜ r ≡ cond wanted (member (leftKey count (now (list .entry)) (now (row .entry))) (rowsOf keys (now (work .entry)))) (not (member (leftKey count (now (list .entry)) (now (row .entry))) (rowsOf keys (now (work .entry))))) ⌝ }
+{
+    let key = left_key(list, count, row);
+    let there = has_row(work, keys, &key[..count]);
+    if wanted { there } else { !there }
+}
+
 // Whether the left row that starts at `at` is kept.
 fn passes(list: &[u32], work: &[u32], at: usize, width: usize, test: Test) -> bool
     requires { ⌜ Fits test (length (now work)) (now list) (now work) ⌝ }
@@ -66,6 +141,7 @@ fn passes(list: &[u32], work: &[u32], at: usize, width: usize, test: Test) -> bo
         Test::MeetsNone(count, right) => !meets_some(list, count, work, left, right),
         Test::In(right) => has_row(work, right, left),
         Test::NotIn(right) => !has_row(work, right, left),
+        Test::Key(count, keys, wanted) => has_key(list, count, work, left, keys, wanted),
     }
 }
 
@@ -163,36 +239,6 @@ pub fn select_attribute(
         Test::Attribute(attribute, operator, other),
         out,
     )
-}
-
-// Operation 6: the rows that meet the triples with some right row.
-pub fn semijoin(
-    list: &[u32],
-    count: usize,
-    work: &mut [u32],
-    left: Value,
-    right: Value,
-    out: usize,
-) -> Placed
-    requires { ⌜ (0 < left .width) × (end left ≤ out) × (out ≤ length (now work)) × (end right ≤ out) × (count * 3 ≤ length (now list)) ⌝ }
-    ensures { λ r. ⌜ Builds (left .width) out 0 (semijoinCandidates (triplesIn count (now (list .entry))) (rowsOf left (now (work .entry))) (rowsOf right (now (work .entry)))) (now (work .entry)) (now (work .exit)) r ⌝ }
-{
-    keep(list, work, left, Test::Meets(count, right), out)
-}
-
-// Operation 7: the rows that meet them with none.
-pub fn antijoin(
-    list: &[u32],
-    count: usize,
-    work: &mut [u32],
-    left: Value,
-    right: Value,
-    out: usize,
-) -> Placed
-    requires { ⌜ (0 < left .width) × (end left ≤ out) × (out ≤ length (now work)) × (end right ≤ out) × (count * 3 ≤ length (now list)) ⌝ }
-    ensures { λ r. ⌜ Builds (left .width) out 0 (antijoinCandidates (triplesIn count (now (list .entry))) (rowsOf left (now (work .entry))) (rowsOf right (now (work .entry)))) (now (work .entry)) (now (work .exit)) r ⌝ }
-{
-    keep(list, work, left, Test::MeetsNone(count, right), out)
 }
 
 // Operation 10: the rows that the right value has too.

@@ -3,5 +3,6 @@ pub mod columns;
 pub mod copy;
 pub mod join;
 pub mod keep;
+pub mod keyed;
 pub mod made;
 pub mod project;

@@ -7,6 +7,7 @@ use native.Mathlib.Omega.{arith}
 use mathlib.Core.Bool.{Bool, true, false, _||_}
 use mathlib.Core.List.{List, [], _∷_, _++_}
 use lib.ListN.{length}
+use lib.Seq.{sets, length-sets}
 use Rattle.relations.specs.Rows.{Row, sameRow}
 use Rattle.relations.specs.Values.{Rows, Wide, member, canonical}
 use Rattle.relations.proofs.ListLaws.{any-append}
@@ -16,11 +17,12 @@ use Rattle.values.specs.Words.{part, rowsAt, wordsOf}
 use Rattle.values.specs.Building.{Builds, Told, Makes}
 use Rattle.values.specs.declared.placing.Placed.{Placed}
 use Rattle.values.specs.declared.placing.Placed.the-variants.{Rows as Made, Full}
-use Rattle.values.proofs.RowsLaws.{length-rowsAt, length-words}
+use Rattle.values.proofs.RowsLaws.{length-rowsAt, length-words, length-value, words-rowsAt, rowsAt-wide, rowsAt-sets}
+use Rattle.values.proofs.WordLaws.{part-before}
 use Rattle.values.proofs.FillLaws.{Filled, filled-none, filled-on, filled-off, filled-end, filled-wider, made-length, made-part, made-fits, made-value, made-full}
 
 -- rows are parts
-rows-by-parts : (z n a out : ℕ) (before after : List ℕ) → ((start count : ℕ) → start + count ≤ out → part start count after ≡ part start count before) → a + n * z ≤ out
+pub rows-by-parts : (z n a out : ℕ) (before after : List ℕ) → ((start count : ℕ) → start + count ≤ out → part start count after ≡ part start count before) → a + n * z ≤ out
     → rowsAt z n a after ≡ rowsAt z n a before
 unfolding rowsAt
 rows-by-parts z zero a out before after h k = refl
@@ -37,6 +39,14 @@ module _ {w out : ℕ} {cs : Rows} {before after : List ℕ} {r : Placed} (m : M
     front = m .front;
     told = subst (λ (value : Rows). Told w out value before after r) (canonical-by-members cs others h) (m .told);
   }
+
+  -- the words from `out` on were used before
+  pub makes-from : {first : List ℕ} → length before ≡ length first → ((start count : ℕ) → start + count ≤ out → part start count before ≡ part start count first) → Makes w out cs first after r
+  makes-from {first} e h = record { size = m .size ∙ e; front = λ start count k. m .front start count k ∙ h start count k; told = go r (m .told) }
+    where
+      go : (x : Placed) → Told w out (canonical cs) before after x → Told w out (canonical cs) first after x
+      go (Made n) t = t
+      go Full t = omega (arith, t, e)
 
 module _ {w out n : ℕ} {cs : Rows} {before after : List ℕ} (m : Makes w out cs before after (Made n)) where
   pub makes-value : rowsAt w n out after ≡ canonical cs
@@ -58,6 +68,23 @@ builds-makes {w} {out} {cs} {before} {after} {r} inside g = record { size = made
     go : (x : Placed) → Builds w out 0 cs before after x → Told w out (canonical cs) before after x
     go (Made n) b = (made-value inside b, made-fits inside b)
     go Full b = made-full b
+
+-- a value that was made behind some scratch from `out` on, and moved down there
+pub moved-makes : {w out scratch n : ℕ} {cs : Rows} {first before made after : List ℕ} → out ≤ scratch → length before ≡ length first → ((start count : ℕ) → start + count ≤ out → part start count before ≡ part start count first)
+    → Makes w scratch cs before made (Made n) → after ≡ sets made out (part scratch (n * w) made) → Makes w out cs first after (Made n)
+moved-makes {w} {out} {scratch} {n} {cs} {first} {before} {made} {after} low size front m e =
+    let v : Rows = rowsAt w n scratch made in
+    let fits : scratch + n * w ≤ length made = m .told .1 in
+    let wide : Wide w v = rowsAt-wide w n scratch made fits in
+    let words : after ≡ sets made out (wordsOf v) = e ∙ ap (sets made out) (sym (words-rowsAt w n scratch made)) in
+    let many : length v ≡ n = length-rowsAt w n scratch made in
+    let long : length (wordsOf v) ≡ n * w = length-value w n scratch made fits in
+    let same : length after ≡ length made = ap length words ∙ length-sets made out (wordsOf v) in
+    record {
+      size = same ∙ m .size ∙ size;
+      front = λ start count h. ap (part start count) words ∙ part-before made start count out (wordsOf v) h (omega arith) ∙ m .front start count (omega arith) ∙ front start count h;
+      told = (ap₂ (λ (k : ℕ) (l : List ℕ). rowsAt w k out l) (sym many) words ∙ rowsAt-sets w out made v wide (omega arith) ∙ m .told .0, omega (arith, same));
+    }
 
 -- an equal row
 pub builds-row : {w out rows : ℕ} {row other : Row} {before after : List ℕ} {r : Placed} → row ≡ other → Builds w out rows (row ∷ []) before after r → Builds w out rows (other ∷ []) before after r

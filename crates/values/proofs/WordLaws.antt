@@ -123,3 +123,17 @@ sets-into l row a n k h fits =
     ∙ ap₂ (λ (x : List ℕ) (y : ℕ). sets x (a + y) (row ++ vs)) (sets-part k l a (omega arith)) lk
     ∙ sets-append l (a + k) row vs
     ∙ sym (sets-sets l (a + k) (a + k + length row) row vs (omega arith))
+
+-- a turn of the loop that moves words down, from the first to the last
+getD-sets-above : (l : List ℕ) (i : ℕ) (vs : List ℕ) (j : ℕ) → i + length vs ≤ j → getD (sets l i vs) j 0 ≡ getD l j 0
+getD-sets-above l i [] j h = refl
+getD-sets-above l i (v ∷ vs) j h = getD-sets-above (set l i v) (suc i) vs j (omega arith) ∙ getD-set-other l i j v 0 (omega arith)
+
+pub down-turn : (l now : List ℕ) (from count to i : ℕ) → to ≤ from → from + count ≤ length l → i < count → now ≡ sets l to (take i (part from count l))
+    → set now (to + i) (getD now (from + i) 0) ≡ sets l to (take (i + 1) (part from count l))
+down-turn l now from count to i h k m e =
+    let row : List ℕ = part from count l in
+    let size : length row ≡ count = length-part from count l k in
+    let some : length (take i row) ≡ i = length-take-le i row (omega arith) in
+    let x : getD now (from + i) 0 ≡ getD row i 0 = ap (λ (u : List ℕ). getD u (from + i) 0) e ∙ getD-sets-above l to (take i row) (from + i) (omega arith) ∙ sym (getD-part from count l i m) in
+    ap₂ (λ (u : List ℕ) (v : ℕ). set u (to + i) v) e x ∙ sets-suc l to row i (omega arith)

@@ -1,5 +1,5 @@
 use lib.ListN.{length}
-use Rattle.operations.proofs.TestLaws.{fits-meets, fits-none, fits-in, fits-not-in}
+use Rattle.operations.proofs.TestLaws.{fits-meets, fits-none, fits-in, fits-not-in, fits-key}
 use mathlib.Core.Path.{_≡_, sym, ap, _∙_}
 use native.Mathlib.Omega.{arith}
 use borrow.Author.Needs.{needs}
@@ -10,6 +10,7 @@ use Rattle.operations.proofs.keep.passes.Lts as lts
 use Rattle.operations.proofs.columns.column_of.Reads as column-of-reads
 use Rattle.operations.proofs.columns.holds.Reads as holds-reads
 use Rattle.operations.proofs.keep.meets_some.Reads as meets-some-reads
+use Rattle.operations.proofs.keep.has_key.Reads as has-key-reads
 use Rattle.values.proofs.rows.row.Reads as row-reads
 use Rattle.values.proofs.search.has_row.Reads as has-row-reads
 
@@ -101,6 +102,15 @@ returns-5 c = rw (c .before .before .test5 .given .1) (c .has-row .ensures ∙ r
 returns-6 : tie.Need-returns-6
 returns-6 c = rw (c .before .before .test6 .given .1) (rw (c .has-row2 .ensures, c .before .before .before .before .row .ensures))
 
+enum-known-test-7 : tie.Need-enum-known-test-7
+enum-known-test-7 c = search needs
+
+has-key-requires : tie.Need-has-key-requires
+has-key-requires c κs = let s = c .before .before .before .before .before .before .args in fits-key (length (s .work .now)) (s .list .now) (s .work .now) (c .before .test7 .given .1) (c .before .before .before .before .before .before .pre)
+
+returns-7 : tie.Need-returns-7
+returns-7 c = rw (c .before .before .test7 .given .1) (c .has-key .ensures ∙ rw (c .before .before .before .before .row .ensures))
+
 pub passes-spec : {M : Type 1} → statement M
 passes-spec =
     tie.close
@@ -121,9 +131,12 @@ passes-spec =
     has-row-requires
     enum-known-test-6
     has-row-requires-2
+    enum-known-test-7
+    has-key-requires
     returns
     returns-2
     returns-3
     returns-4
     returns-5
-    returns-6)
+    returns-6
+    returns-7)

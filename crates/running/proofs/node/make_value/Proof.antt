@@ -26,9 +26,9 @@ use Rattle.running.proofs.node.make_value.Lts as lts
 use Rattle.operations.proofs.copy.unite.Reads as unite-reads
 use Rattle.division.proofs.divide.divide.Reads as divide-reads
 use Rattle.operations.proofs.join.join.Reads as join-reads
-use Rattle.operations.proofs.keep.antijoin.Reads as antijoin-reads
+use Rattle.operations.proofs.keyed.antijoin.Reads as antijoin-reads
 use Rattle.operations.proofs.keep.intersect.Reads as intersect-reads
-use Rattle.operations.proofs.keep.semijoin.Reads as semijoin-reads
+use Rattle.operations.proofs.keyed.semijoin.Reads as semijoin-reads
 use Rattle.operations.proofs.keep.subtract.Reads as subtract-reads
 use Rattle.operations.proofs.project.project.Reads as project-reads
 use Rattle.running.proofs.node.load_relation.Reads as load-relation-reads
@@ -153,7 +153,7 @@ enum-told-6 c = search needs
 
 -- src/node.rt:110:32
 semijoin-requires : tie.Need-semijoin-requires
-semijoin-requires c κs = let v = c .before .before .before in let a = asked v Semijoin (c .before .enum-told6 .given .1) in (a .0 .0, a .0 .2, inside v, a .1 .2, a .2)
+semijoin-requires c κs = let v = c .before .before .before in let a = asked v Semijoin (c .before .enum-told6 .given .1) in (a .0 .0, a .0 .2, inside v, a .1 .2, a .2, a .1 .3)
 
 -- src/node.rt:111:54
 enum-told-7 : tie.Need-enum-told-7
@@ -161,7 +161,7 @@ enum-told-7 c = search needs
 
 -- src/node.rt:111:32
 antijoin-requires : tie.Need-antijoin-requires
-antijoin-requires c κs = let v = c .before .before .before in let a = asked v Antijoin (c .before .enum-told7 .given .1) in (a .0 .0, a .0 .2, inside v, a .1 .2, a .2)
+antijoin-requires c κs = let v = c .before .before .before in let a = asked v Antijoin (c .before .enum-told7 .given .1) in (a .0 .0, a .0 .2, inside v, a .1 .2, a .2, a .1 .3)
 
 -- src/node.rt:112:50
 enum-told-8 : tie.Need-enum-told-8
@@ -241,7 +241,7 @@ same-length-6 c = search needs
 
 -- src/node.rt:95:1
 returns-6 : tie.Need-returns-6
-returns-6 c = built (c .before .before .before .before .before .before) Semijoin (c .before .before .before .before .enum-told6 .given .1) (builds-makes (inside (c .before .before .before .before .before .before)) (c .before .before .semijoin .ensures))
+returns-6 c = built (c .before .before .before .before .before .before) Semijoin (c .before .before .before .before .enum-told6 .given .1) (c .before .before .semijoin .ensures)
 
 -- src/node.rt:95:1
 same-length-7 : tie.Need-same-length-7
@@ -249,7 +249,7 @@ same-length-7 c = search needs
 
 -- src/node.rt:95:1
 returns-7 : tie.Need-returns-7
-returns-7 c = built (c .before .before .before .before .before .before) Antijoin (c .before .before .before .before .enum-told7 .given .1) (builds-makes (inside (c .before .before .before .before .before .before)) (c .before .before .antijoin .ensures))
+returns-7 c = built (c .before .before .before .before .before .before) Antijoin (c .before .before .before .before .enum-told7 .given .1) (c .before .before .antijoin .ensures)
 
 -- src/node.rt:95:1
 same-length-8 : tie.Need-same-length-8
