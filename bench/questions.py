@@ -206,17 +206,17 @@ def questions(words):
 
 
 def worst(words):
-    """Eight triples: for each pair of rows the first seven hold and the last one does not. One column makes the most pairs. In the
-    last two a decoy row meets the last triple alone, so that no least or greatest value decides."""
-    triples = [(1, GREATER, 1)] * 7
+    """Eight triples that no pair of rows meets, with the work area full of both tables and no row to give out. First the most pairs: one
+    column, seven triples that hold and a last one that does not. Then the same with a decoy row that meets the last one alone, so that
+    no least or greatest value decides. Then two right columns, of which the one behind decides, by two triples that fail in turn."""
     half, quarter = words // 2, words // 4
     left, right = range(1, half + 1), range(half + 1, words + 1)
-    yield Question("eight triples, one column", partner(SOME, AND, triples + [(1, LESS, 1)]), [one_column(left), one_column(right)])
-    yield Question("eight triples, one column, a decoy", partner(SOME, AND, triples + [(1, LESS, 1)]),
-                   [one_column(left), one_column([0, *right[1:]])])
-    pairs = [(i, i) for i in range(1, half + 1)]
-    yield Question("eight triples, two columns, a decoy", partner(SOME, AND, triples + [(2, LESS, 2)]),
-                   [(2, pairs[:quarter]), (2, [(0, 0)] + pairs[quarter + 1:])])
+    one = partner(SOME, AND, [(1, GREATER, 1)] * 7 + [(1, LESS, 1)])
+    yield Question("eight triples, one column", one, [one_column(left), one_column(right)])
+    yield Question("eight triples, one column, a decoy", one, [one_column(left), one_column([0, *right[1:]])])
+    turns = [(value, 0 if value % 2 else VALUES - 1) for value in right[:quarter]]
+    yield Question("eight triples, two right columns, two fail in turn",
+                   partner(SOME, AND, [(1, GREATER, 1)] * 6 + [(2, LESS, 1), (2, GREATER, 1)]), [one_column(left), (2, turns)])
 
 
 def examples(words, share):
