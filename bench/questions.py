@@ -208,15 +208,19 @@ def questions(words):
 def worst(words):
     """Eight triples that no pair of rows meets, with the work area full of both tables and no row to give out. First the most pairs: one
     column, seven triples that hold and a last one that does not. Then the same with a decoy row that meets the last one alone, so that
-    no least or greatest value decides. Then two right columns, of which the one behind decides, by two triples that fail in turn."""
+    no least or greatest value decides. Then right columns behind the first, by which two or three triples fail in turn."""
     half, quarter = words // 2, words // 4
     left, right = range(1, half + 1), range(half + 1, words + 1)
-    one = partner(SOME, AND, [(1, GREATER, 1)] * 7 + [(1, LESS, 1)])
+    holds = (1, GREATER, 1)
+    one = partner(SOME, AND, [holds] * 7 + [(1, LESS, 1)])
     yield Question("eight triples, one column", one, [one_column(left), one_column(right)])
     yield Question("eight triples, one column, a decoy", one, [one_column(left), one_column([0, *right[1:]])])
-    turns = [(value, 0 if value % 2 else VALUES - 1) for value in right[:quarter]]
+    two = [(value, (value % 2) * (VALUES - 1)) for value in right[:quarter]]
     yield Question("eight triples, two right columns, two fail in turn",
-                   partner(SOME, AND, [(1, GREATER, 1)] * 6 + [(2, LESS, 1), (2, GREATER, 1)]), [one_column(left), (2, turns)])
+                   partner(SOME, AND, [holds] * 6 + [(2, LESS, 1), (2, GREATER, 1)]), [one_column(left), (2, two)])
+    three = [(value, *((value % 3 == i) * (VALUES - 1) for i in range(3))) for value in right[:quarter // 2]]
+    yield Question("eight triples, four right columns, three fail in turn",
+                   partner(SOME, AND, [holds] * 5 + [(2, LESS, 1), (3, LESS, 1), (4, LESS, 1)]), [one_column(left), (4, three)])
 
 
 def examples(words, share):
