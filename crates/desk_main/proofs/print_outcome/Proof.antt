@@ -1,4 +1,4 @@
--- `desk_main::main` meets its contract. What `read` hands back is within its limits (`bundle-numbers`), so the parts that it names can be lent; and a wrong
+-- `desk_main::print_outcome` meets its contract. What `read` hands back is within its limits (`bundle-numbers`), so the parts that it names can be lent; and a wrong
 -- line is a small number (`wrong-line-within`), which a word holds. Assumes nothing.
 use Prim.Native.Nat.{_*_, _≤_}
 use mathlib.Core.Path.{_≡_, refl}
@@ -7,18 +7,17 @@ use borrow.Author.Needs.{needs}
 use lib.ListN.{length, length-take}
 use Rattle.text.proofs.Rooms.{BundleNumbers, bundle-numbers}
 use Rattle.text.proofs.LineNumbers.{wrong-line-within}
-use Rattle.desk_main.proofs.main.Statement.{statement}
-use Rattle.desk_main.proofs.main.Tie as tie
-use Rattle.desk_main.proofs.main.Reads as reads
-use Rattle.desk_main.proofs.main.Lts as lts
+use Rattle.desk_main.proofs.print_outcome.Statement.{statement}
+use Rattle.desk_main.proofs.print_outcome.Tie as tie
+use Rattle.desk_main.proofs.print_outcome.Reads as reads
+use Rattle.desk_main.proofs.print_outcome.Lts as lts
 use Rattle.desk_main.proofs.print_answer.Reads as print-answer-reads
 use Rattle.desk_main.proofs.print_refusal.Reads as print-refusal-reads
-use Rattle.io.proofs.read_full.Reads as read-full-reads
 use Rattle.text.proofs.bundle.read.Reads as read-reads
 
 -- a bundle that was read: the parts that its numbers name are in the buffers
 abbrev Bundle : Type 0
-Bundle = lts.After-mode (read-full-reads.Asked, read-full-reads.Learnt, read-reads.Asked, read-reads.Learnt, print-answer-reads.Asked, print-answer-reads.Learnt, print-refusal-reads.Asked, print-refusal-reads.Learnt) reads.Pre reads.Post
+Bundle = lts.After-mode (read-reads.Asked, read-reads.Learnt, print-answer-reads.Asked, print-answer-reads.Learnt, print-refusal-reads.Asked, print-refusal-reads.Learnt) reads.Pre reads.Post
 
 numbers : (c : Bundle) → BundleNumbers (c .mode .given .0 .1 .0) (c .mode .given .0 .1 .1 .0) (c .mode .given .0 .1 .1 .1 .0)
 numbers c = bundle-numbers _ _ _ _ (c .before .before .before .before .before .read .ensures) refl (c .mode .given .1)
@@ -32,15 +31,6 @@ tables-there c = omega (arith, numbers c .few-words, c .before .before .before .
 question-there : (c : Bundle) → 6 * c .mode .given .0 .1 .1 .1 .0 ≤ length (c .before .before .before .before .before .read .last .1 .1 .1 .0)
 question-there c = omega (arith, numbers c .few-nodes, c .before .before .before .before .before .read .kept .1 .1 .1 .0)
 
-slice-aggregate-read-full : tie.Need-slice-aggregate-read-full
-slice-aggregate-read-full c = search needs
-
-read-full-requires : tie.Need-read-full-requires
-read-full-requires c κs = search needs
-
-array-share-prefix-text : tie.Need-array-share-prefix-text
-array-share-prefix-text c = search needs
-
 slice-aggregate-read : tie.Need-slice-aggregate-read
 slice-aggregate-read c = search needs
 
@@ -49,9 +39,6 @@ slice-aggregate-read-2 c = search needs
 
 slice-aggregate-read-3 : tie.Need-slice-aggregate-read-3
 slice-aggregate-read-3 c = search needs
-
-slice-aggregate-read-4 : tie.Need-slice-aggregate-read-4
-slice-aggregate-read-4 c = search needs
 
 read-requires : tie.Need-read-requires
 read-requires c κs = search needs
@@ -110,17 +97,13 @@ returns-2 c = search needs
 returns-3 : tie.Need-returns-3
 returns-3 c = search needs
 
-pub main-spec : {M : Type 1} → statement M
-main-spec =
+pub print-outcome-spec : {M : Type 1} → statement M
+print-outcome-spec =
     tie.close
     (tie.spec
-    slice-aggregate-read-full
-    read-full-requires
-    array-share-prefix-text
     slice-aggregate-read
     slice-aggregate-read-2
     slice-aggregate-read-3
-    slice-aggregate-read-4
     read-requires
     enum-known-mode
     mul-catalogue
