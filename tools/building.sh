@@ -1,0 +1,66 @@
+# Sourced by ./desk and ./install, with `here` the repository and `fail`: builds what is missing or older than the sources. The logs stay
+# in target/.
+program=$here/target/bin/desk_main
+library=$here/target/staticlib/libdesk.a
+plan_rows=$here/target/bin/plan_rows
+
+# older FILE SOURCE...: there is no FILE, or a source changed after it was made
+older() {
+  made=$1
+  shift
+  [ ! -e "$made" ] || [ -n "$(find "$@" -type f -newer "$made" -print -quit)" ]
+}
+
+# how many crates `rt check NAME` looks at
+crates_below() {
+  awk -F: -v name="$1" '
+    function visit(crate, list, i, count) {
+      if (seen[crate]++ || !(crate in below)) return
+      total++
+      count = split(below[crate], list, " ")
+      for (i = 1; i <= count; i++) visit(list[i])
+    }
+    /^[a-z]/ { below[$1] = $2 }
+    END { visit(name); print total }' "$here/crates.txt"
+}
+
+# rt_build WHAT MARK RT-COMMAND CRATE: a line for each crate that is proved, and how many are left; MARK is the time at which it began
+rt_build() {
+  command -v rt >/dev/null || fail "$1 is missing or older than its sources, and rt to build it, the command of the Rattle kit, isn't on the path"
+  mkdir -p "$here/target" && : >"$2.begun" || fail "$here/target can't be written"
+  log=$here/target/desk-build.log
+  left=$(crates_below "$4")
+  (cd "$here" && rt "$3" "$4" 2>&1) | tee "$log" | while read -r name crate verb how; do
+    [ "$name $verb" = 'rt: proved' ] || continue
+    left=$((left - 1))
+    case $how in *unchanged*) ;; *) echo "desk: proved $crate $how, $left left" ;; esac
+  done >&2
+  [ "${PIPESTATUS[0]}" -eq 0 ] || { tail -n 5 "$log" >&2; fail "$1 could not be built; $log tells why"; }
+  mv "$2.begun" "$2"
+}
+
+build_program() {
+  mark=$here/target/desk-program.built
+  [ "$program" -nt "$mark" ] && mark_now=$program || mark_now=$mark
+  [ -x "$program" ] && ! older "$mark_now" "$here/crates" "$here/crates.txt" && return
+  [ -x "$program" ] || echo 'desk: builds itself, proving each crate below it: some minutes the first time (log: target/desk-build.log)' >&2
+  rt_build "the program" "$mark" check desk_main
+}
+
+build_library() {
+  mark=$here/target/desk-library.built
+  [ "$library" -nt "$mark" ] && mark_now=$library || mark_now=$mark
+  [ -f "$library" ] && ! older "$mark_now" "$here/crates" "$here/crates.txt" && return
+  echo 'desk: builds its library (log: target/desk-build.log)' >&2
+  rt_build "the library" "$mark" staticlib desk
+}
+
+# The helper of --explain: shows a question's plan and its rows by the library's own functions.
+build_plan_rows() {
+  build_library
+  older "$plan_rows" "$library" "$here/include/desk.h" "$here/tools/explain/plan_rows.c" || return
+  # shellcheck disable=SC2154 # x86-64.sh sets it
+  command -v "$compiler" >/dev/null || fail "to show a plan it needs $compiler (the Debian packages $compiler_packages)"
+  "$compiler" -O1 -std=c11 -I"$here/include" "$here/tools/explain/plan_rows.c" "$library" -o "$plan_rows" 2>"$here/target/desk-build.log" ||
+    { tail -n 5 "$here/target/desk-build.log" >&2; fail 'tools/explain/plan_rows.c could not be built'; }
+}
