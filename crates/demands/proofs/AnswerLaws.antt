@@ -14,11 +14,12 @@ use Rattle.question.specs.Faults.{judgedByFaults}
 use Rattle.question.specs.declared.judgement.Judgement.the-variants.{Accepted}
 use Rattle.question.proofs.FaultsDecide.{accepted-count}
 use Rattle.catalogue.specs.Stored.{relationsOf, columnsOf}
-use Rattle.translation.specs.TranslateCall.{planBufferWords, isShort, planOf, written, translateOutcome}
+use Rattle.translation.specs.TranslateCall.{planBufferWords, planOf, written, translateOutcome}
 use Rattle.running.specs.RunCall.{capacityOf, cleared, fitWithin, ranOutcome, runOutcome}
 use Rattle.desk.specs.AnswerCall.{planRan, translatedOutcome, answerOutcome}
-use Rattle.desk.proofs.PlansRight.{catalogue-ok, plans-right}
-use Rattle.desk.proofs.PlanWritten.{words-judged, words-read, words-front}
+use Rattle.desk.proofs.PlansLegal.{plan-legal}
+use Rattle.demands.proofs.PlansRight.{catalogue-ok}
+use Rattle.demands.proofs.PlanWritten.{words-judged, words-read, words-front}
 
 -- a legal plan's words are run
 pub legal-ran : (catalogue tables : List ℕ) → tablesOk catalogue tables ≡ true → (nodes : List Node) → So (legalPlan (columnsOf catalogue) (relationsOf catalogue) nodes) → (work output : List ℕ)
@@ -39,7 +40,7 @@ module _ (catalogue tables question : List ℕ) (mode : ℕ) (plan work output :
       → translatedOutcome catalogue tables question mode plan work output (written catalogue question mode plan)
       ≡ planRan (written catalogue question mode plan) (ranOutcome catalogue tables (planOf catalogue question mode) (cleared work) output (fitWithin catalogue tables (planOf catalogue question mode) (capacityOf work)))
   written-ran ok accepted long =
-      let legal : So (legalPlan (columnsOf catalogue) (relationsOf catalogue) (planOf catalogue question mode)) = plans-right catalogue tables question ok accepted .legal (isShort mode) in
+      let legal : So (legalPlan (columnsOf catalogue) (relationsOf catalogue) (planOf catalogue question mode)) = plan-legal catalogue question (catalogue-ok catalogue tables ok) accepted mode in
       rw (words-front catalogue (planOf catalogue question mode) legal plan long)
       (ap (planRan (written catalogue question mode plan)) (legal-ran catalogue tables ok (planOf catalogue question mode) legal work output))
 

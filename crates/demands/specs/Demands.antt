@@ -1,6 +1,6 @@
--- What is claimed of the desk's three calls. Demand 1: every outcome is the one that document 01's table of refusals names. Demand 3: an
+-- What is claimed of the calls. Demand 1: every outcome is the one that document 01's table of refusals names. Demand 3: an
 -- accepted question's two plans give the rows of the question's own meaning, and the shortened plan is no heavier. Proved in proofs/Demand1, proofs/Demand3.
-use Prim.Native.Nat.{ℕ, _≤_}
+use Prim.Native.Nat.{ℕ, _≤_, _<_}
 use mathlib.Core.Path.{_≡_}
 use mathlib.Core.Bool.{true, false, cond}
 use mathlib.Core.List.{List}
@@ -19,10 +19,17 @@ use Rattle.question.specs.Faults.{judgedByFaults}
 use Rattle.question.specs.declared.judgement.Judgement.the-variants.{Accepted}
 use Rattle.catalogue.specs.Stored.{columnsOf, storedTables}
 use Rattle.plans.specs.Judging.{nodesOf}
+use Rattle.text.specs.Limits.{byteLimit}
+use Rattle.text.specs.Reading.{reading}
+use Rattle.text.specs.ReadCall.{ReadOutcome, readRefused, readOutcome}
+use Rattle.text.specs.Writing.{bundleText}
+use Rattle.text.specs.WriteCall.{WriteOutcome, writeOutcome}
+use Rattle.text.specs.RoundTrip.{wrote, foundBundle}
+use Rattle.text.specs.FirstWrong.{RightText, FirstWrong}
 use Rattle.translation.specs.TranslateCall.{planBufferWords, planOf, TranslateOutcome, unwritten, written, translateOutcome}
 use Rattle.running.specs.RunCall.{runRefusal, cleared, RunOutcome, answered, runOutcome}
 use Rattle.desk.specs.AnswerCall.{AnswerOutcome, planRan, answerOutcome}
-use Rattle.desk.specs.Refusals.{Line, outcomeBy, translateLines, runLines, answerLines}
+use Rattle.demands.specs.Refusals.{Line, outcomeBy, wrongText, translateLines, runLines, answerLines, readLines, writeLines}
 
 -- Demand 1.
 
@@ -60,7 +67,35 @@ pub record AnswerDemand (catalogue tables question : List ℕ) (mode : ℕ) (pla
   -- a plan that translation writes is legal
   pub never9 : answerOutcome catalogue tables question mode plan work output .numbers .status ≡ 9 → ⊥
 
+-- Line 12 by texts alone, with no reader in sight: not given exactly when the text is that of a bundle and within the limit; "over: place 0";
+-- else the place is the first wrong line.
+pub record WrongText (text : List ℕ) : Type 0 where
+  pub right : wrongText text .given ≡ false → (length text ≤ byteLimit) × RightText text
+  pub passed : length text ≤ byteLimit → RightText text → wrongText text .given ≡ false
+  pub over : byteLimit < length text → wrongText text .place ≡ 0
+  pub first : length text ≤ byteLimit → wrongText text .given ≡ true → FirstWrong text (wrongText text .place)
+
+-- read hands back the bundle that the text is
+abbrev pub readBundle : (text catalogue tables question : List ℕ) → ReadOutcome
+readBundle text catalogue tables question =
+    foundBundle (reading text .mode) (reading text .catalogue) (reading text .tables) (reading text .nodes) catalogue tables question
+
+pub record ReadDemand (text catalogue tables question : List ℕ) : Type 0 where
+  pub table : readOutcome text catalogue tables question ≡ outcomeBy (readLines text catalogue tables question) (readRefused catalogue tables question) (readBundle text catalogue tables question)
+  pub exactly : AnsweredExactly (readOutcome text catalogue tables question .numbers .status) (readLines text catalogue tables question)
+  pub wrong : WrongText text
+
+abbrev pub refusedWrite : (text : List ℕ) (status place : ℕ) → WriteOutcome
+refusedWrite text status place = record { numbers = record { status = status; place = place; bytes = 0 }; text = text }
+
+pub record WriteDemand (mode : ℕ) (catalogue tables question text : List ℕ) : Type 0 where
+  pub table : writeOutcome mode catalogue tables question text
+      ≡ outcomeBy (writeLines mode catalogue tables question text) (refusedWrite text) (wrote (bundleText mode catalogue tables question) text)
+  pub exactly : AnsweredExactly (writeOutcome mode catalogue tables question text .numbers .status) (writeLines mode catalogue tables question text)
+
 pub record Demand1 : Type 0 where
+  pub reading : (text catalogue tables question : List ℕ) → ReadDemand text catalogue tables question
+  pub writing : (mode : ℕ) (catalogue tables question text : List ℕ) → WriteDemand mode catalogue tables question text
   pub translating : (catalogue question : List ℕ) (mode : ℕ) (plan : List ℕ) → TranslateDemand catalogue question mode plan
   pub running : (catalogue tables plan work output : List ℕ) → RunDemand catalogue tables plan work output
   pub answering : (catalogue tables question : List ℕ) (mode : ℕ) (plan work output : List ℕ) → AnswerDemand catalogue tables question mode plan work output

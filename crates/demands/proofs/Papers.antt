@@ -13,8 +13,8 @@ use Rattle.catalogue.specs.Stored.{startOf, rowsIn}
 use Rattle.plans.specs.Judging.{judgeNodes as judgePlan, nodesIn}
 use Rattle.translation.specs.TranslateCall.{translateOutcome}
 use Rattle.running.specs.RunCall.{fitOf, runOutcome}
 use Rattle.desk.specs.AnswerCall.{answerOutcome}
-use Rattle.desk.specs.Papers.{PapersHold}
+use Rattle.demands.specs.Papers.{PapersHold}
 
 -- each line in the table's order
 pub papers-hold : PapersHold
