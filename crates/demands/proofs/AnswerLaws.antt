@@ -9,7 +9,7 @@ use Rattle.relations.specs.Lists.{flat}
 use Rattle.relations.specs.Nodes.{Node}
 use Rattle.relations.specs.Legality.{legalPlan}
 use Rattle.relations.specs.PlanWords.{nodeWords}
-use Rattle.catalogue.specs.Judging.{tablesOk}
+use Rattle.catalogue.specs.Judging.{catalogueOk, tablesOk}
 use Rattle.question.specs.Faults.{judgedByFaults}
 use Rattle.question.specs.declared.judgement.Judgement.the-variants.{Accepted}
 use Rattle.question.proofs.FaultsDecide.{accepted-count}
@@ -27,14 +27,13 @@ pub legal-ran : (catalogue tables : List ℕ) → tablesOk catalogue tables ≡ 
 unfolding runOutcome
 legal-ran catalogue tables ok nodes legal work output = rw (ok, words-judged catalogue nodes legal, words-read catalogue nodes legal)
 
-module _ (catalogue tables question : List ℕ) (mode : ℕ) (plan work output : List ℕ) where
-  -- an accepted question is translated
-  pub accepted-written : tablesOk catalogue tables ≡ true → judgedByFaults catalogue question ≡ Accepted → planBufferWords ≤ length plan
-      → translateOutcome catalogue question mode plan ≡ written catalogue question mode plan
-  unfolding translateOutcome
-  accepted-written ok accepted long =
-      rw (catalogue-ok catalogue tables ok, accepted-count catalogue question accepted, le-ltb (length plan) planBufferWords long, accepted)
+-- an accepted question is translated
+pub accepted-written : (catalogue question : List ℕ) (mode : ℕ) (plan : List ℕ) → catalogueOk catalogue ≡ true → judgedByFaults catalogue question ≡ Accepted → planBufferWords ≤ length plan
+    → translateOutcome catalogue question mode plan ≡ written catalogue question mode plan
+unfolding translateOutcome
+accepted-written catalogue question mode plan ok accepted long = rw (ok, accepted-count catalogue question accepted, le-ltb (length plan) planBufferWords long, accepted)
 
+module _ (catalogue tables question : List ℕ) (mode : ℕ) (plan work output : List ℕ) where
   -- and its plan is run
   pub written-ran : tablesOk catalogue tables ≡ true → judgedByFaults catalogue question ≡ Accepted → planBufferWords ≤ length plan
       → translatedOutcome catalogue tables question mode plan work output (written catalogue question mode plan)
@@ -48,4 +47,4 @@ module _ (catalogue tables question : List ℕ) (mode : ℕ) (plan work output :
       → answerOutcome catalogue tables question mode plan work output
       ≡ planRan (written catalogue question mode plan) (ranOutcome catalogue tables (planOf catalogue question mode) (cleared work) output (fitWithin catalogue tables (planOf catalogue question mode) (capacityOf work)))
   unfolding answerOutcome
-  accepted-ran ok accepted long = rw (ok, accepted-written ok accepted long) (written-ran ok accepted long)
+  accepted-ran ok accepted long = rw (ok, accepted-written catalogue question mode plan (catalogue-ok catalogue tables ok) accepted long) (written-ran ok accepted long)

@@ -9,4 +9,5 @@ pub mod TranslateTable
 pub mod RunTable
 pub mod TextTable
 pub mod Demand1
+pub mod Demand2
 pub mod Papers
