@@ -15,7 +15,7 @@ use Rattle.question.specs.References.{firstFrom, lowest}
 use Rattle.catalogue.specs.Stored.{columnsOf, storedTables}
 use Rattle.running.specs.RunCall.{fits, passesAt, fitOf, fitWithin, planRoom}
 use Rattle.running.proofs.SizeLaws.{sizesFrom, sizes-all, total, room-total}
-use Rattle.desk.specs.Refusals.{roomUpTo}
+use Rattle.demands.specs.Refusals.{roomUpTo}
 
 -- Sizes one after another: `test` says of each place whether the sum up to it passes.
 sizes-fit : (test : ℕ → Bool) (capacity used place : ℕ) (sizes : List ℕ) → used ≤ capacity → ((i : ℕ) → test (place + i) ≡ ltb capacity (used + total (take (suc i) sizes)))

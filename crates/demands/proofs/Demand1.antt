@@ -1,4 +1,4 @@
--- Demand 1: translate, run and answer leave what document 01's table of refusals says, line by line in its order. Assumes nothing.
+-- Demand 1: read, write, translate, run and answer leave what document 01's table of refusals says, line by line in its order. Assumes nothing.
 use Prim.Native.Nat.{ℕ, _≤_}
 use mathlib.Core.Path.{_≡_, refl, sym, ap, _∙_}
 use mathlib.Core.Bool.{true, false}
@@ -12,17 +12,19 @@ use Rattle.relations.specs.PlanWords.{nodeWords}
 use Rattle.catalogue.specs.Judging.{catalogueOk, tablesOk}
 use Rattle.question.specs.Faults.{judgedByFaults}
 use Rattle.question.specs.declared.judgement.Judgement.the-variants.{Accepted}
-use Rattle.translation.specs.TranslateCall.{planBufferWords, isShort, planOf, unwritten, written, translateOutcome}
+use Rattle.translation.specs.TranslateCall.{planBufferWords, planOf, unwritten, written, translateOutcome}
 use Rattle.running.specs.RunCall.{cleared, answered}
 use Rattle.desk.specs.AnswerCall.{AnswerOutcome, planRan, translatedOutcome, answerOutcome}
-use Rattle.desk.specs.Refusals.{Line, outcomeBy, wrongCount, illegalPlan, wrongTables, shortPlan, questionLines, runningLines, answerLines}
-use Rattle.desk.specs.Demands.{refusedRun, refusedAnswer, NoneGiven, AnswerDemand, Demand1, OneOutcome}
-use Rattle.desk.proofs.PlansRight.{catalogue-ok, plans-right}
-use Rattle.desk.proofs.PlanWritten.{words-judged}
-use Rattle.desk.proofs.AnswerLaws.{written-ran}
-use Rattle.desk.proofs.LineLaws.{outcome-of, outcome-behind, not-refused, answered-exactly}
-use Rattle.desk.proofs.TranslateTable.{accepted-by-lines, translate-table, translate-demand}
-use Rattle.desk.proofs.RunTable.{ran-lines, run-demand}
+use Rattle.demands.specs.Refusals.{Line, outcomeBy, wrongCount, illegalPlan, wrongTables, shortPlan, questionLines, runningLines, answerLines}
+use Rattle.demands.specs.Demands.{refusedRun, refusedAnswer, NoneGiven, AnswerDemand, Demand1, OneOutcome}
+use Rattle.desk.proofs.PlansLegal.{plan-legal}
+use Rattle.demands.proofs.PlansRight.{catalogue-ok}
+use Rattle.demands.proofs.PlanWritten.{words-judged}
+use Rattle.demands.proofs.AnswerLaws.{written-ran}
+use Rattle.demands.proofs.LineLaws.{outcome-of, outcome-behind, not-refused, answered-exactly}
+use Rattle.demands.proofs.TranslateTable.{accepted-by-lines, translate-table, translate-demand}
+use Rattle.demands.proofs.RunTable.{ran-lines, run-demand}
+use Rattle.demands.proofs.TextTable.{read-demand, write-demand}
 
 module _ (catalogue tables question : List ℕ) (mode : ℕ) (plan work output : List ℕ) where
   -- the lines before a plan is written
@@ -48,7 +50,7 @@ module _ (catalogue tables question : List ℕ) (mode : ℕ) (plan work output :
 
     -- 9 is not given
     legal : illegalPlan catalogue (flat nodeWords (planOf catalogue question mode)) .given ≡ false
-    legal = rw (words-judged catalogue (planOf catalogue question mode) (plans-right catalogue tables question tables-good accepted .legal (isShort mode)))
+    legal = rw (words-judged catalogue (planOf catalogue question mode) (plan-legal catalogue question (catalogue-ok catalogue tables tables-good) accepted mode))
 
     ran : translatedOutcome catalogue tables question mode plan work output (written catalogue question mode plan)
         ≡ outcomeBy (runningLines catalogue tables (planOf catalogue question mode) work output) refusal success
@@ -92,7 +94,7 @@ module _ (catalogue tables question : List ℕ) (mode : ℕ) (plan work output :
       never h = omega arith
 
 pub demand-1 : Demand1
-demand-1 = record { translating = translate-demand; running = run-demand; answering = answer-demand }
+demand-1 = record { reading = read-demand; writing = write-demand; translating = translate-demand; running = run-demand; answering = answer-demand }
 
 pub one-outcome : OneOutcome
 one-outcome =

@@ -16,6 +16,10 @@ use Rattle.question.specs.Faults.{lowestUnbound, lowestUnfit}
 use Rattle.plans.specs.Judging.{judgement, nodesOf}
 use Rattle.plans.specs.declared.judging.Judgement.{Judgement}
 use Rattle.plans.specs.declared.judging.Judgement.the-variants.{Legal, Illegal}
+use Rattle.text.specs.Reading.{Next, goesOn, wrongAt, reading}
+use Rattle.text.specs.ReadCall.{smallBuffers}
+use Rattle.text.specs.Writing.{bundleText}
+use Rattle.text.specs.WriteCall.{textFits}
 use Rattle.translation.specs.TranslateCall.{planBufferWords, planOf}
 use Rattle.running.specs.RunCall.{capacityOf, planRoom, answerRows, answerWidth, lastPlace}
 
@@ -103,6 +107,26 @@ module _ (catalogue tables : List ℕ) (nodes : List Node) where
   abbrev pub longAnswer : (output : List ℕ) → Line
   longAnswer output = line 11 (ltb (length output) (valueWords (answerWidth catalogue tables nodes) (answerRows catalogue tables nodes))) (lastPlace catalogue tables nodes)
 
+-- "bundle text wrong", at the "first wrong line, from 1"; "over 65,536 bytes: 12, place 0". Demands' `WrongText` says both by texts alone.
+abbrev pub isWrong : Next → Bool
+isWrong (goesOn at bytes) = false
+isWrong (wrongAt at) = true
+
+abbrev pub placeWrong : Next → ℕ
+placeWrong (goesOn at bytes) = 0
+placeWrong (wrongAt at) = at
+
+abbrev pub wrongText : (text : List ℕ) → Line
+wrongText text = line 12 (isWrong (reading text .next)) (placeWrong (reading text .next))
+
+-- "text over its buffer or over 65,536 bytes"
+abbrev pub longText : (bytes text : List ℕ) → Line
+longText bytes text = line 13 (not (textFits bytes text)) 0
+
+-- "reading buffers under 32, 16,384, 384 words"
+abbrev pub smallReading : (catalogue tables question : List ℕ) → Line
+smallReading catalogue tables question = line 14 (smallBuffers catalogue tables question) 0
+
 -- "Translate: 7 (pairs and their total of words only), 1, 8, 2, 3, 4, 5, 6."
 abbrev pub translateLines : (catalogue question plan : List ℕ) → List Line
 translateLines catalogue question plan = wrongCatalogue catalogue ∷ wrongCount question ∷ shortPlan plan ∷ questionLines question catalogue
@@ -120,3 +144,11 @@ abbrev pub answerLines : (catalogue tables question : List ℕ) (mode : ℕ) (pl
 answerLines catalogue tables question mode plan work output =
     wrongTables catalogue tables ∷ wrongCount question ∷ shortPlan plan ∷ questionLines question catalogue
     ++ (illegalPlan catalogue (flat nodeWords (planOf catalogue question mode)) ∷ runningLines catalogue tables (planOf catalogue question mode) work output)
+
+-- "Read: 14, 12."
+abbrev pub readLines : (text catalogue tables question : List ℕ) → List Line
+readLines text catalogue tables question = smallReading catalogue tables question ∷ wrongText text ∷ []
+
+-- "Write: 7, 1, 13."
+abbrev pub writeLines : (mode : ℕ) (catalogue tables question text : List ℕ) → List Line
+writeLines mode catalogue tables question text = wrongTables catalogue tables ∷ wrongCount question ∷ longText (bundleText mode catalogue tables question) text ∷ []

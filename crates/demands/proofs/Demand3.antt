@@ -19,10 +19,10 @@ use Rattle.question.specs.Faults.{judgedByFaults}
 use Rattle.question.specs.declared.judgement.Judgement.the-variants.{Accepted}
 use Rattle.translation.specs.TranslateCall.{planBufferWords, isShort, planOf, written}
 use Rattle.running.specs.RunCall.{RunOutcome, capacityOf, cleared, Fit, fits, passesAt, fitWithin, answerRows, answerWidth, answered, ranOutcome}
 use Rattle.desk.specs.AnswerCall.{AnswerOutcome, planRan}
-use Rattle.desk.specs.Demands.{meaningRows, meaningWidth, Buffers, answerWith, HadRoom, LeavesRows, SameAnswer, Demand3}
-use Rattle.desk.proofs.PlansRight.{plans-right, meaning-wide}
-use Rattle.desk.proofs.AnswerLaws.{accepted-ran}
+use Rattle.demands.specs.Demands.{meaningRows, meaningWidth, Buffers, answerWith, HadRoom, LeavesRows, SameAnswer, Demand3}
+use Rattle.demands.proofs.PlansRight.{plans-right, meaning-wide}
+use Rattle.demands.proofs.AnswerLaws.{accepted-ran}
 
 -- a run with room is answered, and its output has room for the answer
 record WithRoom (catalogue tables : List ℕ) (nodes : List Node) (work output : List ℕ) (ran : RunOutcome) : Type 0 where

@@ -1,7 +1,7 @@
--- An accepted question's two plans: legal, right, as wide as the question, and the shortened one no heavier. Assumes nothing.
+-- An accepted question's two plans: right, as wide as the question, and the shortened one no heavier. Assumes nothing.
 use Prim.Native.Nat.{ℕ, _+_, _-_, _≤_, pred}
 use mathlib.Core.Path.{_≡_, refl, ap, _∙_}
-use mathlib.Core.Bool.{Bool, true, false, So}
+use mathlib.Core.Bool.{Bool, true, false}
 use mathlib.Core.List.{List, []}
 use native.Mathlib.Omega.{arith}
 use lib.Dec.{eqb}
@@ -9,28 +9,24 @@ use lib.ListN.{length}
 use Rattle.relations.specs.Nodes.{Node}
 use Rattle.relations.specs.Values.{Wide}
 use Rattle.relations.specs.Plan.{heavy, widths, widthAt}
-use Rattle.relations.specs.Legality.{legalPlan}
 use Rattle.relations.proofs.BoolLaws.{and-left}
 use Rattle.calculus.specs.Claims.{TranslationRight}
 use Rattle.calculus.specs.Translation.{translate}
 use Rattle.calculus.proofs.LegalTheorem.{range-fits}
 use Rattle.calculus.proofs.RangeValues.{range-good}
-use Rattle.calculus.proofs.Theorems.{translation-right}
 use Rattle.catalogue.specs.Judging.{catalogueWords, catalogueOk, tablesOk}
 use Rattle.question.specs.Accepted.{QuestionRight}
 use Rattle.question.specs.Faults.{judgedByFaults}
 use Rattle.question.specs.Trees.{questionOf}
 use Rattle.question.specs.declared.judgement.Judgement.the-variants.{Accepted}
-use Rattle.question.proofs.Accepted.{accepted-right}
-use Rattle.question.proofs.FaultsDecide.{faults-decide}
 use Rattle.catalogue.specs.Stored.{relationsOf, columnsOf, storedTables}
 use Rattle.running.specs.RunCall.{answerRows, answerWidth}
-use Rattle.catalogue.proofs.TableLaws.{tables-wide, has-column}
-use Rattle.desk.specs.Demands.{meaningRows, meaningWidth}
+use Rattle.catalogue.proofs.TableLaws.{tables-wide}
+use Rattle.desk.proofs.PlansLegal.{question-right, translated-right}
+use Rattle.demands.specs.Demands.{meaningRows, meaningWidth}
 
 -- both plans, short or not
 pub record PlansRight (catalogue tables question : List ℕ) : Type 0 where
-  pub legal : (short : Bool) → So (legalPlan (columnsOf catalogue) (relationsOf catalogue) (translate (columnsOf catalogue) short (questionOf question)))
   pub rows : (short : Bool) → answerRows catalogue tables (translate (columnsOf catalogue) short (questionOf question)) ≡ meaningRows catalogue tables question
   pub width : (short : Bool) → answerWidth catalogue tables (translate (columnsOf catalogue) short (questionOf question)) ≡ meaningWidth catalogue question
   pub lighter : heavy (translate (columnsOf catalogue) true (questionOf question)) ≤ heavy (translate (columnsOf catalogue) false (questionOf question))
@@ -40,17 +36,17 @@ catalogue-ok catalogue tables ok = and-left (catalogueOk catalogue) (eqb (length
 
 module _ (catalogue tables question : List ℕ) (ok : tablesOk catalogue tables ≡ true) (accepted : judgedByFaults catalogue question ≡ Accepted) where
   right : QuestionRight catalogue question
-  right = accepted-right catalogue question (λ relation known. has-column catalogue tables ok relation known .0) (faults-decide catalogue question (λ relation known. has-column catalogue tables ok relation known .0) ∙ accepted)
+  right = question-right catalogue question (catalogue-ok catalogue tables ok) accepted
 
   translated : TranslationRight (columnsOf catalogue) (relationsOf catalogue) (questionOf question)
-  translated = translation-right (columnsOf catalogue) (relationsOf catalogue) (questionOf question) (right .good)
+  translated = translated-right catalogue question (catalogue-ok catalogue tables ok) accepted
 
   -- the meaning's rows are as wide as the question
   pub meaning-wide : Wide (meaningWidth catalogue question) (meaningRows catalogue tables question)
   meaning-wide = range-good (storedTables catalogue tables) (columnsOf catalogue) (relationsOf catalogue) (tables-wide catalogue tables ok) (questionOf question) (right .good) .1
 
   pub plans-right : PlansRight catalogue tables question
-  plans-right = record { legal = λ short. translated .legal short (right .few); rows = rows; width = width; lighter = translated .lighter }
+  plans-right = record { rows = rows; width = width; lighter = translated .lighter }
     where
       rows : (short : Bool) → answerRows catalogue tables (translate (columnsOf catalogue) short (questionOf question)) ≡ meaningRows catalogue tables question
       rows true = translated .shortMeaning (storedTables catalogue tables) (tables-wide catalogue tables ok)

@@ -7,8 +7,8 @@ use lib.Dec.{eqb}
 use borrow.Author.Tests.{not-true, eqb-false}
 use Rattle.relations.specs.Lists.{all}
 use Rattle.relations.proofs.BoolLaws.{and-left, and-right}
-use Rattle.desk.specs.Refusals.{Line, outcomeBy}
-use Rattle.desk.specs.Demands.{NoneGiven, AnsweredExactly}
+use Rattle.demands.specs.Refusals.{Line, outcomeBy}
+use Rattle.demands.specs.Demands.{NoneGiven, AnsweredExactly}
 
 -- a test that refuses, and the same test that goes on
 pub turned : {A : Type 0} (b : Bool) (x y : A) → cond b x y ≡ cond (not b) y x
@@ -61,15 +61,3 @@ module _ {A : Type 0} where
     -- no line's number is 0, and the answer's is
     pub answered-exactly : (lines : List Line) → So (all (λ l. not (eqb (l .status) 0)) lines) → status answered ≡ 0 → AnsweredExactly (status (outcomeBy lines refused answered)) lines
     answered-exactly lines others good = (λ h. not-refused 0 lines others h .0, λ none. ap status (none-answered lines refused answered none) ∙ good)
-
-    -- what every refusal leaves alike is left unless the status is 0
-    pub refusals-leave : {B : Type 0} (part : A → B) (same : B) → ((number place : ℕ) → part (refused number place) ≡ same) → status answered ≡ 0
-        → (lines : List Line) → (status (outcomeBy lines refused answered) ≡ 0 → ⊥) → part (outcomeBy lines refused answered) ≡ same
-    refusals-leave part same alike good [] h = absurd (h good)
-    refusals-leave part same alike good (l ∷ lines) h = go (l .given) h (λ more. refusals-leave part same alike good lines more)
-      where
-        go : (given : Bool) → (status (cond given (refused (l .status) (l .place)) (outcomeBy lines refused answered)) ≡ 0 → ⊥)
-            → ((status (outcomeBy lines refused answered) ≡ 0 → ⊥) → part (outcomeBy lines refused answered) ≡ same)
-            → part (cond given (refused (l .status) (l .place)) (outcomeBy lines refused answered)) ≡ same
-        go true h rest = alike (l .status) (l .place)
-        go false h rest = rest h

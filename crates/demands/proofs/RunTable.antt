@@ -10,10 +10,10 @@ use Rattle.plans.specs.Judging.{judgement, nodesOf}
 use Rattle.plans.specs.declared.judging.Judgement.{Judgement}
 use Rattle.plans.specs.declared.judging.Judgement.the-variants.{Legal, Illegal}
 use Rattle.running.specs.RunCall.{RunOutcome, capacityOf, cleared, fits, passesAt, fitWithin, answered, ranOutcome, judgedOutcome, runOutcome}
-use Rattle.desk.specs.Refusals.{outcomeBy, noRoom, longAnswer, runningLines, runLines, isIllegal, placeIllegal}
-use Rattle.desk.specs.Demands.{refusedRun, RunDemand}
-use Rattle.desk.proofs.LineLaws.{answered-exactly}
-use Rattle.desk.proofs.RoomLaws.{room-fit}
+use Rattle.demands.specs.Refusals.{outcomeBy, noRoom, longAnswer, runningLines, runLines, isIllegal, placeIllegal}
+use Rattle.demands.specs.Demands.{refusedRun, RunDemand}
+use Rattle.demands.proofs.LineLaws.{answered-exactly}
+use Rattle.demands.proofs.RoomLaws.{room-fit}
 
 -- a plan that is run: 10 and 11
 pub ran-lines : (catalogue tables : List ℕ) (nodes : List Node) (work output : List ℕ)

@@ -9,16 +9,17 @@ use Rattle.relations.specs.Lists.{flat}
 use Rattle.relations.specs.Nodes.{Node}
 use Rattle.relations.specs.Legality.{legalPlan}
 use Rattle.relations.specs.PlanWords.{nodeWords}
-use Rattle.catalogue.specs.Judging.{tablesOk}
+use Rattle.catalogue.specs.Judging.{catalogueOk, tablesOk}
 use Rattle.question.specs.Faults.{judgedByFaults}
 use Rattle.question.specs.declared.judgement.Judgement.the-variants.{Accepted}
 use Rattle.question.proofs.FaultsDecide.{accepted-count}
 use Rattle.catalogue.specs.Stored.{relationsOf, columnsOf}
-use Rattle.translation.specs.TranslateCall.{planBufferWords, isShort, planOf, written, translateOutcome}
+use Rattle.translation.specs.TranslateCall.{planBufferWords, planOf, written, translateOutcome}
 use Rattle.running.specs.RunCall.{capacityOf, cleared, fitWithin, ranOutcome, runOutcome}
 use Rattle.desk.specs.AnswerCall.{planRan, translatedOutcome, answerOutcome}
-use Rattle.desk.proofs.PlansRight.{catalogue-ok, plans-right}
-use Rattle.desk.proofs.PlanWritten.{words-judged, words-read, words-front}
+use Rattle.desk.proofs.PlansLegal.{plan-legal}
+use Rattle.demands.proofs.PlansRight.{catalogue-ok}
+use Rattle.demands.proofs.PlanWritten.{words-judged, words-read, words-front}
 
 -- a legal plan's words are run
 pub legal-ran : (catalogue tables : List ℕ) → tablesOk catalogue tables ≡ true → (nodes : List Node) → So (legalPlan (columnsOf catalogue) (relationsOf catalogue) nodes) → (work output : List ℕ)
@@ -26,20 +27,19 @@ pub legal-ran : (catalogue tables : List ℕ) → tablesOk catalogue tables ≡ 
 unfolding runOutcome
 legal-ran catalogue tables ok nodes legal work output = rw (ok, words-judged catalogue nodes legal, words-read catalogue nodes legal)
 
-module _ (catalogue tables question : List ℕ) (mode : ℕ) (plan work output : List ℕ) where
-  -- an accepted question is translated
-  pub accepted-written : tablesOk catalogue tables ≡ true → judgedByFaults catalogue question ≡ Accepted → planBufferWords ≤ length plan
-      → translateOutcome catalogue question mode plan ≡ written catalogue question mode plan
-  unfolding translateOutcome
-  accepted-written ok accepted long =
-      rw (catalogue-ok catalogue tables ok, accepted-count catalogue question accepted, le-ltb (length plan) planBufferWords long, accepted)
+-- an accepted question is translated
+pub accepted-written : (catalogue question : List ℕ) (mode : ℕ) (plan : List ℕ) → catalogueOk catalogue ≡ true → judgedByFaults catalogue question ≡ Accepted → planBufferWords ≤ length plan
+    → translateOutcome catalogue question mode plan ≡ written catalogue question mode plan
+unfolding translateOutcome
+accepted-written catalogue question mode plan ok accepted long = rw (ok, accepted-count catalogue question accepted, le-ltb (length plan) planBufferWords long, accepted)
 
+module _ (catalogue tables question : List ℕ) (mode : ℕ) (plan work output : List ℕ) where
   -- and its plan is run
   pub written-ran : tablesOk catalogue tables ≡ true → judgedByFaults catalogue question ≡ Accepted → planBufferWords ≤ length plan
       → translatedOutcome catalogue tables question mode plan work output (written catalogue question mode plan)
       ≡ planRan (written catalogue question mode plan) (ranOutcome catalogue tables (planOf catalogue question mode) (cleared work) output (fitWithin catalogue tables (planOf catalogue question mode) (capacityOf work)))
   written-ran ok accepted long =
-      let legal : So (legalPlan (columnsOf catalogue) (relationsOf catalogue) (planOf catalogue question mode)) = plans-right catalogue tables question ok accepted .legal (isShort mode) in
+      let legal : So (legalPlan (columnsOf catalogue) (relationsOf catalogue) (planOf catalogue question mode)) = plan-legal catalogue question (catalogue-ok catalogue tables ok) accepted mode in
       rw (words-front catalogue (planOf catalogue question mode) legal plan long)
       (ap (planRan (written catalogue question mode plan)) (legal-ran catalogue tables ok (planOf catalogue question mode) legal work output))
 
@@ -47,4 +47,4 @@ module _ (catalogue tables question : List ℕ) (mode : ℕ) (plan work output :
       → answerOutcome catalogue tables question mode plan work output
       ≡ planRan (written catalogue question mode plan) (ranOutcome catalogue tables (planOf catalogue question mode) (cleared work) output (fitWithin catalogue tables (planOf catalogue question mode) (capacityOf work)))
   unfolding answerOutcome
-  accepted-ran ok accepted long = rw (ok, accepted-written ok accepted long) (written-ran ok accepted long)
+  accepted-ran ok accepted long = rw (ok, accepted-written catalogue question mode plan (catalogue-ok catalogue tables ok) accepted long) (written-ran ok accepted long)

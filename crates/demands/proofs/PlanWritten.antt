@@ -12,10 +12,9 @@ use borrow.Author.Tests.{eqb-true}
 use Rattle.relations.specs.Limits.{planNodeLimit, planNodeWords}
 use Rattle.relations.specs.Lists.{flat}
 use Rattle.relations.specs.Nodes.{Node}
-use Rattle.relations.specs.Legality.{between, legalNodes, legalPlan}
+use Rattle.relations.specs.Legality.{between, legalPlan}
 use Rattle.relations.specs.PlanWords.{nodeWords}
 use Rattle.relations.proofs.BoolLaws.{and-left}
-use Rattle.relations.proofs.LegalityLaws.{so-between}
 use Rattle.values.proofs.WordLaws.{part-sets}
 use Rattle.catalogue.specs.Stored.{relationsOf, columnsOf}
 use Rattle.plans.specs.Judging.{judgeNodes, judgement, nodesOf}
@@ -23,6 +22,7 @@ use Rattle.plans.specs.declared.judging.Judgement.the-variants.{Legal, Illegal}
 use Rattle.plans.proofs.PlanTheorem.{judged-exactly}
 use Rattle.translation.specs.TranslateCall.{planBufferWords}
 use Rattle.running.proofs.NextLaws.{judged-sized}
+use Rattle.desk.proofs.PlansLegal.{nodes-between}
 
 -- words that are judged legal are 36 for each node
 legal-size : (catalogue words : List ℕ) (nodes : ℕ) → judgement catalogue words ≡ Legal nodes → length words ≡ nodes * planNodeWords
@@ -45,10 +45,7 @@ module _ (catalogue : List ℕ) (nodes : List Node) (legal : So (legalPlan (colu
   words-many : length (flat nodeWords nodes) ≡ length nodes * planNodeWords
   words-many = legal-size catalogue (flat nodeWords nodes) (length nodes) words-judged
 
-  pub nodes-between : (1 ≤ length nodes) × (length nodes ≤ planNodeLimit)
-  nodes-between = so-between 1 planNodeLimit (length nodes) (and-left (between 1 planNodeLimit (length nodes)) (legalNodes (columnsOf catalogue) (relationsOf catalogue) [] nodes) legal)
-
   pub words-front : (plan : List ℕ) → planBufferWords ≤ length plan → take (length nodes * planNodeWords) (sets plan 0 (flat nodeWords nodes)) ≡ flat nodeWords nodes
   words-front plan long =
       ap (λ (n : ℕ). take n (sets plan 0 (flat nodeWords nodes))) (sym words-many)
-      ∙ part-sets plan 0 (flat nodeWords nodes) (omega (arith, words-many, nodes-between .1))
+      ∙ part-sets plan 0 (flat nodeWords nodes) (omega (arith, words-many, nodes-between catalogue nodes legal .1))

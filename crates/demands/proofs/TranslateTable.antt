@@ -8,9 +8,9 @@ use Rattle.question.specs.Judgement.{countOk, isAlpha, lastNode}
 use Rattle.question.specs.Faults.{judgedByFaults}
 use Rattle.question.specs.declared.judgement.Judgement.the-variants.{Accepted, Refused}
 use Rattle.translation.specs.TranslateCall.{TranslateOutcome, unwritten, written, judgedOutcome as judgedTranslation, translateOutcome}
-use Rattle.desk.specs.Refusals.{outcomeBy, wrongCount, wrongCatalogue, shortPlan, questionLines, translateLines}
-use Rattle.desk.specs.Demands.{NoneGiven, TranslateDemand}
-use Rattle.desk.proofs.LineLaws.{turned, none-answered, outcome-of, outcome-behind, answered-exactly}
+use Rattle.demands.specs.Refusals.{outcomeBy, wrongCount, wrongCatalogue, shortPlan, questionLines, translateLines}
+use Rattle.demands.specs.Demands.{NoneGiven, TranslateDemand}
+use Rattle.demands.proofs.LineLaws.{turned, none-answered, outcome-of, outcome-behind, answered-exactly}
 
 -- A question's judgement is its lines'.
 module _ (catalogue question : List ℕ) where
