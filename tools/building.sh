@@ -24,35 +24,48 @@ crates_below() {
     END { visit(name); print total }' "$here/crates.txt"
 }
 
-# rt_build WHAT MARK RT-COMMAND CRATE: a line for each crate that is proved, and how many are left; MARK is the time at which it began
+# rt_build WHAT FILE MARK RT-COMMAND CRATE: a line for each crate that is proved, with how many are left. MARK gets the time at which it began.
+# Of two that start at once the second waits.
 rt_build() {
   command -v rt >/dev/null || fail "$1 is missing or older than its sources, and rt to build it, the command of the Rattle kit, isn't on the path"
-  mkdir -p "$here/target" && : >"$2.begun" || fail "$here/target can't be written"
+  mkdir -p "$here/target" && exec 9>"$here/target/desk-build.lock" || fail "$here/target can't be written"
+  ! command -v flock >/dev/null || flock 9
   log=$here/target/desk-build.log
-  left=$(crates_below "$4")
-  (cd "$here" && rt "$3" "$4" 2>&1) | tee "$log" | while read -r name crate verb how; do
-    [ "$name $verb" = 'rt: proved' ] || continue
-    left=$((left - 1))
-    case $how in *unchanged*) ;; *) echo "desk: proved $crate $how, $left left" ;; esac
-  done >&2
-  [ "${PIPESTATUS[0]}" -eq 0 ] || { tail -n 5 "$log" >&2; fail "$1 could not be built; $log tells why"; }
-  mv "$2.begun" "$2"
+  left=$(crates_below "$5")
+  if stale "$2" "$3"; then
+    : >"$3.begun"
+    (cd "$here" && rt "$4" "$5" 2>&1 9>&-) | tee "$log" | while read -r name crate verb how; do
+      [ "$name $verb" = 'rt: proved' ] || continue
+      left=$((left - 1))
+      case $how in *unchanged*) ;; *) echo "desk: proved $crate $how, $left left" ;; esac
+    done >&2
+    [ "${PIPESTATUS[0]}" -eq 0 ] || { tail -n 5 "$log" >&2; fail "$1 could not be built; $log tells why"; }
+    mv "$3.begun" "$3"
+  fi
+  exec 9>&-
+}
+
+# stale FILE MARK: FILE is missing, or a source changed after MARK, or after FILE where that is newer
+stale() {
+  [ -e "$1" ] || return 0
+  [ "$1" -nt "$2" ] && set -- "$1" "$1"
+  older "$2" "$here/crates" "$here/crates.txt"
 }
 
 build_program() {
   mark=$here/target/desk-program.built
-  [ "$program" -nt "$mark" ] && mark_now=$program || mark_now=$mark
-  [ -x "$program" ] && ! older "$mark_now" "$here/crates" "$here/crates.txt" && return
-  [ -x "$program" ] || echo 'desk: builds itself, proving each crate below it: some minutes the first time (log: target/desk-build.log)' >&2
-  rt_build "the program" "$mark" check desk_main
+  stale "$program" "$mark" || return 0
+  if [ -e "$program" ]; then echo 'desk: its sources are newer than it, so it builds itself again (log: target/desk-build.log)'
+  else echo 'desk: builds itself, proving each crate below it: some minutes the first time (log: target/desk-build.log)'
+  fi >&2
+  rt_build 'the program' "$program" "$mark" check desk_main
 }
 
 build_library() {
   mark=$here/target/desk-library.built
-  [ "$library" -nt "$mark" ] && mark_now=$library || mark_now=$mark
-  [ -f "$library" ] && ! older "$mark_now" "$here/crates" "$here/crates.txt" && return
+  stale "$library" "$mark" || return 0
   echo 'desk: builds its library (log: target/desk-build.log)' >&2
-  rt_build "the library" "$mark" staticlib desk
+  rt_build 'the library' "$library" "$mark" staticlib desk
 }
 
 # The helper of --explain: shows a question's plan and its rows by the library's own functions.
