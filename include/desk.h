@@ -18,12 +18,11 @@
  *   threads     The desk keeps nothing: no call depends on an earlier one. Calls may run at the same time on what they only read; what they
  *               write must be each call's own.
  *   stack       A call needs at most DESK_STACK_BYTES below its caller's frame. It uses no heap, no file and no signal, and never waits.
- *   time        Every call ends. Count in row comparisons, each of at most 32 words. An operation on values of L and R rows makes at most
- *                   L x R                         join, semijoin, antijoin
- *                   L x R x log2 L                division
- *                   (L + R) x log2 (L + R)        load, project, select, union, intersection, difference
- *               of them, and all values of a plan together have at most 16,384 words: the two values of one operation meet in at most
- *               8,192 x 8,192 pairs of rows. docs/PERFORMANCE.md, "A watchdog's figure", says what a whole call may take, as a ratio.
+ *   time        Every call ends. Count it in pairs of rows that meet. A node on values of L and R rows lets at most L x R pairs meet (join, semijoin,
+ *               antijoin: at most 8 comparisons of words a pair; division: a search, at most 13 comparisons of rows a pair); every other node, and the
+ *               placing of N rows, takes at most N x log2 N comparisons of rows. All values together have at most 16,384 words and a question loads
+ *               each of its ranges anew, so in desk_answer at most DESK_MOST_PAIRS meet in all; in desk_run at most as many for each node of the plan.
+ *               docs/PERFORMANCE.md, "A watchdog's figure", says what that is beside other work on the same machine.
  *   processor   The library is for x86-64 Linux (System V calling convention, little-endian, position-independent); it links into C and C++
  *               programs for that processor only.
  *
@@ -77,6 +76,7 @@
 #define DESK_MOST_PLAN_NODES 256u     /* nodes of a plan */
 #define DESK_PLAN_WORDS 9216u         /* words of a plan buffer: 256 nodes of 36 words */
 #define DESK_STACK_BYTES 163840u      /* stack that a call may need */
+#define DESK_MOST_PAIRS 67108864u     /* pairs of rows that meet in desk_answer: 8,192 x 8,192 */
 
 /* Modes. */
 #define DESK_PLAIN 0u

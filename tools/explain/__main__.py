@@ -26,7 +26,7 @@ MEANINGS = {
 }
 CURES = {
     2: "docs/BUNDLE.md lists the fields of each kind.",
-    3: "A table or a condition that is needed twice is written twice, and the alpha that prints comes last.",
+    3: "A table that is needed twice is written twice; the alpha that prints comes last.",
     4: "Relations count from 0, in the order of the relation= lines.",
     5: "A letter is bound by a binding, a \"some\" or an \"every\", and holds inside it only.",
     6: "Look up how many numbers the relation= line gives its rows.",

@@ -52,7 +52,7 @@ class Bundle:
 def wrong_line(text, place):
     """Why the desk refused the line with 12, in sentences."""
     if place == 0:
-        return f"The text has {len(text):,} bytes; a bundle has {MOST_BYTES:,} at most."
+        return f"It has more than {MOST_BYTES:,} bytes, the most that a bundle may have."
     before = Bundle(text, place)
     wanted, keys = expected(before)
     if place > len(before.lines) or (place == len(before.lines) and before.lines[-1] == ""):

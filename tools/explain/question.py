@@ -130,7 +130,8 @@ class Question:
             return "The last node must be an alpha: the one that says what to print."
         if not users:
             return f"No node refers to it. A node that uses it holds {number + 1}, its number plus one."
-        return f"It is referred to {len(users)} times, by node {' and node '.join(map(str, users))}; a node is referred to once: write it once for each."
+        return (f"It is referred to {len(users)} times, by node {' and node '.join(map(str, users))}: one of them means another node (a reference is a node's "
+                "number plus one), or it must be written once for each.")
 
     def unknown_relation(self, number):
         """Refusal 4."""
