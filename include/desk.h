@@ -1,4 +1,5 @@
-/* The question desk's C interface: three calls on lent words. docs/BUNDLE.md explains questions; examples/console.c is a whole caller.
+/* The question desk's C interface: three calls on lent words. docs/BUNDLE.md explains questions, examples/console.c is a whole
+ * caller.
  *
  * A slice is a pointer to its first word and its length in words.
  *
@@ -13,17 +14,19 @@
  * What a caller sees to:
  *
  *   pointers    None may be NULL, also not that of a slice of length 0 (lend any word's address). Each is aligned as uint32_t is.
- *   overlaps    Each lent number (place, nodes, ..) needs a place of its own, also where the caller doesn't read it. No slice or number
- *               that a call writes may overlap another one. Slices that are only read may be the same.
- *   threads     The desk keeps nothing: no call depends on an earlier one. Calls may run at the same time on what they only read; what they
- *               write must be each call's own.
- *   stack       A call needs at most DESK_STACK_BYTES below its caller's frame. It uses no heap, no file and no signal, and never waits.
- *   time        Every call ends. Count it in pairs of rows that meet. A node on values of L and R rows lets at most L x R pairs meet (join, semijoin,
- *               antijoin: at most 8 comparisons of words a pair; division: a search, at most 13 comparisons of rows a pair); every other node, and the
- *               placing of N rows, takes at most N x log2 N comparisons of rows. All values together have at most 16,384 words and a question loads
- *               each of its ranges anew, so in desk_answer at most DESK_MOST_PAIRS meet in all; in desk_run at most as many for each node of the plan.
- *               docs/PERFORMANCE.md, "A watchdog's figure", says what that is beside other work on the same machine.
- *   processor   The library is for x86-64 Linux (System V calling convention, little-endian, position-independent); it links into C and C++
+ *   overlaps    Each lent number (place, nodes, ..) needs a place of its own, also where the caller doesn't read it. No slice or
+ *               number that a call writes may overlap another one. Slices that are only read may be the same.
+ *   threads     The desk keeps nothing: no call depends on an earlier one. Calls may run at the same time on what they only
+ *               read; what they write must be each call's own.
+ *   stack       A call needs at most DESK_STACK_BYTES below its caller's frame. It uses no heap, file or signal, and never waits.
+ *   time        Every call ends. Count it in pairs of rows that meet. A node on values of L and R rows lets at most L x R pairs
+ *               meet (join, semijoin, antijoin: at most 8 comparisons of words a pair; division: a search, at most 13
+ *               comparisons of rows a pair); every other node, and the placing of N rows, takes at most N x log2 N comparisons
+ *               and N x N / 2 moves of a row. All values together have at most 16,384 words, and a question loads each of its
+ *               ranges anew: so in desk_answer at most DESK_MOST_PAIRS meet in all, and in desk_run at most as many for each
+ *               node of the plan. docs/PERFORMANCE.md, "A watchdog's figure", says what that is beside other work on the
+ *               same machine.
+ *   processor   The library is for x86-64 Linux (System V calling convention, position-independent): it links into C and C++
  *               programs for that processor only.
  *
  * Each function returns a status. 0 is success: the call writes what it makes at the front of its buffer, what is behind
@@ -56,8 +59,9 @@
 #include <stddef.h>
 #include <stdint.h>
 
-/* The version of this interface. Its first number is raised by whatever changes what a right caller of the version before gets: a function's
- * parameters, a refusal, a plan, a number. The second by additions that no such caller notices, the third by everything else. */
+/* The version of this interface. Its first number is raised by whatever changes what a right caller of the version before
+ * gets: a function's parameters, a refusal, a plan, a number. The second by additions that no such caller notices, the third
+ * by everything else. */
 #define DESK_VERSION "4.0.0"
 #define DESK_VERSION_MAJOR 4
 #define DESK_VERSION_MINOR 0
@@ -96,8 +100,9 @@
 #define DESK_NO_ROOM 10u
 #define DESK_SHORT_OUTPUT 11u
 
-/* Kinds of question node, with their words a to e. A reference is the node's number plus one and names a lower node; 0 means none, and may stand
- * only where ? is. Words that a kind doesn't use are 0. A range is a node of kind 1, 2, 5, 6 or 7, a condition one of 8 to 14. */
+/* Kinds of question node, with their words a to e. A reference is the node's number plus one and names a lower node; 0 means
+ * none, and may stand only where ? is. Words that a kind doesn't use are 0. A range is a node of kind 1, 2, 5, 6 or 7, a
+ * condition one of 8 to 14. */
 #define DESK_TABLE 1u                 /* a relation, from 0 */
 #define DESK_ALPHA 2u                 /* a target, b binding, c? condition */
 #define DESK_TARGET 3u                /* a variable, b attribute (0: the whole row), c? next target */
@@ -121,8 +126,8 @@
 #define DESK_GREATER 5u
 #define DESK_GREATER_OR_EQUAL 6u
 
-/* A plan node's words: the operation, left and right (numbers of lower nodes, from 0; a load's left is a relation), the count, and the list,
- * of which `count` units are used. Words that aren't used are 0. */
+/* A plan node's words: the operation, left and right (numbers of lower nodes, from 0; a load's left is a relation), the count,
+ * and the list, of which `count` units are used. Words that aren't used are 0. */
 #define DESK_AT_OPERATION 0u
 #define DESK_AT_LEFT 1u
 #define DESK_AT_RIGHT 2u

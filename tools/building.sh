@@ -11,6 +11,8 @@ older() {
   [ ! -e "$made" ] || [ -n "$(find "$@" -type f -newer "$made" -print -quit)" ]
 }
 
+stale() { older "$1" "$here/crates" "$here/crates.txt"; }
+
 # how many crates `rt check NAME` looks at
 crates_below() {
   awk -F: -v name="$1" '
@@ -24,48 +26,40 @@ crates_below() {
     END { visit(name); print total }' "$here/crates.txt"
 }
 
-# rt_build WHAT FILE MARK RT-COMMAND CRATE: a line for each crate that is proved, with how many are left. MARK gets the time at which it began.
-# Of two that start at once the second waits.
+# rt_build WHAT FILE RT-COMMAND CRATE: a line for each crate that is proved, with how many are left. FILE gets the time at which it began, so that
+# a source that changed meanwhile is newer. Of two that start at once the second waits.
 rt_build() {
   command -v rt >/dev/null || fail "$1 is missing or older than its sources, and rt to build it, the command of the Rattle kit, isn't on the path"
   mkdir -p "$here/target" && exec 9>"$here/target/desk-build.lock" || fail "$here/target can't be written"
   ! command -v flock >/dev/null || flock 9
   log=$here/target/desk-build.log
-  left=$(crates_below "$5")
-  if stale "$2" "$3"; then
-    : >"$3.begun"
-    (cd "$here" && rt "$4" "$5" 2>&1 9>&-) | tee "$log" | while read -r name crate verb how; do
+  begun=$here/target/desk-build.begun
+  left=$(crates_below "$4")
+  if stale "$2"; then
+    : >"$begun"
+    (cd "$here" && rt "$3" "$4" 2>&1 9>&-) | tee "$log" | while read -r name crate verb how; do
       [ "$name $verb" = 'rt: proved' ] || continue
       left=$((left - 1))
       case $how in *unchanged*) ;; *) echo "desk: proved $crate $how, $left left" ;; esac
     done >&2
     [ "${PIPESTATUS[0]}" -eq 0 ] || { tail -n 5 "$log" >&2; fail "$1 could not be built; $log tells why"; }
-    mv "$3.begun" "$3"
+    touch -r "$begun" "$2"
   fi
   exec 9>&-
 }
 
-# stale FILE MARK: FILE is missing, or a source changed after MARK, or after FILE where that is newer
-stale() {
-  [ -e "$1" ] || return 0
-  [ "$1" -nt "$2" ] && set -- "$1" "$1"
-  older "$2" "$here/crates" "$here/crates.txt"
-}
-
 build_program() {
-  mark=$here/target/desk-program.built
-  stale "$program" "$mark" || return 0
+  stale "$program" || return 0
   if [ -e "$program" ]; then echo 'desk: its sources are newer than it, so it builds itself again (log: target/desk-build.log)'
   else echo 'desk: builds itself, proving each crate below it: some minutes the first time (log: target/desk-build.log)'
   fi >&2
-  rt_build 'the program' "$program" "$mark" check desk_main
+  rt_build 'the program' "$program" check desk_main
 }
 
 build_library() {
-  mark=$here/target/desk-library.built
-  stale "$library" "$mark" || return 0
+  stale "$library" || return 0
   echo 'desk: builds its library (log: target/desk-build.log)' >&2
-  rt_build 'the library' "$library" "$mark" staticlib desk
+  rt_build 'the library' "$library" staticlib desk
 }
 
 # The helper of --explain: shows a question's plan and its rows by the library's own functions.
