@@ -1,4 +1,6 @@
 # Sourced by tests that try a command: each `check` is one test; `checked` prints 'N passed, M failed' and fails when any failed or none ran.
+packages=$(tests/packages)
+[ -z "$packages" ] || { echo "$0: these Debian packages are missing: $packages"; exit 2; }
 passed=0
 failed=0
 work=$(mktemp -d)
