@@ -19,13 +19,12 @@
  *   threads     The desk keeps nothing: no call depends on an earlier one. Calls may run at the same time on what they only
  *               read; what they write must be each call's own.
  *   stack       A call needs at most DESK_STACK_BYTES below its caller's frame. It uses no heap, file or signal, and never waits.
- *   time        Every call ends. Count it in pairs of rows that meet. A node on values of L and R rows lets at most L x R pairs
- *               meet (join, semijoin, antijoin: at most 8 comparisons of words a pair; division: a search, at most 13
- *               comparisons of rows a pair); every other node, and the placing of N rows, takes at most N x log2 N comparisons
- *               and N x N / 2 moves of a row. All values together have at most 16,384 words, and a question loads each of its
- *               ranges anew: so in desk_answer at most DESK_MOST_PAIRS meet in all, and in desk_run at most as many for each
- *               node of the plan. docs/PERFORMANCE.md, "A watchdog's figure", says what that is beside other work on the
- *               same machine.
+ *   time        Every call ends. Count it in comparisons of two rows: a node on values of L and R rows costs at most
+ *               L x R + 18 x (L + R) of them, a division 14 x L x R + 18 x (L + R); placing N rows moves a row at most N x N / 2
+ *               times. All values together have at most 16,384 words, and a question loads each of its ranges anew: so in
+ *               desk_answer at most DESK_MOST_PAIRS pairs L x R meet in all. In desk_run a plan may set a value against itself:
+ *               at most 4 x DESK_MOST_PAIRS for each of its nodes. docs/PERFORMANCE.md, "A watchdog's figure", says what a
+ *               pair costs.
  *   processor   The library is for x86-64 Linux (System V calling convention, position-independent): it links into C and C++
  *               programs for that processor only.
  *
@@ -80,7 +79,7 @@
 #define DESK_MOST_PLAN_NODES 256u     /* nodes of a plan */
 #define DESK_PLAN_WORDS 9216u         /* words of a plan buffer: 256 nodes of 36 words */
 #define DESK_STACK_BYTES 163840u      /* stack that a call may need */
-#define DESK_MOST_PAIRS 67108864u     /* pairs of rows that meet in desk_answer: 8,192 x 8,192 */
+#define DESK_MOST_PAIRS 67108864u     /* pairs of rows that meet in a desk_answer: 8,192 x 8,192 */
 
 /* Modes. */
 #define DESK_PLAIN 0u
