@@ -68,6 +68,7 @@ def explain_refusal(text, listing, command):
 
 
 def main():
+    sys.stdout.reconfigure(encoding="utf-8")
     text = pathlib.Path(sys.argv[1]).read_bytes()
     listing = {key: int(value) for key, _, value in (line.partition("=") for line in sys.stdin.read().splitlines()) if key != "row"}
     if listing["status"] == 0:

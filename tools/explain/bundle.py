@@ -78,6 +78,8 @@ def expected(before):
 def fault(before, line, keys, unended):
     if unended:
         return "It has no line end: press Enter behind the last line."
+    if line.startswith("\xef\xbb\xbf"):
+        return "It starts with a byte-order mark, as some editors write: save the file without one (plain ASCII or UTF-8 without BOM)."
     if line.endswith("\r"):
         return "It ends in CR LF, as Windows writes lines; a bundle's lines end in LF alone (tr -d '\\r' takes the CR away)."
     if line == "":
