@@ -5,7 +5,7 @@ import pathlib
 import sys
 
 from bundle import Bundle, wrong_line
-from plan import HEAVY, plan_lines, plan_of
+from plan import HEAVY, MOST_ROOM, plan_lines, plan_of
 from question import Question
 
 MEANINGS = {
@@ -30,8 +30,7 @@ CURES = {
     4: "Relations count from 0, in the order of the relation= lines.",
     5: "A letter is bound by a binding, a \"some\" or an \"every\", and holds inside it only.",
     6: "Look up how many numbers the relation= line gives its rows.",
-    10: "mode=short often needs less room than mode=plain. Else let a range pick the rows first (an alpha in a table's place), or leave out\n"
-        "tables and rows that the question doesn't need.",
+    10: "Let a range pick the rows first (an alpha in a table's place), or leave out tables and rows that the question doesn't need.",
     11: "Print fewer columns, or ask for fewer rows.",
     12: "docs/BUNDLE.md lists the lines and their order.",
 }
@@ -52,6 +51,14 @@ def explain_plan(bundle, command):
     return nodes
 
 
+def explain_at_plan_node(bundle, status, place, command):
+    nodes = explain_plan(bundle, command)
+    say(f"Place {place}: plan node {place}, {' '.join(nodes[place].words().split())}.")
+    if status == 10:
+        taken = max((node.room for node in nodes if node.ran), default=0)
+        say(f"It needs more than the {MOST_ROOM - taken:,} words that are left." + " Try mode=short: its plan often needs less room." * (bundle.mode == "plain"))
+
+
 def explain_refusal(text, listing, command):
     status, place = listing["status"], listing["place"]
     say(f"Refusal {status}: {MEANINGS[status]}.")
@@ -61,8 +68,7 @@ def explain_refusal(text, listing, command):
         question = Question(Bundle(text))
         say(f"Place {place}: {question.at(place)}: node={' '.join(map(str, question.nodes[place]))}", NODE_FAULTS[status](question, place))
     elif command:
-        node = explain_plan(Bundle(text), command)[place]
-        say(f"Place {place}: plan node {place}, {' '.join(node.words().split())}.")
+        explain_at_plan_node(Bundle(text), status, place, command)
     if status in CURES:
         say(CURES[status])
 

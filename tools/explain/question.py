@@ -32,7 +32,7 @@ def kind_of(node):
     return KINDS[node[0]][0] if node[0] in KINDS else f"of kind {node[0]}"
 
 
-def a(name):
+def with_article(name):
     return f"an {name}" if name.lstrip('"')[0] in "aeiou" else f"a {name}"
 
 
@@ -50,7 +50,7 @@ class Question:
         self.columns = [table.columns for table in bundle.tables]
 
     def at(self, number):
-        return f"node {number} (line {self.lines[number]}), {a(kind_of(self.nodes[number]))}"
+        return f"node {number} (line {self.lines[number]}), {with_article(kind_of(self.nodes[number]))}"
 
     def notation(self):
         return self.alpha(len(self.nodes) - 1)
@@ -113,15 +113,15 @@ class Question:
             return word and "this kind doesn't use it, so it must be 0"
         if sort in LEAST_AND_MOST:
             least, most = LEAST_AND_MOST[sort]
-            return not least <= word <= most and f"{a(sort)} is {least} to {most}"
+            return not least <= word <= most and f"{with_article(sort)} is {least} to {most}"
         name = sort.rstrip("?")
         if name not in SORTS or (word == 0 and sort.endswith("?")):
             return ""
         if word == 0:
-            return f"{a(name)} is needed there, and 0 means none; a reference is a node's number plus one"
+            return f"{with_article(name)} is needed there, and 0 means none; a reference is a node's number plus one"
         if word > number:
             return f"it refers to node {word - 1}, which doesn't stand above node {number}; a reference is a node's number plus one"
-        return self.nodes[word - 1][0] not in SORTS[name] and f"it refers to {self.at(word - 1)}, where {a(name)} is needed"
+        return self.nodes[word - 1][0] not in SORTS[name] and f"it refers to {self.at(word - 1)}, where {with_article(name)} is needed"
 
     def wrongly_referred(self, number):
         """Refusal 3."""
