@@ -78,17 +78,14 @@ short-plan : (catalogue question : List ℕ) (mode : ℕ) → (mode ≡ 0 → �
 short-plan catalogue question mode short = rw (ne-eqb mode 0 short)
 
 pub demand-3 : (catalogue tables question : List ℕ) → Demand3 catalogue tables question
-demand-3 catalogue tables question = record { same = same }
-  where
-    same : tablesOk catalogue tables ≡ true → judgedByFaults catalogue question ≡ Accepted
-        → (mode : ℕ) → (mode ≡ 0 → ⊥) → (plain short : Buffers) → planBufferWords ≤ length (plain .plan) → planBufferWords ≤ length (short .plan)
-        → HadRoom (answerWith catalogue tables question 0 plain) → HadRoom (answerWith catalogue tables question mode short)
-        → SameAnswer catalogue tables question mode plain short
-    same ok accepted mode other plain short plainLong shortLong plainRoom shortRoom =
-        record {
-          plainRows = leaves-rows catalogue tables question ok accepted 0 plain plainLong plainRoom;
-          shortRows = leaves-rows catalogue tables question ok accepted mode short shortLong shortRoom;
-          lighter =
-              rw (heavy-is catalogue tables question ok accepted 0 plain plainLong plainRoom, heavy-is catalogue tables question ok accepted mode short shortLong shortRoom, short-plan catalogue question mode other)
-              (plans-right catalogue tables question ok accepted .lighter);
-        }
+demand-3 catalogue tables question =
+    record {
+      same = λ ok accepted mode other plain short plainLong shortLong plainRoom shortRoom.
+          record {
+            plainRows = leaves-rows catalogue tables question ok accepted 0 plain plainLong plainRoom;
+            shortRows = leaves-rows catalogue tables question ok accepted mode short shortLong shortRoom;
+            lighter =
+                rw (heavy-is catalogue tables question ok accepted 0 plain plainLong plainRoom, heavy-is catalogue tables question ok accepted mode short shortLong shortRoom, short-plan catalogue question mode other)
+                (plans-right catalogue tables question ok accepted .lighter);
+          };
+    }
