@@ -12,6 +12,9 @@ use Rattle.relations.specs.PlanWords.{nodeWords}
 use Rattle.catalogue.specs.Judging.{catalogueOk, tablesOk}
 use Rattle.question.specs.Faults.{judgedByFaults}
 use Rattle.question.specs.declared.judgement.Judgement.the-variants.{Accepted}
+use Rattle.question.proofs.FaultsDecide.{faults-accept-exactly}
+use Rattle.catalogue.proofs.TableLaws.{known-columns}
+use Rattle.plans.proofs.PlanTheorem.{judged-exactly}
 use Rattle.translation.specs.TranslateCall.{planBufferWords, planOf, unwritten, written, translateOutcome}
 use Rattle.running.specs.RunCall.{cleared, answered}
 use Rattle.desk.specs.AnswerCall.{AnswerOutcome, planRan, translatedOutcome, answerOutcome}
@@ -94,7 +97,16 @@ module _ (catalogue tables question : List ℕ) (mode : ℕ) (plan work output :
       never h = omega arith
 
 pub demand-1 : Demand1
-demand-1 = record { reading = read-demand; writing = write-demand; translating = translate-demand; running = run-demand; answering = answer-demand }
+demand-1 =
+    record {
+      accepting = λ catalogue question ok. faults-accept-exactly catalogue question (known-columns catalogue ok);
+      judging = judged-exactly;
+      reading = read-demand;
+      writing = write-demand;
+      translating = translate-demand;
+      running = run-demand;
+      answering = answer-demand;
+    }
 
 pub one-outcome : OneOutcome
 one-outcome =

@@ -21,9 +21,10 @@ use Rattle.catalogue.specs.Judging.{catalogueOk, tablesOk}
 use Rattle.values.specs.Words.{wordsOf}
 use Rattle.question.specs.Trees.{questionOf}
 use Rattle.question.specs.Faults.{judgedByFaults}
+use Rattle.question.specs.Accepted.{AcceptedExactly}
 use Rattle.question.specs.declared.judgement.Judgement.the-variants.{Accepted}
 use Rattle.catalogue.specs.Stored.{columnsOf, storedTables}
-use Rattle.plans.specs.Judging.{nodesOf}
+use Rattle.plans.specs.Judging.{nodesOf, JudgedExactly}
 use Rattle.text.specs.Limits.{byteLimit}
 use Rattle.text.specs.Reading.{reading}
 use Rattle.text.specs.ReadCall.{ReadOutcome, readRefused, readOutcome}
@@ -99,6 +100,9 @@ pub record WriteDemand (mode : ℕ) (catalogue tables question text : List ℕ) 
   pub exactly : AnsweredExactly (writeOutcome mode catalogue tables question text .numbers .status) (writeLines mode catalogue tables question text)
 
 pub record Demand1 : Type 0 where
+  -- once 7 is past, 1 to 6 refuse nothing but what document 01's lines 1 to 4 name and trees that are not in good form; 9 nothing but illegal plans
+  pub accepting : (catalogue question : List ℕ) → catalogueOk catalogue ≡ true → AcceptedExactly (judgedByFaults catalogue question) catalogue question
+  pub judging : (catalogue : List ℕ) → JudgedExactly catalogue
   pub reading : (text catalogue tables question : List ℕ) → ReadDemand text catalogue tables question
   pub writing : (mode : ℕ) (catalogue tables question text : List ℕ) → WriteDemand mode catalogue tables question text
   pub translating : (catalogue question : List ℕ) (mode : ℕ) (plan : List ℕ) → TranslateDemand catalogue question mode plan
