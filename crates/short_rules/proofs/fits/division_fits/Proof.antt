@@ -43,7 +43,7 @@ short-rule-5-fits-requires c κs = search needs
 returns : tie.Need-returns
 returns c = let k = c .before .before in
     let y = k .before .before .before .before .before .args .y in
-    conjoined-atoms (shortRule5Atoms (k .before .node .given .0 .0) y) (c .before .leaves-of .ensures) (c .short-rule-5-fits .ensures) ∙ sym (ap (shortRule5Fits y) (some-reads k))
+    conjoined-atoms (shortRule5Atoms (k .before .node .given .0 .0) y) (c .before .leaves-of .ensures .1) (c .short-rule-5-fits .ensures) ∙ sym (ap (shortRule5Fits y) (some-reads k))
 
 returns-2 : tie.Need-returns-2
 returns-2 c = let s = c .before .before .before in

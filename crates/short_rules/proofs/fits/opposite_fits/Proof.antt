@@ -55,7 +55,7 @@ enum-told-4 c = search needs
 
 returns : tie.Need-returns
 returns c = let k = c .before .before in
-    conjoined-atoms (shortRule2Atoms (k .before .node .given .0 .0)) (c .before .leaves-of .ensures) (c .short-rule-2-fits .ensures) ∙ sym (some-opposite (some-reads k))
+    conjoined-atoms (shortRule2Atoms (k .before .node .given .0 .0)) (c .before .leaves-of .ensures .1) (c .short-rule-2-fits .ensures) ∙ sym (some-opposite (some-reads k))
 
 returns-2 : tie.Need-returns-2
 returns-2 c = let s = c .before .before .before .before in

@@ -1,23 +1,22 @@
-use Rattle.emission.proofs.ListingLaws.{longer-then, longer-none, columns-step}
-use Rattle.emission.specs.declared.listing.Listing.{Listing}
-use Rattle.emission.specs.Listings.{Longer, numbersOf}
+use Rattle.emission.proofs.NodeListLaws.{grown-used, grown-step, grown-none, columns-step}
+use Rattle.emission.specs.NodeLists.{grownBy, numbersOf}
 use Rattle.calculus.specs.Scope.{columnsFrom}
 use Prim.Native.Nat.{_+_, _≤_}
-use mathlib.Core.Path.{_≡_, refl, subst, sym}
+use mathlib.Core.Path.{_≡_, refl, sym, ap, _∙_}
 use native.Mathlib.Omega.{arith}
-use Rattle.emission.proofs.listing.with_columns.Statement.{statement}
-use Rattle.emission.proofs.listing.with_columns.Tie as tie
+use Rattle.emission.proofs.node_list.with_columns.Statement.{statement}
+use Rattle.emission.proofs.node_list.with_columns.Tie as tie
 
 abbrev Inv-loop : tie.InvT-loop
 Inv-loop first count longer₀ column₀ left₀ longer column left = (longer .used + left ≤ 32)
     × (column + left ≡ first + count)
-    × ((r : Listing) → Longer longer (numbersOf (columnsFrom left column)) r → Longer longer₀ (numbersOf (columnsFrom count first)) r)
+    × (grownBy longer (numbersOf (columnsFrom left column)) ≡ grownBy longer₀ (numbersOf (columnsFrom count first)))
 
 abbrev μ-loop : tie.MeasureT-loop
 μ-loop first count longer₀ column₀ left₀ longer column left = left
 
 loop-holds : tie.Need-loop-holds Inv-loop μ-loop
-loop-holds c = (c .pre .0, refl, λ r l. l)
+loop-holds c = (c .pre .0, refl, refl)
 
 with-word-requires : tie.Need-with-word-requires Inv-loop μ-loop
 with-word-requires c κs = omega arith
@@ -33,15 +32,15 @@ loop-less c = omega arith
 
 loop-again : tie.Need-loop-again Inv-loop μ-loop
 loop-again c = let l = c .before .before .loop in (
-  omega (arith, c .with-word .ensures .grown),
+  omega (arith, grown-used _ _ (c .with-word .ensures)),
   omega arith,
-  λ r longer. l .inv .2 r (subst (λ more. Longer (l .longer) more r) (sym (columns-step (l .left) (l .column) (omega arith))) (longer-then (c .with-word .ensures) longer)),
+  grown-step _ _ _ (c .with-word .ensures) ∙ ap (grownBy (l .longer)) (sym (columns-step (l .left) (l .column) (omega arith))) ∙ l .inv .2,
 )
 
 returns : tie.Need-returns Inv-loop μ-loop
 returns c = let l = c .before .loop in
     let e : l .left ≡ 0 = omega arith in
-    l .inv .2 (l .longer) (rw e (longer-none (l .longer)))
+    sym (grown-none (l .longer)) ∙ rw e at (l .inv .2)
 
 pub with-columns-spec : {M : Type 1} → statement M
 with-columns-spec =

@@ -6,27 +6,27 @@ ghost use Prim.Native.Nat.{_+_, _≤_, _<_};
 ghost use lib.ListN.{length};
 ghost use Rattle.relations.specs.Limits.{columnLimit, listWords};
 ghost use Rattle.calculus.specs.Scope.{columnsFrom};
-ghost use Rattle.emission.specs.Listings.{listing, Longer, numbersOf};
+ghost use Rattle.emission.specs.NodeLists.{nodeList, grownBy, numbersOf};
 use question::node::Attribute;
 
 // A node's list: the words used so far, then zeros.
-pub struct Listing {
+pub struct NodeList {
     pub words: [u32; 32],
     pub used: u32,
 }
 
-pub fn no_list() -> Listing
-    ensures { λ r. ⌜ r ≡ listing [] ⌝ }
+pub fn no_list() -> NodeList
+    ensures { λ r. ⌜ r ≡ nodeList [] ⌝ }
 {
-    Listing {
+    NodeList {
         words: [0u32; 32],
         used: 0,
     }
 }
 
-pub fn with_word(list: Listing, word: u32) -> Listing
+pub fn with_word(list: NodeList, word: u32) -> NodeList
     requires { ⌜ list .used < listWords ⌝ }
-    ensures { λ r. ⌜ Longer list (word ∷ []) r ⌝ }
+    ensures { λ r. ⌜ r ≡ grownBy list (word ∷ []) ⌝ }
 {
     let mut longer = list;
     longer.words[list.used as usize] = word;
@@ -34,23 +34,23 @@ pub fn with_word(list: Listing, word: u32) -> Listing
     longer
 }
 
-pub fn with_pair(list: Listing, left: Attribute, right: Attribute) -> Listing
+pub fn with_pair(list: NodeList, left: Attribute, right: Attribute) -> NodeList
     requires { ⌜ list .used + 2 ≤ listWords ⌝ }
-    ensures { λ r. ⌜ Longer list (left .0 ∷ right .0 ∷ []) r ⌝ }
+    ensures { λ r. ⌜ r ≡ grownBy list (left .0 ∷ right .0 ∷ []) ⌝ }
 {
     with_word(with_word(list, left.0), right.0)
 }
 
-pub fn with_triple(list: Listing, left: Attribute, operator: u32, right: Attribute) -> Listing
+pub fn with_triple(list: NodeList, left: Attribute, operator: u32, right: Attribute) -> NodeList
     requires { ⌜ list .used + 3 ≤ listWords ⌝ }
-    ensures { λ r. ⌜ Longer list (left .0 ∷ operator ∷ right .0 ∷ []) r ⌝ }
+    ensures { λ r. ⌜ r ≡ grownBy list (left .0 ∷ operator ∷ right .0 ∷ []) ⌝ }
 {
     with_word(with_word(with_word(list, left.0), operator), right.0)
 }
 
-pub fn with_word_if(list: Listing, test: bool, word: u32) -> Listing
+pub fn with_word_if(list: NodeList, test: bool, word: u32) -> NodeList
     requires { ⌜ list .used + length (cond test (word ∷ []) []) ≤ listWords ⌝ }
-    ensures { λ r. ⌜ Longer list (cond test (word ∷ []) []) r ⌝ }
+    ensures { λ r. ⌜ r ≡ grownBy list (cond test (word ∷ []) []) ⌝ }
 {
     if test {
         return with_word(list, word);
@@ -58,9 +58,9 @@ pub fn with_word_if(list: Listing, test: bool, word: u32) -> Listing
     list
 }
 
-pub fn with_pair_if(list: Listing, test: bool, left: Attribute, right: Attribute) -> Listing
+pub fn with_pair_if(list: NodeList, test: bool, left: Attribute, right: Attribute) -> NodeList
     requires { ⌜ list .used + length (cond test (left .0 ∷ right .0 ∷ []) []) ≤ listWords ⌝ }
-    ensures { λ r. ⌜ Longer list (cond test (left .0 ∷ right .0 ∷ []) []) r ⌝ }
+    ensures { λ r. ⌜ r ≡ grownBy list (cond test (left .0 ∷ right .0 ∷ []) []) ⌝ }
 {
     if test {
         return with_pair(list, left, right);
@@ -69,14 +69,14 @@ pub fn with_pair_if(list: Listing, test: bool, left: Attribute, right: Attribute
 }
 
 pub fn with_triple_if(
-    list: Listing,
+    list: NodeList,
     test: bool,
     left: Attribute,
     operator: u32,
     right: Attribute,
-) -> Listing
+) -> NodeList
     requires { ⌜ list .used + length (cond test (left .0 ∷ operator ∷ right .0 ∷ []) []) ≤ listWords ⌝ }
-    ensures { λ r. ⌜ Longer list (cond test (left .0 ∷ operator ∷ right .0 ∷ []) []) r ⌝ }
+    ensures { λ r. ⌜ r ≡ grownBy list (cond test (left .0 ∷ operator ∷ right .0 ∷ []) []) ⌝ }
 {
     if test {
         return with_triple(list, left, operator, right);
@@ -85,9 +85,9 @@ pub fn with_triple_if(
 }
 
 // So many columns in order, from `first` on, behind those of the list.
-pub fn with_columns(list: Listing, first: u32, count: u32) -> Listing
+pub fn with_columns(list: NodeList, first: u32, count: u32) -> NodeList
     requires { ⌜ (list .used + count ≤ listWords) × (first ≤ columnLimit + columnLimit) ⌝ }
-    ensures { λ r. ⌜ Longer list (numbersOf (columnsFrom count first)) r ⌝ }
+    ensures { λ r. ⌜ r ≡ grownBy list (numbersOf (columnsFrom count first)) ⌝ }
 {
     let mut longer = list;
     let mut column = first;
