@@ -18,7 +18,7 @@ use Rattle.relations.specs.PlanWords.{nodeWords}
 use Rattle.relations.proofs.BoolLaws.{and-right}
 use Rattle.calculus.specs.Claims.{TranslationRight}
 use Rattle.calculus.proofs.Theorems.{translation-right}
-use Rattle.catalogue.specs.Judging.{catalogueWords, catalogueOk, judged as judgedCatalogue}
+use Rattle.catalogue.specs.Judging.{catalogueWords, catalogueOk, CatalogueNumbers, catalogueNumbers, judgedCatalogue}
 use Rattle.catalogue.specs.declared.judging.Judged.the-variants.{Words, Wrong}
 use Rattle.catalogue.specs.Stored.{relationsOf, columnsOf}
 use Rattle.catalogue.proofs.TableLaws.{known-columns}
@@ -110,25 +110,25 @@ module _ (catalogue question : List ℕ) (mode : ℕ) (plan : List ℕ) where
 
 -- Refusal 7.
 
-pub catalogue-good : (catalogue : List ℕ) {words : ℕ} → Words words ≡ judgedCatalogue catalogue → catalogueOk catalogue ≡ true
+pub catalogue-good : (catalogue : List ℕ) {words : ℕ} → catalogueNumbers (Words words) ≡ judgedCatalogue catalogue → catalogueOk catalogue ≡ true
 catalogue-good catalogue {words} e = go (catalogueOk catalogue) e
   where
-    go : (good : Bool) → Words words ≡ cond good (Words (catalogueWords catalogue)) Wrong → good ≡ true
+    go : (good : Bool) → catalogueNumbers (Words words) ≡ cond good (catalogueNumbers (Words (catalogueWords catalogue))) (catalogueNumbers Wrong) → good ≡ true
     go true h = refl
-    go false h = let never : _≡_ {A = ℕ} 0 1 = cc in absurd (omega arith)
+    go false h = let never : _≡_ {A = ℕ} 0 7 = ap (λ (n : CatalogueNumbers). n .status) h in absurd (omega arith)
 
-catalogue-wrong : (catalogue : List ℕ) → Wrong ≡ judgedCatalogue catalogue → catalogueOk catalogue ≡ false
+catalogue-wrong : (catalogue : List ℕ) → catalogueNumbers Wrong ≡ judgedCatalogue catalogue → catalogueOk catalogue ≡ false
 catalogue-wrong catalogue e = go (catalogueOk catalogue) e
   where
-    go : (good : Bool) → Wrong ≡ cond good (Words (catalogueWords catalogue)) Wrong → good ≡ false
-    go true h = let never : _≡_ {A = ℕ} 0 1 = cc in absurd (omega arith)
+    go : (good : Bool) → catalogueNumbers Wrong ≡ cond good (catalogueNumbers (Words (catalogueWords catalogue))) (catalogueNumbers Wrong) → good ≡ false
+    go true h = let never : _≡_ {A = ℕ} 7 0 = ap (λ (n : CatalogueNumbers). n .status) h in absurd (omega arith)
     go false h = refl
 
 module _ (catalogue question : List ℕ) (mode : ℕ) (plan : List ℕ) where
-  pub wrong-refused : Wrong ≡ judgedCatalogue catalogue → unwritten catalogue question mode plan 7 0 ≡ translateOutcome catalogue question mode plan
+  pub wrong-refused : catalogueNumbers Wrong ≡ judgedCatalogue catalogue → unwritten catalogue question mode plan 7 0 ≡ translateOutcome catalogue question mode plan
   unfolding translateOutcome
   wrong-refused e = rw (catalogue-wrong catalogue e)
 
-  pub good-translated : {words : ℕ} {outcome : TranslateOutcome} → Words words ≡ judgedCatalogue catalogue → outcome ≡ behindCatalogue catalogue question mode plan → outcome ≡ translateOutcome catalogue question mode plan
+  pub good-translated : {words : ℕ} {outcome : TranslateOutcome} → catalogueNumbers (Words words) ≡ judgedCatalogue catalogue → outcome ≡ behindCatalogue catalogue question mode plan → outcome ≡ translateOutcome catalogue question mode plan
   unfolding translateOutcome
   good-translated e g = rw (catalogue-good catalogue e) g
