@@ -14,8 +14,8 @@ use Rattle.question.specs.Nodes.{nodeCount, nodeAt, isRange, isIllFormed
 use Rattle.question.specs.References.{referencesTo, seen, firstFrom, lowest, notOnce}
 use Rattle.catalogue.specs.Stored.{relationsOf, columnsOf}
 use Rattle.question.specs.Trees.{treeOf, treeNodes, questionOf}
-use Rattle.question.specs.Scopes.{emptyScope}
-use Rattle.question.specs.Judgement.{countOk, isAlpha, isUnknown, lowestIllFormed, lastNode, lowestNotOnce, lowestUnknown, faultsFound, judgeTree, judgeNodes, judged}
+use Rattle.question.specs.Judgement.{countOk, isAlpha, isUnknown, lowestIllFormed, lastNode, lowestNotOnce, lowestUnknown}
+use Rattle.question.specs.Walk.{emptyScope, faultsFound, judgeTree, judgeNodes, judged}
 use Rattle.question.specs.Accepted.{HasColumns, QuestionRight, TableRight, AcceptedExactly}
 use Rattle.question.specs.declared.node.Node.{Node}
 use Rattle.question.specs.declared.node.Node.the-variants.{Table, Alpha, Target, Binding, RangeOr, RangeAnd, RangeAndNot, Atom as AtomNode, And, Or, Not, Some, Every, IllFormed}

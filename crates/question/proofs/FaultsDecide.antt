@@ -13,10 +13,10 @@ use Rattle.catalogue.specs.Stored.{relationsOf, columnsOf}
 use Rattle.question.specs.Nodes.{nodeCount, nodeAt}
 use Rattle.question.specs.References.{lowest}
 use Rattle.question.specs.Trees.{questionTree}
-use Rattle.question.specs.Scopes.{emptyScope}
-use Rattle.question.specs.Judgement.{countOk, isAlpha, lowestIllFormed, lastNode, lowestNotOnce, lowestUnknown, faultsFound, judgeTree, judgeNodes, judged}
-use Rattle.question.specs.Accepted.{HasColumns, TableRight, AcceptedExactly}
-use Rattle.question.specs.Faults.{faultAt, unbound, unfit, lowestUnbound, lowestUnfit, judgedByFaults, FaultsDecide}
+use Rattle.question.specs.Judgement.{countOk, isAlpha, lowestIllFormed, lastNode, lowestNotOnce, lowestUnknown}
+use Rattle.question.specs.Walk.{emptyScope, faultsFound, judgeTree, judgeNodes, judged}
+use Rattle.question.specs.Accepted.{HasColumns, TableRight, AcceptedExactly, FaultsDecide}
+use Rattle.question.specs.Faults.{faultAt, unbound, unfit, lowestUnbound, lowestUnfit, judgedByFaults}
 use Rattle.question.specs.declared.judgement.Judgement.{Judgement}
 use Rattle.question.specs.declared.judgement.Judgement.the-variants.{Accepted, Refused}
 use Rattle.question.proofs.Counts.{counted}

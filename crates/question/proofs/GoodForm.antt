@@ -22,7 +22,7 @@ use Rattle.calculus.proofs.LegalColumns.{targets-columns}
 use Rattle.question.specs.Limits.{variableCount, operatorCount}
 use Rattle.question.specs.Nodes.{operandFits, atomFits}
 use Rattle.question.specs.Trees.{Tree, nothing, branch, operatorFor, operandOf, targetOf, atomOf, alphaOf, reading}
-use Rattle.question.specs.Scopes.{widthIn, emptyScope, addWidths, bind, opening, inside, operandUnbound, unboundAt, operandUnfit, unfitAt, targetWidth, lowestOf, foundAt, walk}
+use Rattle.question.specs.Walk.{widthIn, emptyScope, addWidths, bind, opening, inside, operandUnbound, unboundAt, operandUnfit, unfitAt, targetWidth, lowestOf, foundAt, walk}
 use Rattle.question.specs.declared.node.Operand.{Operand}
 use Rattle.question.specs.declared.node.Operand.the-variants.{Of, Fixed}
 use Rattle.question.specs.declared.node.Atom.{Atom}

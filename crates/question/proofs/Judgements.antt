@@ -10,7 +10,8 @@ use Rattle.relations.specs.Limits.{questionNodeLimit}
 use Rattle.catalogue.specs.Stored.{relationsOf}
 use Rattle.question.specs.Nodes.{nodeCount, nodeAt}
 use Rattle.question.specs.References.{lowest, notOnce, referencesTo}
-use Rattle.question.specs.Judgement.{isAlpha, isUnknown, lowestIllFormed, lastNode, lowestNotOnce, lowestUnknown, faultsFound, judgeTree, judgeNodes}
+use Rattle.question.specs.Judgement.{isAlpha, isUnknown, lowestIllFormed, lastNode, lowestNotOnce, lowestUnknown}
+use Rattle.question.specs.Walk.{faultsFound, judgeTree, judgeNodes}
 use Rattle.question.specs.declared.scope.Found.{Found}
 use Rattle.question.specs.declared.judgement.Judgement.{Judgement}
 use Rattle.question.specs.declared.judgement.Judgement.the-variants.{Accepted, Refused}

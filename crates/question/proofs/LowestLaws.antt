@@ -9,7 +9,7 @@ use borrow.Author.Tests.{eqb-true, eqb-false, ltb-true, ltb-false, lt-ltb}
 use Rattle.relations.specs.Limits.{questionNodeLimit}
 use Rattle.relations.proofs.BoolLaws.{true-or-false}
 use Rattle.question.specs.References.{firstFrom, lowest}
-use Rattle.question.specs.Scopes.{lowestOf}
+use Rattle.question.specs.Walk.{lowestOf}
 
 from-on : (f : ℕ → Bool) (k j : ℕ) → j ≤ firstFrom f k j
 unfolding firstFrom

@@ -18,7 +18,7 @@ use Rattle.calculus.specs.Scope.{ScopeEntry, entry, extend, columnsIn}
 use Rattle.calculus.specs.Form.{NotInScope}
 use Rattle.calculus.proofs.ScopeLaws.{columns-extend}
 use Rattle.question.specs.Limits.{variableCount}
-use Rattle.question.specs.Scopes.{widthIn, emptyScope, addWidths, boundWidth, bind}
+use Rattle.question.specs.Walk.{widthIn, emptyScope, addWidths, boundWidth, bind}
 use Rattle.question.specs.declared.scope.Scope.{Scope}
 
 abbrev pub HasWidth : ScopeEntry → Type 0

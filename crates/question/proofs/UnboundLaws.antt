@@ -19,8 +19,8 @@ use Rattle.question.specs.Nodes.{operandFits, atomFits, OperandVariableF
 use Rattle.question.specs.References.{lowest}
 use Rattle.question.specs.Trees.{Tree, nothing, branch, reading}
 use Rattle.question.specs.Roles.{roleOf}
-use Rattle.question.specs.Scopes.{widthIn, emptyScope, boundWidth, bind, opening, inside, unboundAt, lowestOf, walk}
-use Rattle.question.specs.Scopes as walks
+use Rattle.question.specs.Walk.{widthIn, emptyScope, boundWidth, bind, opening, inside, unboundAt, lowestOf, walk}
+use Rattle.question.specs.Walk as walks
 use Rattle.question.specs.Faults.{inScope, firstSees, restSee, operandUnbound, widthOf, boundBy, faultAt, unbound}
 use Rattle.question.specs.declared.node.Operand.{Operand}
 use Rattle.question.specs.declared.node.Operand.the-variants.{Of, Fixed}

@@ -25,8 +25,8 @@ use Rattle.question.specs.Nodes.{operandFits, atomFits, isTarget}
 use Rattle.question.specs.References.{lowest}
 use Rattle.question.specs.Trees.{Tree, nothing, branch, targetOf, alphaOf, reading}
 use Rattle.question.specs.Roles.{roleOf}
-use Rattle.question.specs.Scopes.{widthIn, emptyScope, addWidths, boundWidth, bind, opening, inside, unboundAt, unfitAt, targetWidth, lowestOf, walk}
-use Rattle.question.specs.Scopes as walks
+use Rattle.question.specs.Walk.{widthIn, emptyScope, addWidths, boundWidth, bind, opening, inside, unboundAt, unfitAt, targetWidth, lowestOf, walk}
+use Rattle.question.specs.Walk as walks
 use Rattle.question.specs.Faults.{firstSees, restSee, operandUnfit, widthOf, boundBy, faultAt, unfit}
 use Rattle.question.specs.declared.node.Operand.{Operand}
 use Rattle.question.specs.declared.node.Operand.the-variants.{Of, Fixed}

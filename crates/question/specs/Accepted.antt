@@ -1,4 +1,5 @@
--- What an accepted question is: a tree in `calculus`' good form, with as many nodes as its table; and that every such table is accepted. Assumes nothing.
+-- What is claimed of a question's judgement. An accepted question is a tree in `calculus`' good form, with as many nodes as its table; every such table is accepted;
+-- and what the code's walk gives is the judgement by faults. Assumes nothing.
 use mathlib.Core.Path.{_≡_}
 use mathlib.Core.Bool.{true, false}
 use mathlib.Core.List.{List}
@@ -11,6 +12,8 @@ use Rattle.question.specs.References.{referencesTo, seen}
 use Rattle.catalogue.specs.Stored.{relationsOf, columnsOf}
 use Rattle.question.specs.Trees.{questionOf}
 use Rattle.question.specs.Judgement.{countOk, isAlpha, isUnknown, lastNode}
+use Rattle.question.specs.Faults.{judgedByFaults}
+use Rattle.question.specs.Walk.{judged}
 use Rattle.question.specs.declared.judgement.Judgement.{Judgement}
 use Rattle.question.specs.declared.judgement.Judgement.the-variants.{Accepted}
 
@@ -35,9 +38,13 @@ pub record TableRight (catalogue words : List ℕ) : Type 0 where
   -- 4: "unknown relation"
   pub known : (i : ℕ) → i < nodeCount words → isUnknown (relationsOf catalogue) (nodeAt words i) ≡ false
 
--- A judgement accepts a table exactly when lines 1 to 4 are not given and the tree is in good form: 5 and 6 refuse nothing else. Proved in
+-- A judgement accepts a table exactly when lines 1 to 4 are not given and the tree is in good form: 5 and 6 refuse all else, and nothing more. Proved in
 -- proofs/FaultsDecide.antt of the judgement by faults, and in proofs/Accepted.antt of the walk's.
 pub record AcceptedExactly (judgement : Judgement) (catalogue words : List ℕ) : Type 0 where
   pub table-right : judgement ≡ Accepted → TableRight catalogue words
   pub good-form : judgement ≡ Accepted → GoodRange (columnsOf catalogue) (relationsOf catalogue) (questionOf words)
   pub accepted : TableRight catalogue words → GoodRange (columnsOf catalogue) (relationsOf catalogue) (questionOf words) → judgement ≡ Accepted
+
+-- What the code's walk gives is the judgement by faults, where no relation of the catalogue is without columns. Proved in proofs/FaultsDecide.antt.
+abbrev pub FaultsDecide : (catalogue words : List ℕ) → Type 0
+FaultsDecide catalogue words = judged catalogue words ≡ judgedByFaults catalogue words

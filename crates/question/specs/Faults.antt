@@ -1,7 +1,6 @@
 -- Document 01, refusals 5 and 6: the scope in which each node stands, the faults that it can have there, and the lowest node at fault.
 -- Scopes and widths are `calculus`': for each variable in scope, from left to right, the width of its rows. Assumes nothing.
 use Prim.Native.Nat.{ℕ, _+_}
-use mathlib.Core.Path.{_≡_}
 use mathlib.Core.List.{List, [], _∷_}
 use mathlib.Core.Bool.{Bool, false, cond, not, _&&_, _||_}
 use lib.Dec.{ltb, eqb}
@@ -13,7 +12,7 @@ use Rattle.question.specs.Nodes.{nodeCount, nodeAt}
 use Rattle.question.specs.References.{lowest}
 use Rattle.question.specs.Trees.{Tree, nothing, branch, reading, questionTree}
 use Rattle.question.specs.Roles.{Role, stored, alpha, takes, binds, sides, compares, joins, roleOf}
-use Rattle.question.specs.Judgement.{countOk, isAlpha, lowestIllFormed, lastNode, lowestNotOnce, lowestUnknown, judged}
+use Rattle.question.specs.Judgement.{countOk, isAlpha, lowestIllFormed, lastNode, lowestNotOnce, lowestUnknown}
 use Rattle.question.specs.declared.node.Operand.{Operand}
 use Rattle.question.specs.declared.node.Operand.the-variants.{Of, Fixed}
 use Rattle.question.specs.declared.judgement.Judgement.{Judgement}
@@ -110,7 +109,3 @@ module _ (catalogue words : List ℕ) where
       Accepted)))
       (Refused 3 (lastNode words)))))
       (Refused 1 0)
-
--- What the code promises of a question, where no relation of the catalogue is without columns (refusal 7). Proved in proofs/FaultsDecide.antt.
-abbrev pub FaultsDecide : (catalogue words : List ℕ) → Type 0
-FaultsDecide catalogue words = judged catalogue words ≡ judgedByFaults catalogue words

@@ -6,7 +6,7 @@ ghost use Rattle.question.specs.Limits.{variableCount};
 ghost use Rattle.question.specs.Nodes.{VariableFits, OperandVariableFits};
 ghost use Rattle.catalogue.specs.Stored.{columnsOf};
 ghost use Rattle.question.specs.Trees.{treeOf};
-ghost use Rattle.question.specs.Scopes.{widthIn, addWidths, emptyScope, boundWidth, bind, opening, inside, operandUnbound, unboundAt, operandUnfit, unfitAt, targetWidth, widthOf, lowestOf, walk};
+ghost use Rattle.question.specs.Walk.{widthIn, addWidths, emptyScope, boundWidth, bind, opening, inside, operandUnbound, unboundAt, operandUnfit, unfitAt, targetWidth, widthOf, lowestOf, walk};
 use crate::limits::COLUMNS;
 use crate::limits::NODES;
 use crate::node::Node;

@@ -24,7 +24,8 @@ use Rattle.catalogue.specs.Stored.{relationsOf, columnsOf}
 use Rattle.catalogue.proofs.TableLaws.{known-columns}
 use Rattle.question.specs.Accepted.{QuestionRight}
 use Rattle.question.specs.Nodes.{nodeCount}
-use Rattle.question.specs.Judgement.{countOk, judgeCount, judged}
+use Rattle.question.specs.Judgement.{countOk, judgeCount}
+use Rattle.question.specs.Walk.{judged}
 use Rattle.question.specs.Trees.{questionOf}
 use Rattle.question.specs.declared.judgement.Judgement.{Judgement}
 use Rattle.question.specs.declared.judgement.Judgement.the-variants.{Accepted, Refused}

@@ -4,7 +4,7 @@ ghost use mathlib.Core.Bool.{true};
 ghost use Prim.Native.Nat.{_≤_};
 ghost use lib.ListN.{length};
 ghost use Rattle.catalogue.specs.Judging.{catalogueOk};
-ghost use Rattle.question.specs.Judgement.{judged};
+ghost use Rattle.question.specs.Walk.{judged};
 ghost use Rattle.question.specs.declared.judgement.Judgement.the-variants.{Accepted};
 ghost use Rattle.translation.specs.TranslateCall.{translateNumbers, planBufferWords, written, behindCatalogue, translateOutcome};
 use catalogue::judging::Judged;

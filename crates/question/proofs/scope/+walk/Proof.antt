@@ -1,6 +1,6 @@
 -- `question::scope::walk` meets its contract. The measure is the reference, which is above those of its node. With none the walk finds nothing;
 -- any other reference's tree is its node over the trees of that node's references (`tree-of-reference`), and each call gives its part of the definition. Assumes nothing.
-use Rattle.question.specs.Scopes.{walk as walkOf}
+use Rattle.question.specs.Walk.{walk as walkOf}
 use Rattle.question.proofs.TreeLaws.{tree-of-reference, tree-of-none}
 use Rattle.question.proofs.Forms.{node-lower, node-variable}
 use Rattle.question.specs.declared.references.References.{References}
