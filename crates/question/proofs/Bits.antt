@@ -193,3 +193,22 @@ placed ws o t h m =
 
 pub one-shifted : (w : ℕ) → w ≤ 64 → 0 < w → 1 * 2 ^ (w - 1) % 18446744073709551616 ≡ 2 ^ (w - 1)
 one-shifted w h p = ap (λ (x : ℕ). x % 18446744073709551616) (one-mul (2 ^ (w - 1))) ∙ mod-eq-of-lt (pow-lt {i = w - 1} {j = 64} (omega arith))
+
+-- Digits name a number: `see` and `see_all` promise one pair of masks.
+halved : (x j : ℕ) → bit (x / 2) j ≡ bit x (suc j)
+halved x j = let next : 1 + j ≡ suc j = omega arith in ap (λ (y : ℕ). y % 2) (shr-shr x 1 j ∙ ap (λ (i : ℕ). x / 2 ^ i) next)
+
+same-bits : (most a b : ℕ) → a ≤ most → b ≤ most → ((j : ℕ) → bit a j ≡ bit b j) → a ≡ b
+same-bits zero a b h k same = omega arith
+same-bits (suc most) a b h k same =
+    let halves : a / 2 ≡ b / 2 = same-bits most (a / 2) (b / 2) (omega arith) (omega arith) (λ j. halved a j ∙ same (suc j) ∙ sym (halved b j)) in
+    let last : a % 2 ≡ b % 2 = ap (λ (x : ℕ). x % 2) (sym (div-one a)) ∙ same 0 ∙ ap (λ (x : ℕ). x % 2) (div-one b) in
+    omega arith
+
+pub one-stepped : (o t reference : ℕ) {o' t' o″ t″ : ℕ} → Stepped o t reference o' t' → Stepped o t reference o″ t″ → (o' ≡ o″) × (t' ≡ t″)
+one-stepped o t reference {o'} {t'} {o″} {t″} one other =
+    (same-bits (o' + o″) o' o″ (omega arith) (omega arith) (λ j. one .once j ∙ sym (other .once j)), same-bits (t' + t″) t' t″ (omega arith) (omega arith) (λ j. one .twice j ∙ sym (other .twice j)))
+
+pub one-marks : (references : List ℕ) {o t o' t' : ℕ} → Marks o t references → Marks o' t' references → (o ≡ o') × (t ≡ t')
+one-marks references {o} {t} {o'} {t'} one other =
+    (same-bits (o + o') o o' (omega arith) (omega arith) (λ j. one .once j ∙ sym (other .once j)), same-bits (t + t') t t' (omega arith) (omega arith) (λ j. one .twice j ∙ sym (other .twice j)))
