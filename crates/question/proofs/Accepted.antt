@@ -15,7 +15,7 @@ use Rattle.question.specs.References.{referencesTo, seen, firstFrom, low
 use Rattle.catalogue.specs.Stored.{relationsOf, columnsOf}
 use Rattle.question.specs.Trees.{treeOf, treeNodes, questionOf}
 use Rattle.question.specs.Judgement.{countOk, isAlpha, isUnknown, lowestIllFormed, lastNode, lowestNotOnce, lowestUnknown}
-use Rattle.question.specs.Walk.{emptyScope, faultsFound, judgeTree, judgeNodes, judged}
+use Rattle.question.specs.Walk.{noWidths, faultsFound, judgeTree, judgeNodes, judged}
 use Rattle.question.specs.Accepted.{HasColumns, QuestionRight, TableRight, AcceptedExactly}
 use Rattle.question.specs.declared.node.Node.{Node}
 use Rattle.question.specs.declared.node.Node.the-variants.{Table, Alpha, Target, Binding, RangeOr, RangeAnd, RangeAndNot, Atom as AtomNode, And, Or, Not, Some, Every, IllFormed}
@@ -173,7 +173,7 @@ accepted-right catalogue words has h =
     let tree : RangeTree (relationsOf catalogue) (treeOf words n) = right-tree catalogue words t in
     let size : rangeNodes (questionOf words) ≡ n = range-nodes tree ∙ ap (λ (k : ℕ). treeNodes (treeOf words k)) e ∙ whole-table words last once ∙ sym e in
     record {
-      good = range-good (columnsOf catalogue) (relationsOf catalogue) has tree emptyScope (p .clean) .good;
+      good = range-good (columnsOf catalogue) (relationsOf catalogue) has tree noWidths (p .clean) .good;
       whole = size;
       few = omega (arith, size, c .few);
     }
@@ -184,5 +184,5 @@ accepted-exactly catalogue words has =
       table-right = λ h. passed-right catalogue words (accepted-passed catalogue words h);
       good-form = λ h. accepted-right catalogue words has h .good;
       accepted = λ t good.
-          passed-accepted catalogue words (right-passed catalogue words t (range-clean (columnsOf catalogue) (relationsOf catalogue) has (right-tree catalogue words t) emptyScope good));
+          passed-accepted catalogue words (right-passed catalogue words t (range-clean (columnsOf catalogue) (relationsOf catalogue) has (right-tree catalogue words t) noWidths good));
     }

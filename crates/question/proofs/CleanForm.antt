@@ -19,13 +19,13 @@ use Rattle.calculus.specs.Form as form
 use Rattle.question.specs.Limits.{variableCount, operatorCount}
 use Rattle.question.specs.Nodes.{operandFits, atomFits}
 use Rattle.question.specs.Trees.{Tree, nothing, branch, operatorFor, operandOf, targetOf, atomOf, alphaOf, reading}
-use Rattle.question.specs.Walk.{widthIn, emptyScope, addWidths, bind, opening, inside, operandUnbound, unboundAt, operandUnfit, unfitAt, lowestOf, walk}
+use Rattle.question.specs.Walk.{widthKept, noWidths, addWidths, bind, opening, inside, operandUnboundAt, unboundAt, operandUnfitAt, unfitAt, lowestOf, walk}
 use Rattle.question.specs.declared.node.Operand.{Operand}
 use Rattle.question.specs.declared.node.Operand.the-variants.{Of, Fixed}
 use Rattle.question.specs.declared.node.Atom.{Atom}
 use Rattle.question.specs.declared.node.Node.{Node}
 use Rattle.question.specs.declared.node.Node.the-variants.{Table, Alpha, Target, Binding, RangeOr, RangeAnd, RangeAndNot, Atom as AtomNode, And, Or, Not, Some, Every}
-use Rattle.question.specs.declared.scope.Scope.{Scope}
+use Rattle.question.specs.declared.scope.ScopeWidths.{ScopeWidths}
 use Rattle.question.specs.declared.scope.Found.{Found}
 use Rattle.question.proofs.Forms.{first-of}
 use Rattle.question.proofs.SortedTrees.{RangeTree, tableTree, alphaTree, orTree, andTree, andNotTree, TargetTree, targetTree, TargetsIfAny, noTarget, moreTargets, BindingTree, bindingTree, BindingsIfAny, noBinding, moreBindings, ConditionTree, atomTree, bothTree, eitherTree, notTree, someTree, everyTree, ConditionIfAny, withoutCondition, withCondition}
@@ -38,7 +38,7 @@ none-lower true i first second third h a b c = absurd (true≢false h)
 none-lower false i first second third h a b c = omega arith
 
 -- no fault at a node, and none below it
-clean-at : (columns : ℕ → ℕ) (i : ℕ) (node : Node) (x y z : Tree) (scope : Scope)
+clean-at : (columns : ℕ → ℕ) (i : ℕ) (node : Node) (x y z : Tree) (scope : ScopeWidths)
     → unboundAt node scope ≡ false
     → unfitAt node scope (walk columns x (opening node scope) .width) (walk columns y (inside node scope (walk columns x (opening node scope))) .width) ≡ false
     → Clean (walk columns x (opening node scope)) → Clean (walk columns y (inside node scope (walk columns x (opening node scope)))) → Clean (walk columns z (inside node scope (walk columns x (opening node scope))))
@@ -53,7 +53,7 @@ clean-at columns i node x y z scope bound fit a b c =
       fit = none-lower (unfitAt node scope (first .width) (second .width)) i (first .unfit) (second .unfit) (third .unfit) fit (a .fit) (b .fit) (c .fit);
     }
 
-clean-none : (columns : ℕ → ℕ) (scope : Scope) → Clean (walk columns nothing scope)
+clean-none : (columns : ℕ → ℕ) (scope : ScopeWidths) → Clean (walk columns nothing scope)
 unfolding walk
 clean-none columns scope = record { bound = omega arith; fit = omega arith }
 
@@ -66,21 +66,21 @@ both-clear : (a b : Bool) → a ≡ false → b ≡ false → (a || b) ≡ false
 both-clear true b h k = h
 both-clear false b h k = k
 
-module _ {scope : Scope} {s : scopes.Scope} (shows : Shows scope s) where
-  not-bound : (v : ℕ) → v < variableCount → NotInScope v s → ltb 0 (widthIn scope v) ≡ false
-  not-bound v small new = le-ltb 0 (widthIn scope v) (omega (arith, shows .shown v small, absent v s new))
+module _ {scope : ScopeWidths} {s : scopes.Scope} (shows : Shows scope s) where
+  not-bound : (v : ℕ) → v < variableCount → NotInScope v s → ltb 0 (widthKept scope v) ≡ false
+  not-bound v small new = le-ltb 0 (widthKept scope v) (omega (arith, shows .shown v small, absent v s new))
 
-  in-scope : (v : ℕ) → v < variableCount → 1 ≤ scopes.widthIn s v → eqb (widthIn scope v) 0 ≡ false
-  in-scope v small h = ne-eqb (widthIn scope v) 0 (λ e. omega (arith, e, shows .shown v small))
+  in-scope : (v : ℕ) → v < variableCount → 1 ≤ scopes.widthIn s v → eqb (widthKept scope v) 0 ≡ false
+  in-scope v small h = ne-eqb (widthKept scope v) 0 (λ e. omega (arith, e, shows .shown v small))
 
-  has-attribute : (v a : ℕ) → v < variableCount → a ≤ scopes.widthIn s v → ltb (widthIn scope v) a ≡ false
-  has-attribute v a small h = le-ltb (widthIn scope v) a (omega (arith, shows .shown v small))
+  has-attribute : (v a : ℕ) → v < variableCount → a ≤ scopes.widthIn s v → ltb (widthKept scope v) a ≡ false
+  has-attribute v a small h = le-ltb (widthKept scope v) a (omega (arith, shows .shown v small))
 
   -- an atom's operand, and the atom
   record OperandClean (v a : ℕ) (operand : Operand) : Type 0 where
     known : Known s v a
-    operand-bound : operandUnbound scope operand ≡ false
-    operand-fit : operandUnfit scope operand ≡ false
+    operand-bound : operandUnboundAt scope operand ≡ false
+    operand-fit : operandUnfitAt scope operand ≡ false
 
   clean-operand : (v a : ℕ) (operator : Operator) (operand : Operand) → operandFits operand ≡ true → GoodAtom s (calculus.compare v (attribute a) operator (operandOf operand)) → OperandClean v a operand
   clean-operand v a operator (Of other b) fits good =
@@ -103,13 +103,13 @@ module _ {scope : Scope} {s : scopes.Scope} (shows : Shows scope s) where
       ltb-true (atom .variable) variableCount (first-of v a b (first-of (v && a && b) p q (and-left (v && a && b && p && q) (operandFits (atom .operand)) fits))) in
       let o = clean-operand (atom .variable) (atom .attribute .0) (operatorFor (operatorOf (atom .operator))) (atom .operand) (and-right (v && a && b && p && q) (operandFits (atom .operand)) fits) good in
       record {
-        atom-bound = both-clear (eqb (widthIn scope (atom .variable)) 0) (operandUnbound scope (atom .operand)) (in-scope (atom .variable) small (omega (arith, o .known .0, o .known .1))) (o .operand-bound);
-        atom-fit = both-clear (ltb (widthIn scope (atom .variable)) (atom .attribute .0)) (operandUnfit scope (atom .operand)) (has-attribute (atom .variable) (atom .attribute .0) small (o .known .1)) (o .operand-fit);
+        atom-bound = both-clear (eqb (widthKept scope (atom .variable)) 0) (operandUnboundAt scope (atom .operand)) (in-scope (atom .variable) small (omega (arith, o .known .0, o .known .1))) (o .operand-bound);
+        atom-fit = both-clear (ltb (widthKept scope (atom .variable)) (atom .attribute .0)) (operandUnfitAt scope (atom .operand)) (has-attribute (atom .variable) (atom .attribute .0) small (o .known .1)) (o .operand-fit);
       }
 
   record TargetClean (v a : ℕ) : Type 0 where
-    target-bound : eqb (widthIn scope v) 0 ≡ false
-    target-fit : ltb (widthIn scope v) a ≡ false
+    target-bound : eqb (widthKept scope v) 0 ≡ false
+    target-fit : ltb (widthKept scope v) a ≡ false
 
   clean-target : (v a : ℕ) → v < variableCount → GoodTarget s (targetOf v a) → TargetClean v a
   clean-target v zero small good = record { target-bound = in-scope v small good; target-fit = has-attribute v 0 small (omega arith) }
@@ -141,14 +141,14 @@ module _ (columns : ℕ → ℕ) (relations : ℕ) where
     mutual
       unfolding GoodRange widthOfRange reading walk
 
-      pub range-clean : {tree : Tree} → RangeTree relations tree → (scope : Scope) → GoodRange columns relations (reading tree .range) → Clean (walk columns tree scope)
+      pub range-clean : {tree : Tree} → RangeTree relations tree → (scope : ScopeWidths) → GoodRange columns relations (reading tree .range) → Clean (walk columns tree scope)
       range-clean (tableTree {i = i} {relation = relation} h) scope good = clean-at columns i (Table relation) nothing nothing nothing scope refl refl (clean-none columns scope) (clean-none columns scope) (clean-none columns scope)
       range-clean (alphaTree {i = i} {a = a} {b = b} {c = c} {x = x} {y = y} {z = z} small bs ts f) scope good =
-          let first : Found = walk columns x emptyScope in
+          let first : Found = walk columns x noWidths in
           let P = alpha-parts bs (reading y .targets) (reading z .restriction) good in
           let s : scopes.Scope = scopeOfBindings columns (reading x .bindings) [] in
-          let cx = binding-clean bs emptyScope [] shows-empty (P .good-bindings) in
-          let B = binding-good columns relations has-columns bs emptyScope [] shows-empty cx in
+          let cx = binding-clean bs noWidths [] shows-empty (P .good-bindings) in
+          let B = binding-good columns relations has-columns bs noWidths [] shows-empty cx in
           let cy = target-clean ts (first .scope) s (B .shows-after) (P .good-targets) in
           let T = target-good columns relations has-columns ts (first .scope) s (B .shows-after) cy in
           let w : walk columns y (first .scope) .width ≤ columnLimit = omega (arith, T .wide, P .narrow) in
@@ -166,16 +166,16 @@ module _ (columns : ℕ → ℕ) (relations : ℕ) where
           let cy = range-clean t scope (good .1) in
           clean-at columns i (RangeAndNot a b) x y nothing scope refl (same-widths (range-good columns relations has-columns r scope cx) (range-good columns relations has-columns t scope cy) (good .2)) cx cy (clean-none columns scope)
 
-      target-clean : {tree : Tree} → TargetTree relations tree → (scope : Scope) (s : scopes.Scope) → Shows scope s → All (GoodTarget s) (reading tree .targets) → Clean (walk columns tree scope)
+      target-clean : {tree : Tree} → TargetTree relations tree → (scope : ScopeWidths) (s : scopes.Scope) → Shows scope s → All (GoodTarget s) (reading tree .targets) → Clean (walk columns tree scope)
       target-clean (targetTree {i = i} {v = v} {a = a} {b = b} {x = x} small inside ts) scope s shows good =
           let t = clean-target shows v a inside (good .0) in
           clean-at columns i (Target v a b) x nothing nothing scope (t .target-bound) (t .target-fit) (targets-clean ts scope s shows (good .1)) (clean-none columns scope) (clean-none columns scope)
 
-      targets-clean : {tree : Tree} → TargetsIfAny relations tree → (scope : Scope) (s : scopes.Scope) → Shows scope s → All (GoodTarget s) (reading tree .targets) → Clean (walk columns tree scope)
+      targets-clean : {tree : Tree} → TargetsIfAny relations tree → (scope : ScopeWidths) (s : scopes.Scope) → Shows scope s → All (GoodTarget s) (reading tree .targets) → Clean (walk columns tree scope)
       targets-clean noTarget scope s shows good = clean-none columns scope
       targets-clean (moreTargets ts) scope s shows good = target-clean ts scope s shows good
 
-      binding-clean : {tree : Tree} → BindingTree relations tree → (scope : Scope) (s : scopes.Scope) → Shows scope s → GoodBindings columns relations (reading tree .bindings) s → Clean (walk columns tree scope)
+      binding-clean : {tree : Tree} → BindingTree relations tree → (scope : ScopeWidths) (s : scopes.Scope) → Shows scope s → GoodBindings columns relations (reading tree .bindings) s → Clean (walk columns tree scope)
       binding-clean (bindingTree {i = i} {v = v} {a = a} {b = b} {x = x} {y = y} small inside r bs) scope s shows good =
           let first : Found = walk columns x scope in
           let cx = range-clean r scope (good .1) in
@@ -185,11 +185,11 @@ module _ (columns : ℕ → ℕ) (relations : ℕ) where
           let K = binder columns relations v inside shows R new fit in
           clean-at columns i (Binding v a b) x y nothing scope new fit cx (bindings-clean bs (bind scope v (first .width)) (extend s v (widthOfRange columns (reading x .range))) (K .shows-next) (good .2)) (clean-none columns (bind scope v (first .width)))
 
-      bindings-clean : {tree : Tree} → BindingsIfAny relations tree → (scope : Scope) (s : scopes.Scope) → Shows scope s → GoodBindings columns relations (reading tree .bindings) s → Clean (walk columns tree scope)
+      bindings-clean : {tree : Tree} → BindingsIfAny relations tree → (scope : ScopeWidths) (s : scopes.Scope) → Shows scope s → GoodBindings columns relations (reading tree .bindings) s → Clean (walk columns tree scope)
       bindings-clean noBinding scope s shows good = clean-none columns scope
       bindings-clean (moreBindings b) scope s shows good = binding-clean b scope s shows good
 
-      condition-clean : {tree : Tree} → ConditionTree relations tree → (scope : Scope) (s : scopes.Scope) → Shows scope s → GoodCondition columns relations (reading tree .condition) s → Clean (walk columns tree scope)
+      condition-clean : {tree : Tree} → ConditionTree relations tree → (scope : ScopeWidths) (s : scopes.Scope) → Shows scope s → GoodCondition columns relations (reading tree .condition) s → Clean (walk columns tree scope)
       condition-clean (atomTree {i = i} {atom = atom} small fit) scope s shows good =
           let t = clean-atom shows atom fit good in
           clean-at columns i (AtomNode atom) nothing nothing nothing scope (t .atom-bound) (t .atom-fit) (clean-none columns scope) (clean-none columns scope) (clean-none columns scope)
@@ -216,6 +216,6 @@ module _ (columns : ℕ → ℕ) (relations : ℕ) where
           let K = binder columns relations v inside shows R new fit in
           clean-at columns i (Every v a b) x y nothing scope new fit cx (condition-clean f (bind scope v (first .width)) (extend s v (widthOfRange columns (reading x .range))) (K .shows-next) (good .2)) (clean-none columns (bind scope v (first .width)))
 
-      maybe-clean : {tree : Tree} → ConditionIfAny relations tree → (scope : Scope) (s : scopes.Scope) → Shows scope s → GoodMaybe columns relations (reading tree .restriction) s → Clean (walk columns tree scope)
+      maybe-clean : {tree : Tree} → ConditionIfAny relations tree → (scope : ScopeWidths) (s : scopes.Scope) → Shows scope s → GoodMaybe columns relations (reading tree .restriction) s → Clean (walk columns tree scope)
       maybe-clean withoutCondition scope s shows good = clean-none columns scope
       maybe-clean (withCondition f) scope s shows good = condition-clean f scope s shows (rw (restriction-is f) at good)

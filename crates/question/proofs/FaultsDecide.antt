@@ -14,7 +14,7 @@ use Rattle.question.specs.Nodes.{nodeCount, nodeAt}
 use Rattle.question.specs.References.{lowest}
 use Rattle.question.specs.Trees.{questionTree}
 use Rattle.question.specs.Judgement.{countOk, isAlpha, lowestIllFormed, lastNode, lowestNotOnce, lowestUnknown}
-use Rattle.question.specs.Walk.{emptyScope, faultsFound, judgeTree, judgeNodes, judged}
+use Rattle.question.specs.Walk.{noWidths, faultsFound, judgeTree, judgeNodes, judged}
 use Rattle.question.specs.Accepted.{HasColumns, TableRight, AcceptedExactly, FaultsDecide}
 use Rattle.question.specs.Faults.{faultAt, unbound, unfit, lowestUnbound, lowestUnfit, judgedByFaults}
 use Rattle.question.specs.declared.judgement.Judgement.{Judgement}
@@ -64,11 +64,11 @@ module _ (catalogue words : List ℕ) (has : HasColumns catalogue) where
       let tree = right-tree catalogue words t in
       settled (λ i. faultAt columns (unbound columns) (questionTree words) [] i) n (faultsFound catalogue words .unbound) 5 few
       (λ j h. fault-within columns (unbound columns) n (questionTree words) [] j (ordered words n) h)
-      (five.range-in columns (relationsOf catalogue) tree emptyScope [])
+      (five.range-in columns (relationsOf catalogue) tree noWidths [])
       (λ bound.
       settled (λ i. faultAt columns (unfit columns) (questionTree words) [] i) n (faultsFound catalogue words .unfit) 6 few
       (λ j h. fault-within columns (unfit columns) n (questionTree words) [] j (ordered words n) h)
-      (six.range-in columns (relationsOf catalogue) has tree n (ordered words n) emptyScope [] bound .unfit-is)
+      (six.range-in columns (relationsOf catalogue) has tree n (ordered words n) noWidths [] bound .unfit-is)
       (λ fit. refl))
 
   pub faults-decide : FaultsDecide catalogue words

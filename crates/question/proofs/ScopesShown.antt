@@ -18,19 +18,19 @@ use Rattle.calculus.specs.Scope.{ScopeEntry, entry, extend, columnsIn}
 use Rattle.calculus.specs.Form.{NotInScope}
 use Rattle.calculus.proofs.ScopeLaws.{columns-extend}
 use Rattle.question.specs.Limits.{variableCount}
-use Rattle.question.specs.Walk.{widthIn, emptyScope, addWidths, boundWidth, bind}
-use Rattle.question.specs.declared.scope.Scope.{Scope}
+use Rattle.question.specs.Walk.{widthKept, noWidths, addWidths, boundWidth, bind}
+use Rattle.question.specs.declared.scope.ScopeWidths.{ScopeWidths}
 
 abbrev pub HasWidth : ScopeEntry → Type 0
 HasWidth (entry variable width) = 1 ≤ width
 
-pub record Shows (scope : Scope) (s : calculus.Scope) : Type 0 where
-  pub shown : (v : ℕ) → v < variableCount → widthIn scope v ≡ calculus.widthIn s v
+pub record Shows (scope : ScopeWidths) (s : calculus.Scope) : Type 0 where
+  pub shown : (v : ℕ) → v < variableCount → widthKept scope v ≡ calculus.widthIn s v
   pub room : length (scope .widths) ≡ variableCount
   pub all-columns : scope .columns ≡ columnsIn s
   pub have-widths : All HasWidth s
 
-pub shows-empty : Shows emptyScope []
+pub shows-empty : Shows noWidths []
 shows-empty =
     record { shown = λ v h. getD-replicate variableCount v 0 0 h; room = length-replicate {A = ℕ} variableCount 0; all-columns = refl; have-widths = tt }
 
@@ -52,7 +52,7 @@ width-extend (entry x k ∷ s) v w u f = go (true-or-false (eqb u x)) (width-ext
     go (inl e) ih = rw (e, ne-eqb u v (λ q. eqb-false v x (f .0) (sym q ∙ eqb-true u x e)))
     go (inr e) ih = rw e ih
 
-pub shows-bind : {scope : Scope} {s : calculus.Scope} (v w : ℕ) → Shows scope s → v < variableCount → NotInScope v s → 1 ≤ w → addWidths (scope .columns) w ≤ columnLimit → Shows (bind scope v w) (extend s v w)
+pub shows-bind : {scope : ScopeWidths} {s : calculus.Scope} (v w : ℕ) → Shows scope s → v < variableCount → NotInScope v s → 1 ≤ w → addWidths (scope .columns) w ≤ columnLimit → Shows (bind scope v w) (extend s v w)
 unfolding addWidths
 shows-bind {scope} {s} v w shows small new some fit =
     record {

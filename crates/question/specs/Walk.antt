@@ -16,17 +16,17 @@ use Rattle.question.specs.Judgement.{countOk, isAlpha, lowestIllFormed, 
 use Rattle.question.specs.declared.node.Operand.{Operand}
 use Rattle.question.specs.declared.node.Operand.the-variants.{Of, Fixed}
 use Rattle.question.specs.declared.node.Node.{Node}
-use Rattle.question.specs.declared.scope.Scope.{Scope}
+use Rattle.question.specs.declared.scope.ScopeWidths.{ScopeWidths}
 use Rattle.question.specs.declared.scope.Found.{Found}
 use Rattle.question.specs.declared.judgement.Judgement.{Judgement}
 use Rattle.question.specs.declared.judgement.Judgement.the-variants.{Accepted, Refused}
 
 -- A scope has for each variable the width of its rows, 0 where it is not in scope.
-abbrev pub widthIn : Scope → ℕ → ℕ
-widthIn scope variable = getD (scope .widths) variable 0
+abbrev pub widthKept : ScopeWidths → ℕ → ℕ
+widthKept scope variable = getD (scope .widths) variable 0
 
-abbrev pub emptyScope : Scope
-emptyScope = record { widths = replicate variableCount 0; columns = 0 }
+abbrev pub noWidths : ScopeWidths
+noWidths = record { widths = replicate variableCount 0; columns = 0 }
 
 -- a sum over 32 counts as 33, which changes no place
 unfoldable pub addWidths : ℕ → ℕ → ℕ
@@ -37,29 +37,29 @@ addWidths a b = min (suc columnLimit) (a + b)
 abbrev pub boundWidth : ℕ → ℕ
 boundWidth width = max 1 width
 
-abbrev pub bind : Scope → ℕ → ℕ → Scope
+abbrev pub bind : ScopeWidths → ℕ → ℕ → ScopeWidths
 bind scope variable width = record { widths = set (scope .widths) variable (boundWidth width); columns = addWidths (scope .columns) width }
 
-abbrev pub operandUnbound : Scope → Operand → Bool
-operandUnbound scope (Of variable attribute) = eqb (widthIn scope variable) 0
-operandUnbound scope (Fixed constant) = false
+abbrev pub operandUnboundAt : ScopeWidths → Operand → Bool
+operandUnboundAt scope (Of variable attribute) = eqb (widthKept scope variable) 0
+operandUnboundAt scope (Fixed constant) = false
 
-abbrev pub operandUnfit : Scope → Operand → Bool
-operandUnfit scope (Of variable attribute) = ltb (widthIn scope variable) (attribute .0)
-operandUnfit scope (Fixed constant) = false
+abbrev pub operandUnfitAt : ScopeWidths → Operand → Bool
+operandUnfitAt scope (Of variable attribute) = ltb (widthKept scope variable) (attribute .0)
+operandUnfitAt scope (Fixed constant) = false
 
-abbrev pub targetWidth : Scope → (variable attribute : ℕ) → ℕ
-targetWidth scope variable attribute = cond (eqb attribute 0) (widthIn scope variable) 1
+abbrev pub targetWidthKept : ScopeWidths → (variable attribute : ℕ) → ℕ
+targetWidthKept scope variable attribute = cond (eqb attribute 0) (widthKept scope variable) 1
 
-abbrev pub takenWidth : Scope → Operand → ℕ
-takenWidth scope (Of variable attribute) = targetWidth scope variable (attribute .0)
+abbrev pub takenWidth : ScopeWidths → Operand → ℕ
+takenWidth scope (Of variable attribute) = targetWidthKept scope variable (attribute .0)
 takenWidth scope (Fixed constant) = 1
 
 -- What the walk asks of a node that stands in a scope.
 pub record Step : Type 0 where
   -- the scope of its first part, and that of the others, from what the first one gave
-  pub opening : Scope
-  pub inside : Found → Scope
+  pub opening : ScopeWidths
+  pub inside : Found → ScopeWidths
   -- whether it is at fault by 5; by 6, from the widths of its first two parts
   pub unbound : Bool
   pub unfit : (first second : ℕ) → Bool
@@ -67,56 +67,56 @@ pub record Step : Type 0 where
   pub width : (columns : ℕ → ℕ) (first second : ℕ) → ℕ
 
 -- a node whose parts see what it sees
-abbrev pub stay : Scope → Bool → ((first second : ℕ) → Bool) → ((columns : ℕ → ℕ) (first second : ℕ) → ℕ) → Step
+abbrev pub stay : ScopeWidths → Bool → ((first second : ℕ) → Bool) → ((columns : ℕ → ℕ) (first second : ℕ) → ℕ) → Step
 stay scope unbound unfit width = record { opening = scope; inside = λ first. scope; unbound = unbound; unfit = unfit; width = width }
 
-abbrev pub stepOf : Scope → Role → Step
+abbrev pub stepOf : ScopeWidths → Role → Step
 stepOf scope (stored relation) = stay scope false (λ first second. false) (λ columns first second. columns relation)
-stepOf scope alpha = record { opening = emptyScope; inside = λ first. first .scope; unbound = false; unfit = λ first second. ltb columnLimit second; width = λ columns first second. second }
-stepOf scope (takes operand) = stay scope (operandUnbound scope operand) (λ first second. operandUnfit scope operand) (λ columns first second. addWidths (takenWidth scope operand) first)
+stepOf scope alpha = record { opening = noWidths; inside = λ first. first .scope; unbound = false; unfit = λ first second. ltb columnLimit second; width = λ columns first second. second }
+stepOf scope (takes operand) = stay scope (operandUnboundAt scope operand) (λ first second. operandUnfitAt scope operand) (λ columns first second. addWidths (takenWidth scope operand) first)
 stepOf scope (binds variable) =
     record {
       opening = scope;
       inside = λ first. bind scope variable (first .width);
-      unbound = ltb 0 (widthIn scope variable);
+      unbound = ltb 0 (widthKept scope variable);
       unfit = λ first second. ltb columnLimit (addWidths (scope .columns) first);
       width = λ columns first second. 0;
     }
 stepOf scope sides = stay scope false (λ first second. not (eqb first second)) (λ columns first second. first)
-stepOf scope (compares left right) = stay scope (operandUnbound scope left || operandUnbound scope right) (λ first second. operandUnfit scope left || operandUnfit scope right) (λ columns first second. 0)
+stepOf scope (compares left right) = stay scope (operandUnboundAt scope left || operandUnboundAt scope right) (λ first second. operandUnfitAt scope left || operandUnfitAt scope right) (λ columns first second. 0)
 stepOf scope joins = stay scope false (λ first second. false) (λ columns first second. 0)
 
 -- its parts, each the contract of a function
-abbrev pub opening : Node → Scope → Scope
+abbrev pub opening : Node → ScopeWidths → ScopeWidths
 opening node scope = stepOf scope (roleOf node) .opening
 
-abbrev pub inside : Node → Scope → Found → Scope
+abbrev pub inside : Node → ScopeWidths → Found → ScopeWidths
 inside node scope first = stepOf scope (roleOf node) .inside first
 
-abbrev pub unboundAt : Node → Scope → Bool
+abbrev pub unboundAt : Node → ScopeWidths → Bool
 unboundAt node scope = stepOf scope (roleOf node) .unbound
 
-abbrev pub unfitAt : Node → Scope → (first second : ℕ) → Bool
+abbrev pub unfitAt : Node → ScopeWidths → (first second : ℕ) → Bool
 unfitAt node scope first second = stepOf scope (roleOf node) .unfit first second
 
-abbrev pub widthOf : (ℕ → ℕ) → Node → Scope → (first second : ℕ) → ℕ
-widthOf columns node scope first second = stepOf scope (roleOf node) .width columns first second
+abbrev pub widthFound : (ℕ → ℕ) → Node → ScopeWidths → (first second : ℕ) → ℕ
+widthFound columns node scope first second = stepOf scope (roleOf node) .width columns first second
 
 -- the lowest of a node's own place, where it is at fault, and those found below
 abbrev pub lowestOf : Bool → (i first second third : ℕ) → ℕ
 lowestOf fault i first second third = min (cond fault i questionNodeLimit) (min first (min second third))
 
-abbrev pub foundAt : (ℕ → ℕ) → ℕ → Node → Scope → (first second third : Found) → Found
+abbrev pub foundAt : (ℕ → ℕ) → ℕ → Node → ScopeWidths → (first second third : Found) → Found
 foundAt columns i node scope first second third =
     record {
       unbound = lowestOf (unboundAt node scope) i (first .unbound) (second .unbound) (third .unbound);
       unfit = lowestOf (unfitAt node scope (first .width) (second .width)) i (first .unfit) (second .unfit) (third .unfit);
-      width = widthOf columns node scope (first .width) (second .width);
+      width = widthFound columns node scope (first .width) (second .width);
       scope = second .scope;
     }
 
 -- All faults of the tree are looked for, so none hides another; behind the last binding the scope is what all bound.
-unfoldable pub walk : (ℕ → ℕ) → Tree → Scope → Found
+unfoldable pub walk : (ℕ → ℕ) → Tree → ScopeWidths → Found
 walk columns nothing scope = record { unbound = questionNodeLimit; unfit = questionNodeLimit; width = 0; scope = scope }
 walk columns (branch i node first second third) scope =
     foundAt columns i node scope
@@ -126,7 +126,7 @@ walk columns (branch i node first second third) scope =
 
 module _ (catalogue words : List ℕ) where
   abbrev pub faultsFound : Found
-  faultsFound = walk (columnsOf catalogue) (questionTree words) emptyScope
+  faultsFound = walk (columnsOf catalogue) (questionTree words) noWidths
 
   -- each refusal is looked for over the whole table before the next: 4, 5, 6 of a table that is a tree
   unfoldable pub judgeTree : Judgement
