@@ -19,16 +19,16 @@ use Rattle.relations.proofs.BoolLaws.{and-left, and-right}
 use Rattle.calculus.specs.Question as calculus
 use Rattle.calculus.proofs.SizeTheorem.{leaves-size}
 use Rattle.calculus.specs.Leaves.{isAndTree, isOrTree, leaves, oppositeAtom}
-use Rattle.question.specs.Limits.{variableCount, operatorCount}
-use Rattle.question.specs.Nodes.{kindNamed, fits, operandFits, nodeAt}
+use Rattle.nodes.specs.Limits.{variableCount, operatorCount}
+use Rattle.nodes.specs.Nodes.{kindNamed, fits, operandFits, nodeAt}
 use Rattle.question.specs.Trees.{atomOf}
-use Rattle.question.specs.declared.node.Operand.{Operand}
-use Rattle.question.specs.declared.node.Operand.the-variants.{Of, Fixed}
-use Rattle.question.specs.declared.node.Atom.{Atom}
-use Rattle.question.specs.declared.node.Node.{Node}
-use Rattle.question.specs.declared.node.Node.the-variants.{Table, Alpha, Target, Binding, RangeOr, RangeAnd, RangeAndNot, Atom as AtomNode, And, Or, Not, Some, Every, IllFormed}
-use Rattle.question.proofs.node.Node.{the-type}
-use Rattle.question.proofs.Forms.{first-of, second-of, third-of}
+use Rattle.nodes.specs.declared.node.Operand.{Operand}
+use Rattle.nodes.specs.declared.node.Operand.the-variants.{Of, Fixed}
+use Rattle.nodes.specs.declared.node.Atom.{Atom}
+use Rattle.nodes.specs.declared.node.Node.{Node}
+use Rattle.nodes.specs.declared.node.Node.the-variants.{Table, Alpha, Target, Binding, RangeOr, RangeAnd, RangeAndNot, Atom as AtomNode, And, Or, Not, Some, Every, IllFormed}
+use Rattle.nodes.proofs.node.Node.{the-type}
+use Rattle.nodes.proofs.Forms.{first-of, second-of, third-of}
 use Rattle.conditions.specs.Entries.{entries}
 use Rattle.conditions.specs.Atoms.{operatorNamed, OperandNarrow, AtomNarrow}
 use Rattle.conditions.specs.Leaves.{emptyAtom, atomIn, leafOf, leafAt, atomsOf, LeavesFit, Collectable, Collected, LeavesOf, noLeaves, withLeaf, joinedBy, opposites}

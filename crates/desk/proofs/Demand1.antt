@@ -10,7 +10,7 @@ use borrow.Author.Tests.{ltb-false, not-false}
 use Rattle.relations.specs.Lists.{flat}
 use Rattle.relations.specs.PlanWords.{nodeWords}
 use Rattle.catalogue.specs.Judging.{catalogueOk, tablesOk}
-use Rattle.question.specs.Faults.{judgedByFaults}
+use Rattle.judgements.specs.Faults.{judgedByFaults}
 use Rattle.question.specs.declared.judgement.Judgement.the-variants.{Accepted}
 use Rattle.translation.specs.TranslateCall.{planBufferWords, isShort, planOf, unwritten, written, translateOutcome}
 use Rattle.running.specs.RunCall.{cleared, answered}

@@ -17,12 +17,12 @@ use Rattle.calculus.proofs.LegalTheorem.{range-fits}
 use Rattle.calculus.proofs.RangeValues.{range-good}
 use Rattle.calculus.proofs.Theorems.{translation-right}
 use Rattle.catalogue.specs.Judging.{catalogueWords, catalogueOk, tablesOk}
-use Rattle.question.specs.Accepted.{QuestionRight}
-use Rattle.question.specs.Faults.{judgedByFaults}
+use Rattle.judgements.specs.Accepted.{QuestionRight}
+use Rattle.judgements.specs.Faults.{judgedByFaults}
 use Rattle.question.specs.Trees.{questionOf}
 use Rattle.question.specs.declared.judgement.Judgement.the-variants.{Accepted}
-use Rattle.question.proofs.Accepted.{accepted-right}
-use Rattle.question.proofs.FaultsDecide.{faults-decide}
+use Rattle.judgements.proofs.Accepted.{accepted-right}
+use Rattle.judgements.proofs.FaultsDecide.{faults-decide}
 use Rattle.catalogue.specs.Stored.{relationsOf, columnsOf, storedTables}
 use Rattle.running.specs.RunCall.{answerRows, answerWidth}
 use Rattle.catalogue.proofs.TableLaws.{tables-wide, has-column}

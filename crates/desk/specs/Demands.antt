@@ -15,7 +15,7 @@ use Rattle.calculus.specs.Form.{widthOfRange}
 use Rattle.catalogue.specs.Judging.{tablesOk}
 use Rattle.values.specs.Words.{wordsOf}
 use Rattle.question.specs.Trees.{questionOf}
-use Rattle.question.specs.Faults.{judgedByFaults}
+use Rattle.judgements.specs.Faults.{judgedByFaults}
 use Rattle.question.specs.declared.judgement.Judgement.the-variants.{Accepted}
 use Rattle.catalogue.specs.Stored.{columnsOf, storedTables}
 use Rattle.plans.specs.Judging.{nodesOf}

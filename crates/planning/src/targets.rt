@@ -15,8 +15,8 @@ use conditions::scope::width_in;
 use emission::listing::Listing;
 use emission::listing::with_columns;
 use emission::listing::with_word;
-use question::node::Node;
-use question::node::decode;
+use nodes::node::Node;
+use nodes::node::decode;
 
 // A target's columns behind those of the list; attribute 0 is the whole row.
 fn with_target(scope: Scope, variable: u32, attribute: u32, list: Listing) -> Listing

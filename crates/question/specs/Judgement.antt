@@ -5,11 +5,11 @@ use mathlib.Core.Bool.{Bool, true, false, cond, _&&_}
 use lib.Dec.{leb, eqb}
 use lib.ListN.{length}
 use Rattle.relations.specs.Limits.{questionNodeLimit, questionNodeWords}
-use Rattle.question.specs.Nodes.{nodeCount, nodeAt, isIllFormed}
-use Rattle.question.specs.References.{referencesTo, lowest, notOnce}
+use Rattle.nodes.specs.Nodes.{nodeCount, nodeAt, isIllFormed}
+use Rattle.nodes.specs.References.{referencesTo, lowest, notOnce}
 use Rattle.catalogue.specs.Stored.{relationsOf}
-use Rattle.question.specs.Roles.{Role, stored, alpha, takes, binds, sides, compares, joins, roleOf}
-use Rattle.question.specs.declared.node.Node.{Node}
+use Rattle.nodes.specs.Roles.{Role, stored, alpha, takes, binds, sides, compares, joins, roleOf}
+use Rattle.nodes.specs.declared.node.Node.{Node}
 use Rattle.question.specs.declared.judgement.Judgement.{Judgement}
 use Rattle.question.specs.declared.judgement.Judgement.the-variants.{Accepted, Refused}
 

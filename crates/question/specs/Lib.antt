@@ -1,13 +1,5 @@
--- In reading order.
-pub mod Limits
-pub mod Roles
-pub mod Nodes
-pub mod References
+-- In reading order. Refusals 5 and 6, and all six in their order, are in `judgements`.
 pub mod Trees
 pub mod Judgement
-pub mod Faults
 -- What the code keeps instead
-pub mod Marks
 pub mod Walk
--- What is claimed of it
-pub mod Accepted

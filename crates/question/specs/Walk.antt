@@ -8,14 +8,14 @@ use lib.Dec.{ltb, eqb}
 use lib.ListN.{getD, set, replicate}
 use Rattle.relations.specs.Limits.{columnLimit, questionNodeLimit}
 use Rattle.catalogue.specs.Stored.{columnsOf}
-use Rattle.question.specs.Limits.{variableCount}
-use Rattle.question.specs.Roles.{Role, stored, alpha, takes, binds, sides, compares, joins, roleOf}
-use Rattle.question.specs.Nodes.{nodeCount, nodeAt}
+use Rattle.nodes.specs.Limits.{variableCount}
+use Rattle.nodes.specs.Roles.{Role, stored, alpha, takes, binds, sides, compares, joins, roleOf}
+use Rattle.nodes.specs.Nodes.{nodeCount, nodeAt}
 use Rattle.question.specs.Trees.{Tree, nothing, branch, questionTree}
 use Rattle.question.specs.Judgement.{countOk, isAlpha, lowestIllFormed, lastNode, lowestNotOnce, lowestUnknown}
-use Rattle.question.specs.declared.node.Operand.{Operand}
-use Rattle.question.specs.declared.node.Operand.the-variants.{Of, Fixed}
-use Rattle.question.specs.declared.node.Node.{Node}
+use Rattle.nodes.specs.declared.node.Operand.{Operand}
+use Rattle.nodes.specs.declared.node.Operand.the-variants.{Of, Fixed}
+use Rattle.nodes.specs.declared.node.Node.{Node}
 use Rattle.question.specs.declared.scope.ScopeWidths.{ScopeWidths}
 use Rattle.question.specs.declared.scope.Found.{Found}
 use Rattle.question.specs.declared.judgement.Judgement.{Judgement}

@@ -2,18 +2,18 @@
 ghost use mathlib.Core.Path.{_≡_};
 ghost use Prim.Native.Nat.{_*_, _≤_, _<_, min};
 ghost use lib.ListN.{length};
-ghost use Rattle.question.specs.Limits.{variableCount};
-ghost use Rattle.question.specs.Nodes.{VariableFits, OperandVariableFits};
+ghost use Rattle.nodes.specs.Limits.{variableCount};
+ghost use Rattle.nodes.specs.Nodes.{VariableFits, OperandVariableFits};
 ghost use Rattle.catalogue.specs.Stored.{columnsOf};
 ghost use Rattle.question.specs.Trees.{treeOf};
 ghost use Rattle.question.specs.Walk.{widthKept, addWidths, noWidths, boundWidth, bind, opening, inside, operandUnboundAt, unboundAt, operandUnfitAt, unfitAt, targetWidthKept, widthFound, lowestOf, walk};
-use crate::limits::COLUMNS;
-use crate::limits::NODES;
-use crate::node::Node;
-use crate::node::Operand;
-use crate::node::decode;
-use crate::references::references_of;
 use catalogue::stored::columns_of;
+use nodes::limits::COLUMNS;
+use nodes::limits::NODES;
+use nodes::node::Node;
+use nodes::node::Operand;
+use nodes::node::decode;
+use nodes::references::references_of;
 
 // For each variable the width of its rows, 0 where it is not in scope; and all columns in scope.
 pub struct ScopeWidths {

@@ -49,9 +49,9 @@ use emission::listing::with_pair_if;
 use emission::listing::with_triple;
 use emission::listing::with_triple_if;
 use emission::listing::with_word_if;
-use question::node::Atom;
-use question::node::Attribute;
-use question::node::Operand;
+use nodes::node::Atom;
+use nodes::node::Attribute;
+use nodes::node::Operand;
 
 // Atom: select. A select keeps the atom's sides.
 pub fn write_select(scope: Scope, atom: Atom, p: u32, plan: &mut [u32], n: u32) -> u32

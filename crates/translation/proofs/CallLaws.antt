@@ -22,16 +22,16 @@ use Rattle.catalogue.specs.Judging.{catalogueWords, catalogueOk, CatalogueNumbe
 use Rattle.catalogue.specs.declared.judging.Judged.the-variants.{Words, Wrong}
 use Rattle.catalogue.specs.Stored.{relationsOf, columnsOf}
 use Rattle.catalogue.proofs.TableLaws.{known-columns}
-use Rattle.question.specs.Accepted.{QuestionRight}
-use Rattle.question.specs.Nodes.{nodeCount}
+use Rattle.judgements.specs.Accepted.{QuestionRight}
+use Rattle.nodes.specs.Nodes.{nodeCount}
 use Rattle.question.specs.Judgement.{countOk, judgeCount}
 use Rattle.question.specs.Walk.{judged}
 use Rattle.question.specs.Trees.{questionOf}
 use Rattle.question.specs.declared.judgement.Judgement.{Judgement}
 use Rattle.question.specs.declared.judgement.Judgement.the-variants.{Accepted, Refused}
-use Rattle.question.proofs.Accepted.{accepted-right, accepted-passed}
-use Rattle.question.specs.Faults.{judgedByFaults}
-use Rattle.question.proofs.FaultsDecide.{faults-decide}
+use Rattle.judgements.proofs.Accepted.{accepted-right, accepted-passed}
+use Rattle.judgements.specs.Faults.{judgedByFaults}
+use Rattle.judgements.proofs.FaultsDecide.{faults-decide}
 use Rattle.question.proofs.Counts.{counted}
 use Rattle.translation.specs.TranslateCall.{TranslateOutcome, planOf, planBufferWords, unwritten, written, judgedOutcome, behindCatalogue, isShort, translateOutcome}
 use Rattle.emission.specs.HeavyCount.{heavyIn}

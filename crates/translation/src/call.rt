@@ -11,11 +11,11 @@ use catalogue::judging::Judged;
 use catalogue::judging::judge_catalogue;
 use emission::heavy::count_heavy;
 use emission::limits::PLAN_WORDS;
+use nodes::limits::NODE_WORDS;
 use planning::translate::translate_range;
 use question::judgement::Judgement;
 use question::judgement::judge;
 use question::judgement::judge_count;
-use question::limits::NODE_WORDS;
 
 pub enum Translated {
     Done { nodes: u32, heavy: u32 },
