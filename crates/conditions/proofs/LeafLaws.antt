@@ -21,17 +21,17 @@ use Rattle.relations.proofs.BoolLaws.{and-left, and-right}
 use Rattle.calculus.specs.Question as calculus
 use Rattle.calculus.proofs.SizeTheorem.{leaves-size}
 use Rattle.calculus.specs.Leaves.{isAndTree, isOrTree, leaves, oppositeAtom}
-use Rattle.question.specs.Limits.{variableCount, operatorCount}
-use Rattle.question.specs.Nodes.{kindNamed, fits, operandFits, nodeAt}
-use Rattle.question.specs.References.{references}
+use Rattle.nodes.specs.Limits.{variableCount, operatorCount}
+use Rattle.nodes.specs.Nodes.{kindNamed, fits, operandFits, nodeAt}
+use Rattle.nodes.specs.References.{references}
 use Rattle.question.specs.Trees.{Tree, treeOf, reading, atomOf}
-use Rattle.question.specs.declared.node.Operand.{Operand}
-use Rattle.question.specs.declared.node.Operand.the-variants.{Of, Fixed}
-use Rattle.question.specs.declared.node.Atom.{Atom}
-use Rattle.question.specs.declared.node.Node.{Node}
-use Rattle.question.specs.declared.node.Node.the-variants.{Table, Alpha, Target, Binding, RangeOr, RangeAnd, RangeAndNot, Atom as AtomNode, And, Or, Not, Some, Every, IllFormed}
-use Rattle.question.proofs.node.Node.{the-type}
-use Rattle.question.proofs.Forms.{first-of, second-of, third-of}
+use Rattle.nodes.specs.declared.node.Operand.{Operand}
+use Rattle.nodes.specs.declared.node.Operand.the-variants.{Of, Fixed}
+use Rattle.nodes.specs.declared.node.Atom.{Atom}
+use Rattle.nodes.specs.declared.node.Node.{Node}
+use Rattle.nodes.specs.declared.node.Node.the-variants.{Table, Alpha, Target, Binding, RangeOr, RangeAnd, RangeAndNot, Atom as AtomNode, And, Or, Not, Some, Every, IllFormed}
+use Rattle.nodes.proofs.node.Node.{the-type}
+use Rattle.nodes.proofs.Forms.{first-of, second-of, third-of}
 use Rattle.question.proofs.TreeLaws.{tree-of-reference}
 use Rattle.conditions.specs.Entries.{entries}
 use Rattle.conditions.specs.Atoms.{operatorNamed, OperandNarrow, AtomNarrow}

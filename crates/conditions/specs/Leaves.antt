@@ -9,12 +9,12 @@ use Rattle.relations.specs.Limits.{questionNodeLimit, questionNodeWords}
 use Rattle.relations.specs.Lists.{All}
 use Rattle.calculus.specs.Question as calculus
 use Rattle.calculus.specs.Leaves.{isAndTree, isOrTree, leaves, oppositeAtom}
-use Rattle.question.specs.Nodes.{nodeAt}
+use Rattle.nodes.specs.Nodes.{nodeAt}
 use Rattle.question.specs.Trees.{Tree, nothing, branch, treeOf, reading, atomOf}
-use Rattle.question.specs.declared.node.Operand.the-variants.{Fixed}
-use Rattle.question.specs.declared.node.Atom.{Atom}
-use Rattle.question.specs.declared.node.Node.{Node}
-use Rattle.question.specs.declared.node.Node.the-variants.{Table, Alpha, Target, Binding, RangeOr, RangeAnd, RangeAndNot, Atom as AtomNode, And, Or, Not, Some, Every, IllFormed}
+use Rattle.nodes.specs.declared.node.Operand.the-variants.{Fixed}
+use Rattle.nodes.specs.declared.node.Atom.{Atom}
+use Rattle.nodes.specs.declared.node.Node.{Node}
+use Rattle.nodes.specs.declared.node.Node.the-variants.{Table, Alpha, Target, Binding, RangeOr, RangeAnd, RangeAndNot, Atom as AtomNode, And, Or, Not, Some, Every, IllFormed}
 use Rattle.conditions.specs.Entries.{entries}
 use Rattle.conditions.specs.Readings.{conditionAt}
 use Rattle.conditions.specs.declared.leaves.Leaves.{Leaves}

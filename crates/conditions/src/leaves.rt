@@ -8,12 +8,12 @@ ghost use Rattle.conditions.specs.Atoms.{AtomNarrow};
 ghost use Rattle.conditions.specs.Readings.{conditionAt};
 ghost use Rattle.conditions.specs.Leaves.{atomIn, leafAt, LeavesFit, Collectable, Collected, LeavesOf, leafNumbers, leavesFound, noLeaves, withLeaf, joinedBy, opposites};
 use crate::atom::opposite_atom;
-use question::node::Atom;
-use question::node::Attribute;
-use question::node::Constant;
-use question::node::Node;
-use question::node::Operand;
-use question::node::decode;
+use nodes::node::Atom;
+use nodes::node::Attribute;
+use nodes::node::Constant;
+use nodes::node::Node;
+use nodes::node::Operand;
+use nodes::node::decode;
 
 // The first `count` numbers are in use. `conjoined`: no node but "and" stands above them; `disjoined`: none but "or";
 // `opposite`: each stands for the opposite of its atom.

@@ -10,9 +10,9 @@ use Rattle.relations.specs.Nodes.{Node}
 use Rattle.relations.specs.Legality.{legalPlan}
 use Rattle.relations.specs.PlanWords.{nodeWords}
 use Rattle.catalogue.specs.Judging.{catalogueOk, tablesOk}
-use Rattle.question.specs.Faults.{judgedByFaults}
+use Rattle.judgements.specs.Faults.{judgedByFaults}
 use Rattle.question.specs.declared.judgement.Judgement.the-variants.{Accepted}
-use Rattle.question.proofs.FaultsDecide.{accepted-count}
+use Rattle.judgements.proofs.FaultsDecide.{accepted-count}
 use Rattle.catalogue.specs.Stored.{relationsOf, columnsOf}
 use Rattle.translation.specs.TranslateCall.{planBufferWords, planOf, written, translateOutcome}
 use Rattle.running.specs.RunCall.{capacityOf, cleared, fitWithin, ranOutcome, runOutcome}

@@ -10,9 +10,9 @@ use borrow.Author.Tests.{ltb-false, not-false}
 use Rattle.relations.specs.Lists.{flat}
 use Rattle.relations.specs.PlanWords.{nodeWords}
 use Rattle.catalogue.specs.Judging.{catalogueOk, tablesOk}
-use Rattle.question.specs.Faults.{judgedByFaults}
+use Rattle.judgements.specs.Faults.{judgedByFaults}
 use Rattle.question.specs.declared.judgement.Judgement.the-variants.{Accepted}
-use Rattle.question.proofs.FaultsDecide.{faults-accept-exactly}
+use Rattle.judgements.proofs.FaultsDecide.{faults-accept-exactly}
 use Rattle.catalogue.proofs.TableLaws.{known-columns}
 use Rattle.plans.proofs.PlanTheorem.{judged-exactly}
 use Rattle.translation.specs.TranslateCall.{planBufferWords, planOf, unwritten, written, translateOutcome}

@@ -20,7 +20,7 @@ use Rattle.relations.proofs.ValueLaws.{extensional}
 use Rattle.catalogue.specs.Judging.{catalogueOk}
 use Rattle.catalogue.specs.Stored.{storedTables}
 use Rattle.text.proofs.RoundTrip.{round-trip}
-use Rattle.question.specs.Faults.{judgedByFaults}
+use Rattle.judgements.specs.Faults.{judgedByFaults}
 use Rattle.question.specs.declared.judgement.Judgement.the-variants.{Accepted}
 use Rattle.plans.specs.Judging.{judgement, nodesOf}
 use Rattle.plans.specs.declared.judging.Judgement.{Judgement}

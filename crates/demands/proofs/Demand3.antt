@@ -15,7 +15,7 @@ use Rattle.catalogue.specs.Judging.{tablesOk}
 use Rattle.values.specs.Words.{wordsOf}
 use Rattle.values.proofs.RowsLaws.{length-words}
 use Rattle.values.proofs.WordLaws.{part-sets}
-use Rattle.question.specs.Faults.{judgedByFaults}
+use Rattle.judgements.specs.Faults.{judgedByFaults}
 use Rattle.question.specs.declared.judgement.Judgement.the-variants.{Accepted}
 use Rattle.translation.specs.TranslateCall.{planBufferWords, isShort, planOf, written}
 use Rattle.running.specs.RunCall.{RunOutcome, capacityOf, cleared, Fit, fits, passesAt, fitWithin, answerRows, answerWidth, answered, ranOutcome}

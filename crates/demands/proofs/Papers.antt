@@ -6,10 +6,10 @@ use Rattle.calculus.specs.Form.{widthOfRange}
 use Rattle.calculus.specs.Translation.{translateRange}
 use Rattle.catalogue.specs.Judging.{pairsOk, catalogueWords}
 use Rattle.values.specs.Words.{wordsOf}
-use Rattle.question.specs.Nodes.{kindNamed, usedWords, spelled, nodeAt}
-use Rattle.question.specs.References.{referencesTo, seen, firstFrom}
+use Rattle.nodes.specs.Nodes.{kindNamed, usedWords, spelled, nodeAt}
+use Rattle.nodes.specs.References.{referencesTo, seen, firstFrom}
 use Rattle.question.specs.Trees.{treesBelow, treeOf, reading}
-use Rattle.question.specs.Faults.{faultAt, judgedByFaults}
+use Rattle.judgements.specs.Faults.{faultAt, judgedByFaults}
 use Rattle.catalogue.specs.Stored.{startOf, rowsIn}
 use Rattle.plans.specs.Judging.{judgeNodes as judgePlan, nodesIn}
 use Rattle.translation.specs.TranslateCall.{translateOutcome}

@@ -15,8 +15,8 @@ use Rattle.calculus.specs.Translation.{translate}
 use Rattle.calculus.proofs.LegalTheorem.{range-fits}
 use Rattle.calculus.proofs.RangeValues.{range-good}
 use Rattle.catalogue.specs.Judging.{catalogueWords, catalogueOk, tablesOk}
-use Rattle.question.specs.Accepted.{QuestionRight}
-use Rattle.question.specs.Faults.{judgedByFaults}
+use Rattle.judgements.specs.Accepted.{QuestionRight}
+use Rattle.judgements.specs.Faults.{judgedByFaults}
 use Rattle.question.specs.Trees.{questionOf}
 use Rattle.question.specs.declared.judgement.Judgement.the-variants.{Accepted}
 use Rattle.catalogue.specs.Stored.{relationsOf, columnsOf, storedTables}

@@ -11,7 +11,7 @@ use borrow.Author.Tests.{lt-ltb, le-ltb, leb-true, leb-false}
 use Rattle.relations.specs.Nodes.{Node}
 use Rattle.relations.specs.Values.{Rows, Tables}
 use Rattle.relations.specs.Plan.{values, widths, valueWords, widthOfNode, valueOfNode}
-use Rattle.question.specs.References.{firstFrom, lowest}
+use Rattle.nodes.specs.References.{firstFrom, lowest}
 use Rattle.catalogue.specs.Stored.{columnsOf, storedTables}
 use Rattle.running.specs.RunCall.{fits, passesAt, fitOf, fitWithin, planRoom}
 use Rattle.running.proofs.SizeLaws.{sizesFrom, sizes-all, total, room-total}

@@ -5,7 +5,6 @@ use mathlib.Core.Bool.{Bool, true, false, cond, not}
 use mathlib.Core.List.{List, [], _∷_}
 use Rattle.relations.specs.Nodes.{Node}
 use Rattle.catalogue.specs.Judging.{tablesOk}
-use Rattle.question.specs.Judgement.{judged}
 use Rattle.plans.specs.Judging.{judgement, nodesOf}
 use Rattle.plans.specs.declared.judging.Judgement.{Judgement}
 use Rattle.plans.specs.declared.judging.Judgement.the-variants.{Legal, Illegal}

@@ -3,9 +3,9 @@ use Prim.Native.Nat.{ℕ}
 use mathlib.Core.Path.{_≡_, refl, ap, _∙_}
 use mathlib.Core.Bool.{false, not}
 use mathlib.Core.List.{List, [], _∷_}
-use Rattle.question.specs.Nodes.{nodeAt}
+use Rattle.nodes.specs.Nodes.{nodeAt}
 use Rattle.question.specs.Judgement.{countOk, isAlpha, lastNode}
-use Rattle.question.specs.Faults.{judgedByFaults}
+use Rattle.judgements.specs.Faults.{judgedByFaults}
 use Rattle.question.specs.declared.judgement.Judgement.the-variants.{Accepted, Refused}
 use Rattle.translation.specs.TranslateCall.{TranslateOutcome, unwritten, written, judgedOutcome as judgedTranslation, translateOutcome}
 use Rattle.demands.specs.Refusals.{outcomeBy, wrongCount, wrongCatalogue, shortPlan, questionLines, translateLines}

@@ -20,8 +20,8 @@ use Rattle.calculus.specs.Translation.{translate}
 use Rattle.catalogue.specs.Judging.{catalogueOk, tablesOk}
 use Rattle.values.specs.Words.{wordsOf}
 use Rattle.question.specs.Trees.{questionOf}
-use Rattle.question.specs.Faults.{judgedByFaults}
-use Rattle.question.specs.Accepted.{AcceptedExactly}
+use Rattle.judgements.specs.Faults.{judgedByFaults}
+use Rattle.judgements.specs.Accepted.{AcceptedExactly}
 use Rattle.question.specs.declared.judgement.Judgement.the-variants.{Accepted}
 use Rattle.catalogue.specs.Stored.{columnsOf, storedTables}
 use Rattle.plans.specs.Judging.{nodesOf, JudgedExactly}

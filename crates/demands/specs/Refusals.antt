@@ -9,10 +9,10 @@ use Rattle.relations.specs.Nodes.{Node}
 use Rattle.relations.specs.Plan.{valueWords}
 use Rattle.relations.specs.PlanWords.{nodeWords}
 use Rattle.catalogue.specs.Judging.{catalogueOk, tablesOk}
-use Rattle.question.specs.Nodes.{nodeCount, nodeAt}
-use Rattle.question.specs.References.{lowest}
+use Rattle.nodes.specs.Nodes.{nodeCount, nodeAt}
+use Rattle.nodes.specs.References.{lowest}
 use Rattle.question.specs.Judgement.{countOk, isAlpha, lowestIllFormed, lastNode, lowestNotOnce, lowestUnknown}
-use Rattle.question.specs.Faults.{lowestUnbound, lowestUnfit}
+use Rattle.judgements.specs.Faults.{lowestUnbound, lowestUnfit}
 use Rattle.plans.specs.Judging.{judgement, nodesOf}
 use Rattle.plans.specs.declared.judging.Judgement.{Judgement}
 use Rattle.plans.specs.declared.judging.Judgement.the-variants.{Legal, Illegal}

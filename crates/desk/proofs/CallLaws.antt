@@ -12,9 +12,9 @@ use Rattle.relations.specs.Limits.{planNodeWords, planNodeLimit}
 use Rattle.relations.specs.Lists.{flat}
 use Rattle.relations.specs.PlanWords.{nodeWords}
 use Rattle.catalogue.specs.Judging.{catalogueOk, tablesOk}
-use Rattle.question.specs.Nodes.{nodeCount, nodeAt}
+use Rattle.nodes.specs.Nodes.{nodeCount, nodeAt}
 use Rattle.question.specs.Judgement.{countOk, isAlpha, lowestIllFormed, lastNode, lowestNotOnce, lowestUnknown}
-use Rattle.question.specs.Faults.{lowestUnbound, lowestUnfit, judgedByFaults}
+use Rattle.judgements.specs.Faults.{lowestUnbound, lowestUnfit, judgedByFaults}
 use Rattle.question.specs.declared.judgement.Judgement.{Judgement}
 use Rattle.question.specs.declared.judgement.Judgement.the-variants.{Accepted, Refused}
 use Rattle.translation.specs.TranslateCall.{TranslateOutcome, translateNumbers, translateRefusal, planBufferWords, planOf, unwritten, written, judgedOutcome, translateOutcome}

@@ -14,12 +14,12 @@ use Rattle.calculus.proofs.Theorems.{translation-right}
 use Rattle.catalogue.specs.Judging.{catalogueOk}
 use Rattle.catalogue.specs.Stored.{relationsOf, columnsOf}
 use Rattle.catalogue.proofs.TableLaws.{known-columns}
-use Rattle.question.specs.Accepted.{QuestionRight}
-use Rattle.question.specs.Faults.{judgedByFaults}
+use Rattle.judgements.specs.Accepted.{QuestionRight}
+use Rattle.judgements.specs.Faults.{judgedByFaults}
 use Rattle.question.specs.Trees.{questionOf}
 use Rattle.question.specs.declared.judgement.Judgement.the-variants.{Accepted}
-use Rattle.question.proofs.Accepted.{accepted-right}
-use Rattle.question.proofs.FaultsDecide.{faults-decide}
+use Rattle.judgements.proofs.Accepted.{accepted-right}
+use Rattle.judgements.proofs.FaultsDecide.{faults-decide}
 use Rattle.translation.specs.TranslateCall.{isShort, planOf}
 
 pub nodes-between : (catalogue : List ℕ) (nodes : List Node) → So (legalPlan (columnsOf catalogue) (relationsOf catalogue) nodes) → (1 ≤ length nodes) × (length nodes ≤ planNodeLimit)

@@ -12,8 +12,8 @@ use crate::limits::HEAD_WORDS;
 use crate::limits::LIST_WORDS;
 use crate::limits::PLAN_NODE_WORDS;
 use crate::node_list::NodeList;
-use question::node::Attribute;
-use question::node::Constant;
+use nodes::node::Attribute;
+use nodes::node::Constant;
 
 fn push(
     plan: &mut [u32],

@@ -7,7 +7,7 @@ ghost use lib.ListN.{length};
 ghost use Rattle.relations.specs.Limits.{columnLimit, listWords};
 ghost use Rattle.calculus.specs.Scope.{columnsFrom};
 ghost use Rattle.emission.specs.NodeLists.{nodeList, grownBy, numbersOf};
-use question::node::Attribute;
+use nodes::node::Attribute;
 
 // A node's list: the words used so far, then zeros.
 pub struct NodeList {

@@ -17,9 +17,9 @@ use Rattle.calculus.specs.Translation.{translateRange, translateBindings, trans
 use Rattle.calculus.proofs.ScopeLaws.{targets-width}
 use Rattle.calculus.proofs.SizeTheorem.{range-size, bindings-size, maybe-size}
 use Rattle.catalogue.specs.Stored.{relationsOf, columnsOf}
-use Rattle.question.specs.Nodes.{nodeAt}
+use Rattle.nodes.specs.Nodes.{nodeAt}
 use Rattle.question.specs.Trees.{alphaOf}
-use Rattle.question.specs.declared.node.Node.the-variants.{Binding}
+use Rattle.nodes.specs.declared.node.Node.the-variants.{Binding}
 use Rattle.emission.specs.NodeLists.{nodeList, grownBy, numbersOf, attributesIn, ListsAttributes}
 use Rattle.conditions.specs.Readings.{Inside, Names, rangeAt, targetsAt, bindingsAt, restrictionAt}
 use Rattle.conditions.specs.Scopes.{emptyScope, scopeOf, ScopeFits, Extended}

@@ -13,10 +13,10 @@ use Rattle.calculus.specs.Form.{widthOfRange, scopeOfBindings, GoodRange, GoodB
 use Rattle.calculus.specs.Translation.{translateBindings}
 use Rattle.calculus.proofs.SizeTheorem.{range-size}
 use Rattle.catalogue.specs.Stored.{relationsOf, columnsOf}
-use Rattle.question.specs.Limits.{variableCount}
-use Rattle.question.specs.Nodes.{isBinding, isRange, kindNamed, nodeAt}
-use Rattle.question.specs.declared.node.Node.the-variants.{Binding}
-use Rattle.question.proofs.Forms.{lower, second-of, references-lower}
+use Rattle.nodes.specs.Limits.{variableCount}
+use Rattle.nodes.specs.Nodes.{isBinding, isRange, kindNamed, nodeAt}
+use Rattle.nodes.specs.declared.node.Node.the-variants.{Binding}
+use Rattle.nodes.proofs.Forms.{lower, second-of, references-lower}
 use Rattle.conditions.specs.Readings.{Inside, Names, rangeAt, bindingsAt}
 use Rattle.conditions.specs.Scopes.{withVariable, scopeOf, ScopeFits, Extended}
 use Rattle.planning.specs.Translating.{withBindings, RangeReady, RangeDone, BindingsReady, BindingsDone}

@@ -18,7 +18,7 @@ use Rattle.calculus.specs.Translation.{itself, itsOpposite, divisionBy, transla
 use Rattle.calculus.proofs.LegalColumns.{few, few-opposite}
 use Rattle.calculus.proofs.SizeTheorem.{filter-size, leaves-size, range-size, condition-size}
 use Rattle.catalogue.specs.Stored.{relationsOf, columnsOf}
-use Rattle.question.specs.Accepted.{HasColumns}
+use Rattle.judgements.specs.Accepted.{HasColumns}
 use Rattle.conditions.specs.Leaves.{atomsOf, LeavesFit, LeavesOf, opposites}
 use Rattle.emission.specs.NodeLists.{nodeList, grownBy, numbersOf, attributesIn, ListsAttributes}
 use Rattle.conditions.specs.Readings.{conditionAt, restrictionAt}

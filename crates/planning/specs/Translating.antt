@@ -9,7 +9,7 @@ use Rattle.calculus.specs.Scope.{extend}
 use Rattle.calculus.specs.Form.{widthOfRange, scopeOfBindings, GoodRange, GoodBindings, GoodMaybe, GoodCondition}
 use Rattle.calculus.specs.Translation.{translateRange, translateBindings}
 use Rattle.catalogue.specs.Stored.{relationsOf, columnsOf}
-use Rattle.question.specs.Accepted.{HasColumns}
+use Rattle.judgements.specs.Accepted.{HasColumns}
 use Rattle.conditions.specs.Scopes.{scopeOf, ScopeFits, withVariable}
 use Rattle.emission.specs.Written.{Room, Written}
 use Rattle.conditions.specs.declared.scope.Scope.{Scope}

@@ -16,8 +16,8 @@ use conditions::scope::width_in;
 use emission::node_list::NodeList;
 use emission::node_list::with_columns;
 use emission::node_list::with_word;
-use question::node::Node;
-use question::node::decode;
+use nodes::node::Node;
+use nodes::node::decode;
 
 // A target's columns behind those of the list; attribute 0 is the whole row.
 fn with_target(scope: Scope, variable: u32, attribute: u32, list: NodeList) -> NodeList

@@ -19,10 +19,12 @@ use Rattle.relations.specs.PlanWords.{readNode}
 use Rattle.relations.proofs.BoolLaws.{and-right}
 use Rattle.catalogue.specs.Stored.{relationsOf, columnsOf}
 use Rattle.plans.specs.Decoding.{planNode, decoded}
-use Rattle.plans.specs.Judging.{legalRead, judgedNode, onward, judgeNodes, judgement, widthOf, joinFits}
+use Rattle.plans.specs.Judging.{legalRead, judgedNode, onward, judgeNodes, judgement, PlanNumbers, planNumbers, judgedPlan}
+use Rattle.plans.specs.Steps.{widthOf, joinFits}
 use Rattle.plans.specs.declared.nodes.PlanNode.{PlanNode}
 use Rattle.plans.specs.declared.nodes.Decoded.the-variants.{Node, Illegal as NoNode}
 use Rattle.plans.specs.declared.judging.Width.the-variants.{Of, Illegal as NoWidth}
+use Rattle.plans.specs.declared.judging.Judgement.{Judgement}
 use Rattle.plans.specs.declared.judging.Judgement.the-variants.{Legal, Illegal}
 use Rattle.plans.proofs.DecodeLaws.{Stands}
 
@@ -106,3 +108,14 @@ module _ (catalogue widths : List ℕ) (place : ℕ) (plan : List ℕ) (at left 
 pub judge-sized : (catalogue plan : List ℕ) → length plan % planNodeWords ≡ 0 → 1 ≤ length plan / planNodeWords → length plan / planNodeWords ≤ planNodeLimit
     → judgement catalogue plan ≡ judgeNodes catalogue (length plan / planNodeWords) [] plan
 judge-sized catalogue plan whole least few = rw (eq-eqb (length plan % planNodeWords) 0 whole, le-leb 1 (length plan / planNodeWords) least, le-leb (length plan / planNodeWords) planNodeLimit few)
+
+-- The numbers of an answer name it: `judge_plan` promises one answer.
+pub one-judgement : (one other : Judgement) → planNumbers one ≡ planNumbers other → one ≡ other
+one-judgement (Legal nodes) (Legal others) e = ap Legal (ap (λ (n : PlanNumbers). n .nodes) e)
+one-judgement (Legal nodes) (Illegal place) e = let never : _≡_ {A = ℕ} 0 9 = ap (λ (n : PlanNumbers). n .status) e in absurd (omega arith)
+one-judgement (Illegal place) (Legal nodes) e = let never : _≡_ {A = ℕ} 9 0 = ap (λ (n : PlanNumbers). n .status) e in absurd (omega arith)
+one-judgement (Illegal place) (Illegal other) e = ap Illegal (ap (λ (n : PlanNumbers). n .place) e)
+
+-- for a caller that met one of the cases
+pub plan-judged : (catalogue plan : List ℕ) {answer found : Judgement} → planNumbers answer ≡ judgedPlan catalogue plan → answer ≡ found → judgement catalogue plan ≡ found
+plan-judged catalogue plan {answer} judged is = sym (one-judgement answer (judgement catalogue plan) judged) ∙ is

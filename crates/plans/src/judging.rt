@@ -3,7 +3,7 @@ ghost use mathlib.Core.Path.{_≡_};
 ghost use lib.ListN.{length};
 ghost use Rattle.relations.specs.Limits.{planNodeWords};
 ghost use Rattle.relations.specs.PlanWords.{readNode};
-ghost use Rattle.plans.specs.Judging.{judgedNode, judgement};
+ghost use Rattle.plans.specs.Judging.{judgedNode, planNumbers, judgedPlan};
 use crate::legal::legal_node;
 use crate::legal::width_of;
 use crate::limits::NODE_WORDS;
@@ -39,7 +39,7 @@ fn judge_node(catalogue: &[u32], widths: &[usize], words: &[u32]) -> Width
 }
 
 pub fn judge_plan(catalogue: &[u32], plan: &[u32]) -> Judgement
-    ensures { λ r. ⌜ r ≡ judgement (now (catalogue .entry)) (now (plan .entry)) ⌝ }
+    ensures { λ r. ⌜ planNumbers r ≡ judgedPlan (now (catalogue .entry)) (now (plan .entry)) ⌝ }
 {
     let nodes = plan.len() / NODE_WORDS;
     if plan.len() % NODE_WORDS != 0 {

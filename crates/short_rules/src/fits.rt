@@ -18,8 +18,8 @@ use conditions::leaves::leaves_of;
 use emission::limits::PAIRS;
 use emission::limits::TRIPLES;
 use emission::node_list::NodeList;
-use question::node::Node;
-use question::node::decode;
+use nodes::node::Node;
+use nodes::node::decode;
 
 // S1: a project on all columns in order is not written.
 pub fn short_rule_1_fits(width: u32, attributes: NodeList) -> bool

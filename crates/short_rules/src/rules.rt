@@ -48,9 +48,9 @@ use emission::node_list::with_pair_if;
 use emission::node_list::with_triple;
 use emission::node_list::with_triple_if;
 use emission::node_list::with_word_if;
-use question::node::Atom;
-use question::node::Attribute;
-use question::node::Operand;
+use nodes::node::Atom;
+use nodes::node::Attribute;
+use nodes::node::Operand;
 
 // Atom: select. A select keeps the atom's sides.
 pub fn write_select(scope: Scope, atom: Atom, p: u32, plan: &mut [u32], n: u32) -> u32

@@ -15,7 +15,7 @@ use Rattle.catalogue.specs.Judging.{catalogueOk}
 use Rattle.catalogue.specs.Stored.{columnsOf}
 use Rattle.question.specs.Trees.{questionOf}
 use Rattle.question.specs.Judgement.{countOk}
-use Rattle.question.specs.Faults.{judgedByFaults}
+use Rattle.judgements.specs.Faults.{judgedByFaults}
 use Rattle.question.specs.declared.judgement.Judgement.{Judgement}
 use Rattle.question.specs.declared.judgement.Judgement.the-variants.{Accepted, Refused as NotAccepted}
 use Rattle.translation.specs.declared.call.Translated.{Translated}

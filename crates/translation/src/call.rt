@@ -4,18 +4,18 @@ ghost use mathlib.Core.Bool.{true};
 ghost use Prim.Native.Nat.{_≤_};
 ghost use lib.ListN.{length};
 ghost use Rattle.catalogue.specs.Judging.{catalogueOk};
-ghost use Rattle.question.specs.Judgement.{judged};
+ghost use Rattle.question.specs.Walk.{judged};
 ghost use Rattle.question.specs.declared.judgement.Judgement.the-variants.{Accepted};
 ghost use Rattle.translation.specs.TranslateCall.{translateNumbers, planBufferWords, written, behindCatalogue, translateOutcome};
 use catalogue::judging::Judged;
 use catalogue::judging::judge_catalogue;
 use emission::heavy::count_heavy;
 use emission::limits::PLAN_WORDS;
+use nodes::limits::NODE_WORDS;
 use planning::translate::translate_range;
 use question::judgement::Judgement;
 use question::judgement::judge;
 use question::judgement::judge_count;
-use question::limits::NODE_WORDS;
 
 pub enum Translated {
     Done { nodes: u32, heavy: u32 },

@@ -1,12 +1,12 @@
 use Rattle.conditions.proofs.OtherNodes.{reads-as-leaf}
-use Rattle.question.specs.declared.node.Node.{Node}
+use Rattle.nodes.specs.declared.node.Node.{Node}
 use Rattle.conditions.specs.Leaves.{leafOf}
 use Rattle.conditions.specs.Readings.{conditionAt}
 use Rattle.calculus.specs.Question as calculus
-use Rattle.question.specs.Nodes.{nodeAt}
+use Rattle.nodes.specs.Nodes.{nodeAt}
 use Rattle.conditions.proofs.LeafLaws.{collected-and, collected-or, collected-none, collected-leaf, collected-as, collect-left, collect-right, leaf-numbers}
 use Rattle.conditions.proofs.Readings.{fits-in, two-conditions, condition-is}
-use Rattle.question.specs.declared.node.Node.the-variants.{And, Or, Not, Some, Every}
+use Rattle.nodes.specs.declared.node.Node.the-variants.{And, Or, Not, Some, Every}
 use Rattle.calculus.specs.Leaves.{leaves}
 use lib.ListN.{length}
 use Prim.Native.Nat.{_-_, ℕ, _<_}
@@ -18,7 +18,7 @@ use borrow.Fn.PlainCycle.{Measures, is, falls, and}
 use Rattle.conditions.proofs.leaves.collect.Reads as collect
 use Rattle.conditions.proofs.leaves.collect.Kinds as collect-kinds
 use Rattle.conditions.proofs.leaves.+collect.Lts-collect as collect-lts
-use Rattle.question.proofs.node.decode.Reads as decode-reads
+use Rattle.nodes.proofs.node.decode.Reads as decode-reads
 use Rattle.conditions.proofs.leaves.joined_by.Reads as joined-by-reads
 use Rattle.conditions.proofs.leaves.with_leaf.Reads as with-leaf-reads
 use Rattle.conditions.proofs.leaves.+collect.{statement}

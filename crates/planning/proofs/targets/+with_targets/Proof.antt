@@ -7,10 +7,10 @@ use Rattle.emission.proofs.NodeListLaws.{grown-used, grown-then, grown-none}
 use Rattle.emission.specs.NodeLists.{grownBy, numbersOf}
 use Rattle.conditions.specs.Readings.{targetsAt}
 use Rattle.conditions.specs.Scopes.{scopeOf}
-use Rattle.question.proofs.Forms.{references-lower}
-use Rattle.question.specs.declared.node.Node.the-variants.{Target}
+use Rattle.nodes.proofs.Forms.{references-lower}
+use Rattle.nodes.specs.declared.node.Node.the-variants.{Target}
 use Rattle.question.specs.Trees.{targetOf}
-use Rattle.question.specs.Nodes.{nodeAt}
+use Rattle.nodes.specs.Nodes.{nodeAt}
 use Rattle.calculus.specs.Form.{GoodTarget}
 use Rattle.calculus.specs.Scope.{targetColumns}
 use Rattle.calculus.specs.Question as calculus
@@ -24,7 +24,7 @@ use borrow.Fn.PlainCycle.{Measures, is, falls, and}
 use Rattle.planning.proofs.targets.with_targets.Reads as with-targets
 use Rattle.planning.proofs.targets.with_targets.Kinds as with-targets-kinds
 use Rattle.planning.proofs.targets.+with_targets.Lts-with_targets as with-targets-lts
-use Rattle.question.proofs.node.decode.Reads as decode-reads
+use Rattle.nodes.proofs.node.decode.Reads as decode-reads
 use Rattle.planning.proofs.targets.with_target.Reads as with-target-reads
 use Rattle.planning.proofs.targets.+with_targets.{statement}
 use Rattle.planning.proofs.targets.+with_targets.Tie.{close}

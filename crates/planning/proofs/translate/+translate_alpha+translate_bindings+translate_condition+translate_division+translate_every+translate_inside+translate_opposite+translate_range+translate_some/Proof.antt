@@ -30,7 +30,7 @@ use Rattle.planning.proofs.translate.+translate_alpha+translate_binding
 use Rattle.planning.proofs.translate.translate_some.Reads as translate-some
 use Rattle.planning.proofs.translate.translate_some.Kinds as translate-some-kinds
 use Rattle.planning.proofs.translate.+translate_alpha+translate_bindings+translate_condition+translate_division+translate_every+translate_inside+translate_opposite+translate_range+translate_some.Lts-translate_some as translate-some-lts
-use Rattle.question.proofs.node.decode.Reads as decode-reads
+use Rattle.nodes.proofs.node.decode.Reads as decode-reads
 use Rattle.emission.proofs.emit.intersect.Reads as intersect-reads
 use Rattle.emission.proofs.node_list.no_list.Reads as no-list-reads
 use Rattle.emission.proofs.emit.product.Reads as product-reads
@@ -57,7 +57,7 @@ use Rattle.planning.proofs.targets.with_targets.Reads as with-targets-r
 use Rattle.planning.proofs.translate.+translate_alpha+translate_bindings+translate_condition+translate_division+translate_every+translate_inside+translate_opposite+translate_range+translate_some.{statement}
 use Rattle.planning.proofs.translate.+translate_alpha+translate_bindings+translate_condition+translate_division+translate_every+translate_inside+translate_opposite+translate_range+translate_some.Tie.{close}
 use Rattle.planning.proofs.RangeSteps.{Sides, or-sides, and-sides, and-not-sides, call-left, call-right, room-last, sides-done, room-one, done-as, call-alpha}
-use Rattle.question.specs.declared.node.Node.the-variants.{Table, Alpha, Some, Atom as AtomNode}
+use Rattle.nodes.specs.declared.node.Node.the-variants.{Table, Alpha, Some, Atom as AtomNode}
 use Rattle.relations.specs.Nodes.{unite, intersect, subtract}
 use mathlib.Core.Path.{sym, _∙_, _≡_, ap, subst}
 use Rattle.planning.proofs.BindingSteps.{Chain, chain, call-bound, room-product, scope-grows, call-next, bindings-done, no-more-done}
@@ -66,7 +66,7 @@ use mathlib.Core.Bool.{Bool, true, _&&_}
 use Rattle.relations.proofs.BoolLaws.{and-right, true-and-false}
 use Rattle.calculus.specs.Scope.{columnsIn, allColumns}
 use Rattle.calculus.specs.ShortRules.{shortRule5Fits}
-use Rattle.question.specs.Nodes.{nodeAt}
+use Rattle.nodes.specs.Nodes.{nodeAt}
 use Rattle.conditions.specs.Readings.{Names, conditionAt, rangeAt}
 use Rattle.conditions.specs.Scopes.{scopeOf}
 use Rattle.emission.proofs.WrittenLaws.{room-after, room-less}

@@ -13,7 +13,7 @@ use borrow.Author.Needs.{needs}
 use Rattle.relations.specs.PlanWords.{readNode}
 use Rattle.relations.specs.Limits.{planNodeLimit, planNodeWords}
 use Rattle.plans.specs.declared.judging.Judgement.the-variants.{Legal}
-use Rattle.plans.specs.Judging.{judgedNode, judgeNodes, judgement}
+use Rattle.plans.specs.Judging.{judgedNode, judgeNodes, judgement, planNumbers}
 use Rattle.plans.proofs.JudgeLaws.{judge-onward, judge-stopped, judge-ended, judge-sized}
 use Rattle.plans.proofs.judging.judge_plan.Statement.{statement}
 use Rattle.plans.proofs.judging.judge_plan.Tie as tie
@@ -88,7 +88,7 @@ enum-told : tie.Need-enum-told Inv-loop μ-loop
 enum-told c = search needs
 
 returns-4 : tie.Need-returns-4 Inv-loop μ-loop
-returns-4 c = sym (sized (c .before .before .before .before .before .before .before) ∙ c .before .before .before .before .before .before .loop .inv .3 ∙ judge-stopped (c .before .before .before .before .before .before .before .before .before .before .before .before .args .catalogue .now) (c .before .before .before .before .before .before .loop .widths) (c .before .before .before .before .before .before .loop .place) (c .before .before .before .before .before .before .before .before .before .before .before .before .args .plan .now) (c .before .before .before .before .before .before .loop .at) (length (c .before .before .before .before .before .before .before .before .before .before .before .before .args .plan .now) / planNodeWords - c .before .before .before .before .before .before .loop .place) (omega arith) (omega arith) (judged (c .before .before) ∙ c .enum-told .given .1))
+returns-4 c = ap planNumbers (sym (sized (c .before .before .before .before .before .before .before) ∙ c .before .before .before .before .before .before .loop .inv .3 ∙ judge-stopped (c .before .before .before .before .before .before .before .before .before .before .before .before .args .catalogue .now) (c .before .before .before .before .before .before .loop .widths) (c .before .before .before .before .before .before .loop .place) (c .before .before .before .before .before .before .before .before .before .before .before .before .args .plan .now) (c .before .before .before .before .before .before .loop .at) (length (c .before .before .before .before .before .before .before .before .before .before .before .before .args .plan .now) / planNodeWords - c .before .before .before .before .before .before .loop .place) (omega arith) (omega arith) (judged (c .before .before) ∙ c .enum-told .given .1)))
 
 add-place : tie.Need-add-place Inv-loop μ-loop
 add-place c = omega arith
@@ -102,7 +102,7 @@ loop-again c = let left : length (c .before .before .before .before .before .bef
 
 returns-5 : tie.Need-returns-5 Inv-loop μ-loop
 returns-5 c = let all : c .before .loop .place ≡ length (c .before .before .before .before .before .before .before .args .plan .now) / planNodeWords = omega arith in
-    sym (sized (c .before .before) ∙ c .before .loop .inv .3 ∙ judge-ended (c .before .before .before .before .before .before .before .args .catalogue .now) (c .before .loop .widths) (c .before .loop .place) (c .before .before .before .before .before .before .before .args .plan .now) (c .before .loop .at) (length (c .before .before .before .before .before .before .before .args .plan .now) / planNodeWords - c .before .loop .place) (omega arith) (omega arith) ∙ ap Legal all)
+    ap planNumbers (sym (sized (c .before .before) ∙ c .before .loop .inv .3 ∙ judge-ended (c .before .before .before .before .before .before .before .args .catalogue .now) (c .before .loop .widths) (c .before .loop .place) (c .before .before .before .before .before .before .before .args .plan .now) (c .before .loop .at) (length (c .before .before .before .before .before .before .before .args .plan .now) / planNodeWords - c .before .loop .place) (omega arith) (omega arith) ∙ ap Legal all))
 
 pub judge-plan-spec : {M : Type 1} → statement M
 judge-plan-spec =

@@ -1,5 +1,5 @@
 -- `question::judgement::judge` meets its contract. The count decides whether the nodes are judged. Assumes nothing.
-use Rattle.question.specs.Judgement.{judged}
+use Rattle.question.specs.Walk.{judged}
 use mathlib.Core.Path.{sym, _∙_}
 use borrow.Author.Needs.{needs}
 use Rattle.question.proofs.judgement.judge.Statement.{statement}

@@ -2,8 +2,8 @@ use Rattle.conditions.proofs.LeafLaws.{collectable}
 use Rattle.short_rules.proofs.FitLaws.{some-nodes-below, conjoined-atoms, not-divided}
 use Rattle.conditions.proofs.Readings.{condition-is, some-parts}
 use Rattle.conditions.specs.Readings.{rangeAt, conditionAt}
-use Rattle.question.specs.Nodes.{nodeAt}
-use Rattle.question.specs.declared.node.Node.the-variants.{Some}
+use Rattle.nodes.specs.Nodes.{nodeAt}
+use Rattle.nodes.specs.declared.node.Node.the-variants.{Some}
 use Rattle.calculus.specs.Question.{forSome}
 use Rattle.calculus.specs.ShortRules.{shortRule5Atoms, shortRule5Fits}
 use mathlib.Core.Path.{_≡_, sym, ap, _∙_}

@@ -3,8 +3,8 @@ use Rattle.short_rules.proofs.FitLaws.{some-nodes-below, conjoined-atom
 use Rattle.conditions.proofs.Readings.{condition-is, some-parts}
 use Rattle.conditions.proofs.OtherNodes.{reads-as-leaf}
 use Rattle.conditions.specs.Readings.{rangeAt, conditionAt}
-use Rattle.question.specs.Nodes.{nodeAt}
-use Rattle.question.specs.declared.node.Node.the-variants.{And, Or, Not, Some, Every}
+use Rattle.nodes.specs.Nodes.{nodeAt}
+use Rattle.nodes.specs.declared.node.Node.the-variants.{And, Or, Not, Some, Every}
 use Rattle.calculus.specs.Question.{forSome}
 use Rattle.calculus.specs.ShortRules.{shortRule2Atoms}
 use mathlib.Core.Path.{_≡_, sym, ap, _∙_}
