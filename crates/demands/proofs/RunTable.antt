@@ -3,13 +3,14 @@ use Prim.Native.Nat.{ℕ}
 use mathlib.Core.Path.{_≡_, refl, ap}
 use mathlib.Core.Bool.{Bool, true, false, cond, not}
 use mathlib.Core.List.{List, [], _∷_}
+use lib.Dec.{eqb}
 use Rattle.relations.specs.Nodes.{Node}
 use Rattle.catalogue.specs.Judging.{tablesOk}
-use Rattle.plans.specs.Judging.{judgement, nodesOf}
+use Rattle.plans.specs.Judging.{judgement, planNumbers, nodesOf}
 use Rattle.plans.specs.declared.judging.Judgement.{Judgement}
 use Rattle.plans.specs.declared.judging.Judgement.the-variants.{Legal, Illegal}
 use Rattle.running.specs.RunCall.{RunOutcome, capacityOf, cleared, fits, passesAt, fitWithin, answered, ranOutcome, judgedOutcome, runOutcome}
-use Rattle.demands.specs.Refusals.{outcomeBy, noRoom, longAnswer, runningLines, runLines, isIllegal, placeIllegal}
+use Rattle.demands.specs.Refusals.{outcomeBy, noRoom, longAnswer, runningLines, runLines}
 use Rattle.demands.specs.Demands.{refusedRun, RunDemand}
 use Rattle.demands.proofs.LineLaws.{answered-exactly}
 use Rattle.demands.proofs.RoomLaws.{room-fit}
@@ -32,7 +33,7 @@ module _ (catalogue tables plan work output : List ℕ) where
   run-table = ap (cond (not (tablesOk catalogue tables)) (refusedRun work output 7 0)) (go (judgement catalogue plan))
     where
       go : (judged : Judgement) → judgedOutcome catalogue tables plan work output judged
-          ≡ cond (isIllegal judged) (refusedRun work output 9 (placeIllegal judged)) (outcomeBy (runningLines catalogue tables (nodesOf plan) work output) (refusedRun work output) (answered catalogue tables (nodesOf plan) (cleared work) output))
+          ≡ cond (eqb (planNumbers judged .status) 9) (refusedRun work output 9 (planNumbers judged .place)) (outcomeBy (runningLines catalogue tables (nodesOf plan) work output) (refusedRun work output) (answered catalogue tables (nodesOf plan) (cleared work) output))
       go (Legal nodes) = ran-lines catalogue tables (nodesOf plan) work output
       go (Illegal place) = refl
 
