@@ -5,15 +5,16 @@ use mathlib.Core.Bool.{Bool, true, false, cond, _&&_, So}
 use mathlib.Core.List.{List, [], _∷_, _++_}
 use mathlib.Core.Option.{Option, some, none}
 use native.Mathlib.Omega.{arith}
-use native.Mathlib.Nat.{suc-mul, div-add-mod', zero-add, add-zero}
+use native.Mathlib.Nat.{add-comm, suc-mul, div-add-mod', zero-add, add-zero}
 use lib.Dec.{eqb}
 use lib.ListN.{length, take, drop, length-append, length-drop, take-append-drop}
-use lib.Seq.{length-take-le, take-at, drop-at}
+use lib.Seq.{length-take-le, take-at, drop-at, drop-drop}
 use borrow.Author.Tests.{eqb-true, eq-eqb}
 use Rattle.relations.specs.Limits.{planNodeLimit, planNodeWords}
 use Rattle.relations.specs.Lists.{flat}
 use Rattle.relations.specs.Nodes as nodes
 use Rattle.relations.specs.Nodes.{load, project, selectConstant, selectAttribute, join, semijoin, antijoin, divide, unite, intersect, subtract}
+use Rattle.relations.specs.Machine.{run}
 use Rattle.relations.specs.Plan.{widthOfNode}
 use Rattle.relations.specs.Legality.{between, legalNode, legalNodes, legalPlan}
 use Rattle.relations.specs.PlanWords.{nodeWords, countFits, readNode}
@@ -21,10 +22,16 @@ use Rattle.relations.proofs.BoolLaws.{and-left, and-right, and-both}
 use Rattle.relations.proofs.LegalityLaws.{legal-count}
 use Rattle.relations.proofs.PlanWordsOnly.{words-and-back}
 use Rattle.catalogue.specs.Stored.{relationsOf, columnsOf}
-use Rattle.plans.specs.Judging.{judgedNode, onward, judgeNodes, judgement, nodesIn, nodesOf, JudgedExactly}
+use Rattle.plans.specs.Judging.{legalRead, judgedNode, onward, judgeNodes, sizeOk, judgement, nodesIn, nodesOf, nodeWordsAt, LowestIllegal, JudgedExactly}
 use Rattle.plans.specs.declared.judging.Width.the-variants.{Of, Illegal as NoWidth}
 use Rattle.plans.specs.declared.judging.Judgement.{Judgement}
 use Rattle.plans.specs.declared.judging.Judgement.the-variants.{Legal, Illegal}
+
+illegal-place : {at place : ℕ} → Illegal at ≡ Illegal place → at ≡ place
+illegal-place e = cc
+
+legal-illegal {ℓ} : {C : Type ℓ} {place count : ℕ} → Legal count ≡ Illegal place → C
+legal-illegal e = let z : _≡_ {A = ℕ} 0 1 = cc in absurd (omega arith)
 
 illegal-legal {ℓ} : {C : Type ℓ} {place count : ℕ} → Illegal place ≡ Legal count → C
 illegal-legal e = let z : _≡_ {A = ℕ} 0 1 = cc in absurd (omega arith)
@@ -102,8 +109,52 @@ module _ (catalogue : List ℕ) where
         size = length-append (nodeWords node) (flat nodeWords plan) ∙ omega (arith, own, rest .size, suc-mul (length plan) planNodeWords);
       }
 
+  -- the first illegal node, so many nodes behind those whose widths are made
+  record Behind (made words : List ℕ) (place : ℕ) : Type 0 where
+    nodes-before : ℕ
+    placed : place ≡ length made + nodes-before
+    legal : So (legalNodes (columnsOf catalogue) (relationsOf catalogue) made (nodesIn nodes-before words))
+    many : length (nodesIn nodes-before words) ≡ nodes-before
+    illegal : legalRead (relationsOf catalogue) (run (widthOfNode (columnsOf catalogue)) made (nodesIn nodes-before words)) (readNode (nodeWordsAt words nodes-before)) ≡ false
+
+  first-illegal : (count : ℕ) (made words : List ℕ) (place : ℕ) → judgeNodes catalogue count made words ≡ Illegal place → Behind made words place
+  unfolding judgeNodes nodesIn legalNodes run
+  first-illegal zero made words place e = legal-illegal e
+  first-illegal (suc count) made words place e =
+      go (readNode (take planNodeWords words)) refl (λ width e. first-illegal count (made ++ (width ∷ [])) (drop planNodeWords words) place e) e
+    where
+      next : ℕ → Judgement
+      next = λ width. judgeNodes catalogue count (made ++ (width ∷ [])) (drop planNodeWords words)
+
+      here : legalRead (relationsOf catalogue) made (readNode (take planNodeWords words)) ≡ false → Illegal (length made) ≡ Illegal place → Behind made words place
+      here bad e =
+          let at : length made ≡ place = illegal-place e in
+          record { nodes-before = 0; placed = omega arith; legal = refl; many = refl; illegal = bad }
+
+      go : (read : Option nodes.Node) → readNode (take planNodeWords words) ≡ read → ((width : ℕ) → next width ≡ Illegal place → Behind (made ++ (width ∷ [])) (drop planNodeWords words) place)
+          → onward (judgedNode catalogue made read) (length made) next ≡ Illegal place → Behind made words place
+      go none read deeper e = here (rw read) e
+      go (some node) read deeper e = judged (legalNode (relationsOf catalogue) made node) refl e
+        where
+          judged : (legal : Bool) → legalNode (relationsOf catalogue) made node ≡ legal → onward (cond legal (Of (widthOfNode (columnsOf catalogue) made node)) NoWidth) (length made) next ≡ Illegal place → Behind made words place
+          judged false legal e = here (rw (read, legal)) e
+          judged true legal e =
+              let width : ℕ = widthOfNode (columnsOf catalogue) made node in
+              let rest : Behind (made ++ (width ∷ [])) (drop planNodeWords words) place = deeper width e in
+              let further : suc (rest .nodes-before) * planNodeWords ≡ planNodeWords + rest .nodes-before * planNodeWords = suc-mul (rest .nodes-before) planNodeWords ∙ add-comm (rest .nodes-before * planNodeWords) planNodeWords in
+              let behind : nodeWordsAt words (suc (rest .nodes-before)) ≡ nodeWordsAt (drop planNodeWords words) (rest .nodes-before) =
+              ap (take planNodeWords) (ap (λ (n : ℕ). drop n words) further ∙ sym (drop-drop (rest .nodes-before * planNodeWords) planNodeWords words))
+              in
+              record {
+                nodes-before = suc (rest .nodes-before);
+                placed = omega (arith, rest .placed, length-append made (width ∷ []));
+                legal = rw read (and-both (legalNode (relationsOf catalogue) made node) (legalNodes (columnsOf catalogue) (relationsOf catalogue) (made ++ (width ∷ [])) (nodesIn (rest .nodes-before) (drop planNodeWords words))) legal (rest .legal));
+                many = rw read (ap suc (rest .many));
+                illegal = rw (read, behind) (rest .illegal);
+              }
+
   pub judged-exactly : JudgedExactly catalogue
-  judged-exactly = record { sound = λ words count e. by-size words count (eqb (length words % planNodeWords) 0 && between 1 planNodeLimit (length words / planNodeWords)) refl e; complete = complete }
+  judged-exactly = record { sound = λ words count e. by-size words count (eqb (length words % planNodeWords) 0 && between 1 planNodeLimit (length words / planNodeWords)) refl e; complete = complete; lowest = lowest }
     where
       by-size : (words : List ℕ) (count : ℕ) (good : Bool) → (eqb (length words % planNodeWords) 0 && between 1 planNodeLimit (length words / planNodeWords)) ≡ good
           → cond good (judgeNodes catalogue (length words / planNodeWords) [] words) (Illegal 0) ≡ Legal count
@@ -128,3 +179,9 @@ module _ (catalogue : List ℕ) where
           let many : length (flat nodeWords plan) / planNodeWords ≡ length plan = omega (arith, found .size) in
           let whole : eqb (length (flat nodeWords plan) % planNodeWords) 0 ≡ true = eq-eqb (length (flat nodeWords plan) % planNodeWords) 0 (omega (arith, found .size)) in
           (rw (whole, many, few) (found .judged ∙ ap Legal (zero-add (length plan))), rw many (found .back))
+
+      lowest : (words : List ℕ) (place : ℕ) → sizeOk words ≡ true → judgement catalogue words ≡ Illegal place → LowestIllegal catalogue words place
+      lowest words place good e =
+          let found : Behind [] words place = first-illegal (length words / planNodeWords) [] words place (rw good at e) in
+          let at : found .nodes-before ≡ place = omega (arith, found .placed) in
+          subst (LowestIllegal catalogue words) at (record { before = found .legal; all-read = found .many; illegal = found .illegal })

@@ -1,7 +1,7 @@
 -- Refusal 9: which plans are legal, and where the others are refused. Document 01, "The plan" and "Refusal numbers"; RULINGS 10.
-use Prim.Native.Nat.{ℕ, zero, suc, _/_, _%_}
+use Prim.Native.Nat.{ℕ, zero, suc, _*_, _/_, _%_}
 use mathlib.Core.Path.{_≡_}
-use mathlib.Core.Bool.{Bool, false, cond, _&&_, So}
+use mathlib.Core.Bool.{Bool, true, false, cond, _&&_, So}
 use mathlib.Core.List.{List, [], _∷_, _++_}
 use mathlib.Core.Option.{Option, some, none}
 use lib.Dec.{eqb}
@@ -9,8 +9,8 @@ use lib.ListN.{length, take, drop}
 use Rattle.relations.specs.Limits.{planNodeLimit, planNodeWords}
 use Rattle.relations.specs.Lists.{flat}
 use Rattle.relations.specs.Nodes as nodes
-use Rattle.relations.specs.Plan.{widthOfNode}
-use Rattle.relations.specs.Legality.{between, legalNode, legalPlan}
+use Rattle.relations.specs.Plan.{widthOfNode, widths}
+use Rattle.relations.specs.Legality.{between, legalNode, legalNodes, legalPlan}
 use Rattle.relations.specs.PlanWords.{nodeWords, readNode}
 use Rattle.catalogue.specs.Stored.{relationsOf, columnsOf}
 use Rattle.plans.specs.declared.judging.Width.{Width}
@@ -44,10 +44,14 @@ judgeNodes catalogue (suc count) made words =
     onward (judgedNode catalogue made (readNode (take planNodeWords words))) (length made)
     (λ width. judgeNodes catalogue count (made ++ (width ∷ [])) (drop planNodeWords words))
 
--- "plan words not a multiple of 36, or 0 or over 256 nodes; or a node illegal", at 0 or at the lowest such node
+-- not "plan words not a multiple of 36, or 0 or over 256 nodes"
+abbrev pub sizeOk : List ℕ → Bool
+sizeOk words = eqb (length words % planNodeWords) 0 && between 1 planNodeLimit (length words / planNodeWords)
+
+-- 9: that, at 0; "or a node illegal", at the "lowest such node"
 abbrev pub judgement : List ℕ → List ℕ → Judgement
 judgement catalogue words =
-    cond (eqb (length words % planNodeWords) 0 && between 1 planNodeLimit (length words / planNodeWords))
+    cond (sizeOk words)
     (judgeNodes catalogue (length words / planNodeWords) [] words)
     (Illegal 0)
 
@@ -77,9 +81,20 @@ planNumbers (Illegal at) = record { status = 9; place = at; nodes = 0 }
 abbrev pub judgedPlan : (catalogue words : List ℕ) → PlanNumbers
 judgedPlan catalogue words = planNumbers (judgement catalogue words)
 
--- what is claimed: judged legal are the words of legal plans, and no others
+-- the words of a node
+abbrev pub nodeWordsAt : List ℕ → ℕ → List ℕ
+nodeWordsAt words place = take planNodeWords (drop (place * planNodeWords) words)
+
+-- "lowest such node": the nodes before it are legal, and it is not, behind them
+pub record LowestIllegal (catalogue words : List ℕ) (at : ℕ) : Type 0 where
+  pub before : So (legalNodes (columnsOf catalogue) (relationsOf catalogue) [] (nodesIn at words))
+  pub all-read : length (nodesIn at words) ≡ at
+  pub illegal : legalRead (relationsOf catalogue) (widths (columnsOf catalogue) (nodesIn at words)) (readNode (nodeWordsAt words at)) ≡ false
+
+-- what is claimed: judged legal are the words of legal plans, and no others; where the number of words is right, the place is the lowest illegal node
 pub record JudgedExactly (catalogue : List ℕ) : Type 0 where
   pub sound : (words : List ℕ) (count : ℕ) → judgement catalogue words ≡ Legal count
       → So (legalPlan (columnsOf catalogue) (relationsOf catalogue) (nodesOf words)) × (flat nodeWords (nodesOf words) ≡ words) × (length (nodesOf words) ≡ count)
   pub complete : (plan : List nodes.Node) → So (legalPlan (columnsOf catalogue) (relationsOf catalogue) plan)
       → (judgement catalogue (flat nodeWords plan) ≡ Legal (length plan)) × (nodesOf (flat nodeWords plan) ≡ plan)
+  pub lowest : (words : List ℕ) (place : ℕ) → sizeOk words ≡ true → judgement catalogue words ≡ Illegal place → LowestIllegal catalogue words place
