@@ -15,10 +15,10 @@ use Rattle.calculus.specs.Form.{widthOfRange}
 use Rattle.catalogue.specs.Judging.{tablesOk}
 use Rattle.values.specs.Words.{wordsOf}
 use Rattle.question.specs.Trees.{questionOf}
-use Rattle.judgements.specs.Faults.{judgedByFaults}
+use Rattle.judgements.specs.Faults.{judgedQuestion}
 use Rattle.question.specs.declared.judgement.Judgement.the-variants.{Accepted}
 use Rattle.catalogue.specs.Stored.{columnsOf, storedTables}
-use Rattle.plans.specs.Judging.{nodesOf}
+use Rattle.plans.specs.Judging.{nodesOfPlan}
 use Rattle.translation.specs.TranslateCall.{planBufferWords, planOf, TranslateOutcome, unwritten, written, translateOutcome}
 use Rattle.running.specs.RunCall.{runRefusal, cleared, RunOutcome, answered, runOutcome}
 use Rattle.desk.specs.AnswerCall.{AnswerOutcome, planRan, answerOutcome}
@@ -48,7 +48,7 @@ pub record TranslateDemand (catalogue question : List ℕ) (mode : ℕ) (plan : 
 
 pub record RunDemand (catalogue tables plan work output : List ℕ) : Type 0 where
   pub table : runOutcome catalogue tables plan work output
-      ≡ outcomeBy (runLines catalogue tables plan work output) (refusedRun work output) (answered catalogue tables (nodesOf plan) (cleared work) output)
+      ≡ outcomeBy (runLines catalogue tables plan work output) (refusedRun work output) (answered catalogue tables (nodesOfPlan plan) (cleared work) output)
   pub exactly : AnsweredExactly (runOutcome catalogue tables plan work output .numbers .status) (runLines catalogue tables plan work output)
 
 pub record AnswerDemand (catalogue tables question : List ℕ) (mode : ℕ) (plan work output : List ℕ) : Type 0 where
@@ -111,7 +111,7 @@ pub record SameAnswer (catalogue tables question : List ℕ) (mode : ℕ) (plain
 
 -- an accepted question, plain and short; each call has buffers of its own, of any lengths but for the plan's
 pub record Demand3 (catalogue tables question : List ℕ) : Type 0 where
-  pub same : tablesOk catalogue tables ≡ true → judgedByFaults catalogue question ≡ Accepted
+  pub same : tablesOk catalogue tables ≡ true → judgedQuestion catalogue question ≡ Accepted
       → (mode : ℕ) → (mode ≡ 0 → ⊥) → (plain short : Buffers) → planBufferWords ≤ length (plain .plan) → planBufferWords ≤ length (short .plan)
       → HadRoom (answerWith catalogue tables question 0 plain) → HadRoom (answerWith catalogue tables question mode short)
       → SameAnswer catalogue tables question mode plain short

@@ -22,10 +22,10 @@ use Rattle.relations.proofs.BoolLaws.{and-left, and-right, and-both}
 use Rattle.relations.proofs.LegalityLaws.{legal-count}
 use Rattle.relations.proofs.PlanWordsOnly.{words-and-back}
 use Rattle.catalogue.specs.Stored.{relationsOf, columnsOf}
-use Rattle.plans.specs.Judging.{legalRead, judgedNode, onward, judgeNodes, sizeOk, judgement, nodesIn, nodesOf, nodeWordsAt, LowestIllegal, JudgedExactly}
+use Rattle.plans.specs.Judging.{legalRead, judgedNode, onward, judgePlanNodes, sizeOk, planJudgement, nodesIn, nodesOfPlan, nodeWordsAt, LowestIllegal, JudgedExactly}
 use Rattle.plans.specs.declared.judging.Width.the-variants.{Of, Illegal as NoWidth}
-use Rattle.plans.specs.declared.judging.Judgement.{Judgement}
-use Rattle.plans.specs.declared.judging.Judgement.the-variants.{Legal, Illegal}
+use Rattle.plans.specs.declared.judging.PlanJudgement.{PlanJudgement}
+use Rattle.plans.specs.declared.judging.PlanJudgement.the-variants.{Legal, Illegal}
 
 illegal-place : {at place : ℕ} → Illegal at ≡ Illegal place → at ≡ place
 illegal-place e = cc
@@ -42,14 +42,14 @@ module _ (catalogue : List ℕ) where
     pub node : nodes.Node
     pub read : readNode (take planNodeWords words) ≡ some node
     pub legal : So (legalNode (relationsOf catalogue) made node)
-    pub others : judgeNodes catalogue count (made ++ (widthOfNode (columnsOf catalogue) made node ∷ [])) (drop planNodeWords words) ≡ Legal total
+    pub others : judgePlanNodes catalogue count (made ++ (widthOfNode (columnsOf catalogue) made node ∷ [])) (drop planNodeWords words) ≡ Legal total
 
-  pub legal-first : (count : ℕ) (made words : List ℕ) (total : ℕ) → judgeNodes catalogue (suc count) made words ≡ Legal total → LegalFirst count made words total
-  unfolding judgeNodes
+  pub legal-first : (count : ℕ) (made words : List ℕ) (total : ℕ) → judgePlanNodes catalogue (suc count) made words ≡ Legal total → LegalFirst count made words total
+  unfolding judgePlanNodes
   legal-first count made words total e = go (readNode (take planNodeWords words)) refl e
     where
-      next : ℕ → Judgement
-      next = λ width. judgeNodes catalogue count (made ++ (width ∷ [])) (drop planNodeWords words)
+      next : ℕ → PlanJudgement
+      next = λ width. judgePlanNodes catalogue count (made ++ (width ∷ [])) (drop planNodeWords words)
 
       go : (read : Option nodes.Node) → readNode (take planNodeWords words) ≡ read → onward (judgedNode catalogue made read) (length made) next ≡ Legal total → LegalFirst count made words total
       go none read e = illegal-legal e
@@ -65,8 +65,8 @@ module _ (catalogue : List ℕ) where
     many : length (nodesIn count words) ≡ count
     counted : total ≡ length made + count
 
-  sound-nodes : (count : ℕ) (made words : List ℕ) (total : ℕ) → length words ≡ count * planNodeWords → judgeNodes catalogue count made words ≡ Legal total → Sound count made words total
-  unfolding judgeNodes nodesIn legalNodes
+  sound-nodes : (count : ℕ) (made words : List ℕ) (total : ℕ) → length words ≡ count * planNodeWords → judgePlanNodes catalogue count made words ≡ Legal total → Sound count made words total
+  unfolding judgePlanNodes nodesIn legalNodes
   sound-nodes zero made [] total size e = let is : length made ≡ total = cc in record { legal = refl; written = refl; many = refl; counted = omega arith }
   sound-nodes zero made (word ∷ words) total size e = absurd (omega arith)
   sound-nodes (suc count) made words total size e =
@@ -86,12 +86,12 @@ module _ (catalogue : List ℕ) where
       }
 
   record Complete (made : List ℕ) (plan : List nodes.Node) : Type 0 where
-    judged : judgeNodes catalogue (length plan) made (flat nodeWords plan) ≡ Legal (length made + length plan)
+    judged : judgePlanNodes catalogue (length plan) made (flat nodeWords plan) ≡ Legal (length made + length plan)
     back : nodesIn (length plan) (flat nodeWords plan) ≡ plan
     size : length (flat nodeWords plan) ≡ length plan * planNodeWords
 
   complete-nodes : (made : List ℕ) (plan : List nodes.Node) → So (legalNodes (columnsOf catalogue) (relationsOf catalogue) made plan) → Complete made plan
-  unfolding judgeNodes nodesIn legalNodes
+  unfolding judgePlanNodes nodesIn legalNodes
   complete-nodes made [] h = record { judged = ap Legal (sym (add-zero (length made))); back = refl; size = refl }
   complete-nodes made (node ∷ plan) h =
       let width : ℕ = widthOfNode (columnsOf catalogue) made node in
@@ -117,14 +117,14 @@ module _ (catalogue : List ℕ) where
     many : length (nodesIn nodes-before words) ≡ nodes-before
     illegal : legalRead (relationsOf catalogue) (run (widthOfNode (columnsOf catalogue)) made (nodesIn nodes-before words)) (readNode (nodeWordsAt words nodes-before)) ≡ false
 
-  first-illegal : (count : ℕ) (made words : List ℕ) (place : ℕ) → judgeNodes catalogue count made words ≡ Illegal place → Behind made words place
-  unfolding judgeNodes nodesIn legalNodes run
+  first-illegal : (count : ℕ) (made words : List ℕ) (place : ℕ) → judgePlanNodes catalogue count made words ≡ Illegal place → Behind made words place
+  unfolding judgePlanNodes nodesIn legalNodes run
   first-illegal zero made words place e = legal-illegal e
   first-illegal (suc count) made words place e =
       go (readNode (take planNodeWords words)) refl (λ width e. first-illegal count (made ++ (width ∷ [])) (drop planNodeWords words) place e) e
     where
-      next : ℕ → Judgement
-      next = λ width. judgeNodes catalogue count (made ++ (width ∷ [])) (drop planNodeWords words)
+      next : ℕ → PlanJudgement
+      next = λ width. judgePlanNodes catalogue count (made ++ (width ∷ [])) (drop planNodeWords words)
 
       here : legalRead (relationsOf catalogue) made (readNode (take planNodeWords words)) ≡ false → Illegal (length made) ≡ Illegal place → Behind made words place
       here bad e =
@@ -157,22 +157,22 @@ module _ (catalogue : List ℕ) where
   judged-exactly = record { sound = λ words count e. by-size words count (eqb (length words % planNodeWords) 0 && between 1 planNodeLimit (length words / planNodeWords)) refl e; complete = complete; lowest = lowest }
     where
       by-size : (words : List ℕ) (count : ℕ) (good : Bool) → (eqb (length words % planNodeWords) 0 && between 1 planNodeLimit (length words / planNodeWords)) ≡ good
-          → cond good (judgeNodes catalogue (length words / planNodeWords) [] words) (Illegal 0) ≡ Legal count
-          → So (legalPlan (columnsOf catalogue) (relationsOf catalogue) (nodesOf words)) × (flat nodeWords (nodesOf words) ≡ words) × (length (nodesOf words) ≡ count)
+          → cond good (judgePlanNodes catalogue (length words / planNodeWords) [] words) (Illegal 0) ≡ Legal count
+          → So (legalPlan (columnsOf catalogue) (relationsOf catalogue) (nodesOfPlan words)) × (flat nodeWords (nodesOfPlan words) ≡ words) × (length (nodesOfPlan words) ≡ count)
       by-size words count false good e = illegal-legal e
       by-size words count true good e =
           let n : ℕ = length words / planNodeWords in
           let whole : length words % planNodeWords ≡ 0 = eqb-true (length words % planNodeWords) 0 (and-left (eqb (length words % planNodeWords) 0) (between 1 planNodeLimit n) good) in
           let size : length words ≡ n * planNodeWords = sym (div-add-mod' (length words) planNodeWords) ∙ omega arith in
           let found : Sound n [] words count = sound-nodes n [] words count size e in (
-            and-both (between 1 planNodeLimit (length (nodesOf words))) (legalNodes (columnsOf catalogue) (relationsOf catalogue) [] (nodesOf words))
+            and-both (between 1 planNodeLimit (length (nodesOfPlan words))) (legalNodes (columnsOf catalogue) (relationsOf catalogue) [] (nodesOfPlan words))
                 (subst (λ (k : ℕ). So (between 1 planNodeLimit k)) (sym (found .many)) (and-right (eqb (length words % planNodeWords) 0) (between 1 planNodeLimit n) good))
                 (found .legal),
             found .written,
             omega (arith, found .many, found .counted),
           )
 
-      complete : (plan : List nodes.Node) → So (legalPlan (columnsOf catalogue) (relationsOf catalogue) plan) → (judgement catalogue (flat nodeWords plan) ≡ Legal (length plan)) × (nodesOf (flat nodeWords plan) ≡ plan)
+      complete : (plan : List nodes.Node) → So (legalPlan (columnsOf catalogue) (relationsOf catalogue) plan) → (planJudgement catalogue (flat nodeWords plan) ≡ Legal (length plan)) × (nodesOfPlan (flat nodeWords plan) ≡ plan)
       complete plan h =
           let few : So (between 1 planNodeLimit (length plan)) = and-left (between 1 planNodeLimit (length plan)) (legalNodes (columnsOf catalogue) (relationsOf catalogue) [] plan) h in
           let found : Complete [] plan = complete-nodes [] plan (and-right (between 1 planNodeLimit (length plan)) (legalNodes (columnsOf catalogue) (relationsOf catalogue) [] plan) h) in
@@ -180,7 +180,7 @@ module _ (catalogue : List ℕ) where
           let whole : eqb (length (flat nodeWords plan) % planNodeWords) 0 ≡ true = eq-eqb (length (flat nodeWords plan) % planNodeWords) 0 (omega (arith, found .size)) in
           (rw (whole, many, few) (found .judged ∙ ap Legal (zero-add (length plan))), rw many (found .back))
 
-      lowest : (words : List ℕ) (place : ℕ) → sizeOk words ≡ true → judgement catalogue words ≡ Illegal place → LowestIllegal catalogue words place
+      lowest : (words : List ℕ) (place : ℕ) → sizeOk words ≡ true → planJudgement catalogue words ≡ Illegal place → LowestIllegal catalogue words place
       lowest words place good e =
           let found : Behind [] words place = first-illegal (length words / planNodeWords) [] words place (rw good at e) in
           let at : found .nodes-before ≡ place = omega (arith, found .placed) in
