@@ -13,7 +13,7 @@ use Rattle.nodes.specs.Nodes.{nodeCount, nodeAt}
 use Rattle.nodes.specs.References.{lowest}
 use Rattle.question.specs.Judgement.{countOk, isAlpha, lowestIllFormed, lastNode, lowestNotOnce, lowestUnknown}
 use Rattle.judgements.specs.Faults.{lowestUnbound, lowestUnfit}
-use Rattle.plans.specs.Judging.{judgedPlan, nodesOf}
+use Rattle.plans.specs.Judging.{judgedPlan, nodesOfPlan}
 use Rattle.text.specs.Reading.{Next, goesOn, wrongAt, reading}
 use Rattle.text.specs.ReadCall.{smallBuffers}
 use Rattle.text.specs.Writing.{bundleText}
@@ -127,7 +127,7 @@ runningLines catalogue tables nodes work output = noRoom catalogue tables nodes 
 
 -- "Run: 7, 9, 10, 11."
 abbrev pub runLines : (catalogue tables plan work output : List ℕ) → List Line
-runLines catalogue tables plan work output = wrongTables catalogue tables ∷ illegalPlan catalogue plan ∷ runningLines catalogue tables (nodesOf plan) work output
+runLines catalogue tables plan work output = wrongTables catalogue tables ∷ illegalPlan catalogue plan ∷ runningLines catalogue tables (nodesOfPlan plan) work output
 
 -- "Answer: 7, 1, 8, 2 to 6, 9, 10, 11."
 abbrev pub answerLines : (catalogue tables question : List ℕ) (mode : ℕ) (plan work output : List ℕ) → List Line
