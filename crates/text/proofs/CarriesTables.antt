@@ -1,16 +1,15 @@
 -- The invariant of the loop that reads tables: as `Carries`, for two buffers and with their counts. Assumes nothing.
 use mathlib.Core.Path.{_≡_, refl, sym, ap, _∙_}
 use Prim.Native.Nat.{ℕ, _+_, _*_, _≤_}
-use mathlib.Core.List.{List, [], _∷_, _++_}
+use mathlib.Core.List.{List, _++_}
 use native.Mathlib.Omega.{arith}
 use lib.ListN.{length, drop, length-append}
 use lib.Seq.{sets}
 use Rattle.relations.specs.Limits.{wordLimit}
 use Rattle.catalogue.specs.Judging.{catalogueWords}
 use Rattle.text.specs.Reading.{Next, goesOn, wrongAt, Tables, noTables, tablesThen, andTables}
-use Rattle.text.specs.Answers.{Placed, standing, PlacedStep, TablesFound}
+use Rattle.text.specs.Answers.{Placed, standing, TablesFound}
 use Rattle.text.specs.declared.lines.Cursor.{Cursor}
-use Rattle.text.specs.declared.lines.Step.{Step}
 use Rattle.text.specs.declared.lines.Step.the-variants.{Next as Onward, Wrong as Stop}
 use Rattle.text.specs.declared.bundle.TablesRead.{TablesRead}
 use Rattle.relations.proofs.StoreLaws.{sets-append}

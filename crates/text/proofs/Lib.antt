@@ -15,7 +15,7 @@ pub mod FirstWrong
 -- What the code's loops carry
 pub mod Stores
 pub mod ReadingSteps
-pub mod RelationLaws
+pub mod OneLine
 pub mod Answered
 pub mod Carries
 pub mod CarriesTables

@@ -1,4 +1,4 @@
--- `text::lines::read_line` meets its contract. Behind its key a line is its numbers; without the key it is wrong.
+-- `text::lines::keyed_line` meets its contract. Behind its key a line is its numbers; without the key it is wrong.
 -- Assumes nothing.
 use Rattle.text.proofs.Carries.{carries-start, carries-wrong}
 use Rattle.text.proofs.ReadingSteps.{begins-room, line-begun, line-other}
@@ -6,8 +6,8 @@ use lib.ListN.{drop, length-drop}
 use mathlib.Core.Path.{sym, _∙_}
 use native.Mathlib.Omega.{arith}
 use borrow.Author.Needs.{needs}
-use Rattle.text.proofs.lines.read_line.Statement.{statement}
-use Rattle.text.proofs.lines.read_line.Tie as tie
+use Rattle.text.proofs.lines.keyed_line.Statement.{statement}
+use Rattle.text.proofs.lines.keyed_line.Tie as tie
 
 begins-with-requires : tie.Need-begins-with-requires
 begins-with-requires c κs = search needs
@@ -31,7 +31,7 @@ returns-2 : tie.Need-returns-2
 returns-2 c = let s = c .before .before .before .before .before in
     carries-wrong (carries-start _ _ _) (line-other (s .args .key .now) (drop (s .args .start .at) (s .args .text .now)) (s .args .count) (s .args .start .line) (sym (c .before .begins-with .ensures) ∙ c .if1 .left))
 
-pub read-line-spec : {M : Type 1} → statement M
-read-line-spec =
+pub keyed-line-spec : {M : Type 1} → statement M
+keyed-line-spec =
     tie.close
     (tie.spec begins-with-requires add-next read-numbers-requires same-length returns returns-2)
