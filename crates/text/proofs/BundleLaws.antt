@@ -1,5 +1,5 @@
 -- A bundle found, from its tables and its nodes; and what a call of `read` leaves, from the lines found. Assumes nothing.
-use mathlib.Core.Path.{_≡_, ap, _∙_}
+use mathlib.Core.Path.{_≡_, sym, ap, _∙_}
 use Prim.Native.Nat.{ℕ, _/_, _≤_, _<_}
 use mathlib.Core.List.{List}
 use mathlib.Core.Bool.{true, false}
@@ -11,7 +11,7 @@ use Rattle.relations.specs.Limits.{questionNodeLimit, questionNodeWords}
 use Rattle.text.specs.Limits.{byteLimit}
 use Rattle.catalogue.specs.Judging.{catalogueWords}
 use Rattle.text.specs.Reading as reads
-use Rattle.text.specs.Reading.{Next, goesOn, wrongAt, Tables, nodesOf, withTables, linesOf, reading}
+use Rattle.text.specs.Reading.{Next, goesOn, wrongAt, ReadTables, nodesOf, withTables, linesOf, reading}
 use Rattle.text.specs.ReadCall.{readRefused, bundleOutcome, smallBuffers, readOutcome}
 use Rattle.text.specs.Answers.{standing, TablesFound, NodesFound, linesAnswer, BundleFound}
 use Rattle.text.specs.declared.lines.Cursor.{Cursor}
@@ -20,7 +20,7 @@ use Rattle.text.specs.declared.bundle.TablesRead.{TablesRead}
 use Rattle.text.specs.declared.bundle.NodesRead.{NodesRead}
 use Rattle.text.specs.declared.bundle.Lines.the-variants.{Read as AllRead, Wrong as WrongLine}
 
-module _ {text : List ℕ} {found : Tables} {catalogue₀ catalogue₁ tables₀ tables₁ question₀ : List ℕ} {answer : TablesRead} (mode : ℕ)
+module _ {text : List ℕ} {found : ReadTables} {catalogue₀ catalogue₁ tables₀ tables₁ question₀ : List ℕ} {answer : TablesRead} (mode : ℕ)
     (tables : TablesFound text found 0 0 catalogue₀ catalogue₁ tables₀ tables₁ answer) where
   pub wrong-tables : {line : ℕ} → answer .step ≡ Stop line → BundleFound (withTables mode found) catalogue₀ catalogue₁ tables₀ tables₁ question₀ question₀ (WrongLine line)
   wrong-tables {line} e =
@@ -34,17 +34,17 @@ module _ {text : List ℕ} {found : Tables} {catalogue₀ catalogue₁ tables₀
 
     pub wrong-nodes : {line : ℕ} → last .step ≡ Stop line → BundleFound (withTables mode found) catalogue₀ catalogue₁ tables₀ tables₁ question₀ question₁ (WrongLine line)
     wrong-nodes {line} f =
-        let ends : nodesOf questionNodeLimit (cursor .line) (drop (cursor .at) text) .next ≡ wrongAt line = nodes .means ∙ ap (standing text) f in
-        record { means = rw (stands, ends); catalogue = tables .catalogue; tables = tables .tables; question = rw stands (nodes .words) }
+        let ends : nodesOf questionNodeLimit (cursor .line) (drop (cursor .at) text) .next ≡ wrongAt line = nodes .lines .means ∙ ap (standing text) f in
+        record { means = rw (stands, ends); catalogue = tables .catalogue; tables = tables .tables; question = rw stands (nodes .lines .words) }
 
     pub bundle-found : {end : Cursor} → last .step ≡ Onward end → length (found .tables) ≡ catalogueWords (found .catalogue)
         → BundleFound (withTables mode found) catalogue₀ catalogue₁ tables₀ tables₁ question₀ question₁ (AllRead mode (answer .pairs) (answer .words) (last .nodes))
     bundle-found {end} f many =
-        let ends : nodesOf questionNodeLimit (cursor .line) (drop (cursor .at) text) .next ≡ goesOn (end .line) (drop (end .at) text) = nodes .means ∙ ap (standing text) f in
+        let ends : nodesOf questionNodeLimit (cursor .line) (drop (cursor .at) text) .next ≡ goesOn (end .line) (drop (end .at) text) = nodes .lines .means ∙ ap (standing text) f in
         let pairs : length (found .catalogue) / 2 ≡ answer .pairs = omega (arith, tables .pairs-read) in
         let words : length (found .tables) ≡ answer .words = omega (arith, tables .words-read, many) in
-        let count : length (nodesOf questionNodeLimit (cursor .line) (drop (cursor .at) text) .words) / questionNodeWords ≡ last .nodes = omega (arith, nodes .counted ends) in
-        record { means = rw (stands, ends, pairs, words, count); catalogue = tables .catalogue; tables = tables .tables; question = rw stands (nodes .words) }
+        let count : length (nodesOf questionNodeLimit (cursor .line) (drop (cursor .at) text) .words) / questionNodeWords ≡ last .nodes = sym (nodes .counted) in
+        record { means = rw (stands, ends, pairs, words, count); catalogue = tables .catalogue; tables = tables .tables; question = rw stands (nodes .lines .words) }
 
 module _ (text catalogue tables question : List ℕ) where
   pub read-small : smallBuffers catalogue tables question ≡ true → readOutcome text catalogue tables question ≡ readRefused catalogue tables question 14 0

@@ -21,3 +21,5 @@ pub mod Carries
 pub mod CarriesTables
 pub mod BundleLaws
 pub mod WritingSteps
+-- One outcome for each contract
+pub mod Once

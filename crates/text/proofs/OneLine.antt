@@ -1,6 +1,6 @@
 -- One line of each kind: what it reads as by the tests that decide it, and what a caller knows when it was read. Assumes nothing.
 use mathlib.Core.Path.{_≡_, refl, sym, ap, subst, _∙_}
-use Prim.Native.Nat.{ℕ, _+_, _-_, _*_, _≤_, _<_}
+use Prim.Native.Nat.{ℕ, zero, suc, _+_, _-_, _*_, _≤_, _<_}
 use mathlib.Core.List.{List, [], _∷_}
 use mathlib.Core.Bool.{Bool, true, false, cond, _&&_}
 use mathlib.Core.Logic.{_⊎_, inl, inr}
@@ -12,8 +12,8 @@ use borrow.Author.Tests.{lt-ltb, le-ltb, ltb-true, ltb-false}
 use Rattle.relations.specs.Limits.{cataloguePairLimit, wordLimit, questionNodeLimit, questionNodeWords}
 use Rattle.relations.proofs.BoolLaws.{true-or-false}
 use Rattle.catalogue.specs.Judging.{pairOk}
-use Rattle.text.specs.Marks.{lineFeed, space, plainLine, shortLine, relationKey, nodeKey}
-use Rattle.text.specs.Reading.{value, noNumber, numberThen, goesOn, wrongAt, Read, nothing, andThen, begins, keyedLine, Relation, relation, noRelation, withRows, withColumns, relationOf, rowsOf, tableOf, tablesOf, unlessEnded, nodesOf, noBundle, withTables, linesOf}
+use Rattle.text.specs.Marks.{lineFeed, space, separator, plainLine, shortLine, relationKey, nodeKey}
+use Rattle.text.specs.Reading.{Number, value, noNumber, numberThen, Next, goesOn, wrongAt, Read, nothing, wordsThen, andThen, orWrong, numbers, begins, keyedLine, Relation, relation, noRelation, withRows, withColumns, relationOf, tableBehind, tableOf, tablesOf, unlessEnded, nodesOf, noBundle, withTables, linesOf}
 use Rattle.text.specs.Answers.{standing, Placed, LinesRead, LineAsked, modeRead, pairRead, oneLine}
 use Rattle.text.specs.declared.lines.Cursor.{Cursor}
 use Rattle.text.specs.declared.lines.Step.{Step}
@@ -107,7 +107,7 @@ module _ (total : ℕ) (text : List ℕ) (at line : ℕ) where
 pub record TableBegun (total line : ℕ) (bytes pair : List ℕ) (next : ℕ) (rest : List ℕ) : Type 0 where
   pub next-line : next ≡ line + 1
   pub pair-is : pair ≡ getD pair 0 0 ∷ getD pair 1 0 ∷ []
-  pub table-is : tableOf total line bytes ≡ rowsOf line (relation (getD pair 0 0) (getD pair 1 0) rest)
+  pub table-is : tableOf total line bytes ≡ tableBehind line (relation (getD pair 0 0) (getD pair 1 0) rest)
   pub ok : pairOk (getD pair 0 0) (getD pair 1 0) ≡ true
   pub fits : total + getD pair 0 0 * getD pair 1 0 ≤ wordLimit
 
@@ -128,13 +128,34 @@ module _ (total line : ℕ) (bytes : List ℕ) {text pair : List ℕ} {answer : 
           rw kept (record { next-line = l; pair-is = refl; table-is = rw (is, b); ok = head .ok; fits = head .fits })
       go noRelation is kept n = no-next n
 
-  pub no-table : {wrong : ℕ} → answer ≡ Stop wrong → (tableOf total line bytes ≡ rowsOf line noRelation) × (wrong ≡ line)
+  pub no-table : {wrong : ℕ} → answer ≡ Stop wrong → (tableOf total line bytes ≡ tableBehind line noRelation) × (wrong ≡ line)
   unfolding tableOf
   no-table {wrong} e = go (relationOf total behind) refl (rw key at (read .means ∙ ap (standing text) e))
     where
-      go : (found : Relation) → relationOf total behind ≡ found → pairRead line found .next ≡ wrongAt wrong → (rowsOf line (relationOf total behind) ≡ rowsOf line noRelation) × (wrong ≡ line)
+      go : (found : Relation) → relationOf total behind ≡ found → pairRead line found .next ≡ wrongAt wrong → (tableBehind line (relationOf total behind) ≡ tableBehind line noRelation) × (wrong ≡ line)
       go (relation columns rows rest) is n = no-next (sym n)
-      go noRelation is n = let l : wrong ≡ line = cc in (ap (rowsOf line) is, l)
+      go noRelation is n = let l : wrong ≡ line = cc in (ap (tableBehind line) is, l)
+
+-- A wrong line gave fewer words than it should have.
+numbers-short : (count line : ℕ) (bytes : List ℕ) {wrong : ℕ} → numbers count line bytes .next ≡ wrongAt wrong → length (numbers count line bytes .words) < count
+unfolding numbers
+numbers-short zero line bytes n = no-next (sym n)
+numbers-short (suc more) line bytes {wrong} n = go (numberThen (separator more) bytes) n (λ rest m. numbers-short more line rest m)
+  where
+    go : (found : Number) → orWrong line found (λ value rest. numbers more line rest) .next ≡ wrongAt wrong
+        → ((rest : List ℕ) → numbers more line rest .next ≡ wrongAt wrong → length (numbers more line rest .words) < more)
+        → length (orWrong line found (λ value rest. numbers more line rest) .words) < suc more
+    go (value number rest) n ih = let h : length (numbers more line rest .words) < more = ih rest n in omega arith
+    go noNumber n ih = omega arith
+
+line-short : (key : List ℕ) (count line : ℕ) (bytes : List ℕ) → 0 < count → {wrong : ℕ} → keyedLine key count line bytes .next ≡ wrongAt wrong → length (keyedLine key count line bytes .words) < count
+unfolding keyedLine
+line-short key count line bytes some {wrong} n = go (begins key bytes) n
+  where
+    go : (begun : Bool) → cond begun (numbers count line (drop (length key) bytes)) (nothing (wrongAt line)) .next ≡ wrongAt wrong
+        → length (cond begun (numbers count line (drop (length key) bytes)) (nothing (wrongAt line)) .words) < count
+    go true n = numbers-short count line (drop (length key) bytes) n
+    go false n = some
 
 -- A node line: within the limit, or beyond it.
 module _ (before line : ℕ) (bytes : List ℕ) where
@@ -153,6 +174,14 @@ module _ (before line : ℕ) (bytes : List ℕ) where
       go true w n = (ltb-true before questionNodeLimit w, keyedLine-length nodeKey questionNodeWords line bytes after rest n)
       go false w n = no-next n
 
+  node-short : {wrong : ℕ} → oneLine (NodeLine before) line bytes .next ≡ wrongAt wrong → length (oneLine (NodeLine before) line bytes .words) < questionNodeWords
+  node-short {wrong} e = go (ltb before questionNodeLimit) e
+    where
+      go : (within : Bool) → cond within (keyedLine nodeKey questionNodeWords line bytes) (nothing (wrongAt line)) .next ≡ wrongAt wrong
+          → length (cond within (keyedLine nodeKey questionNodeWords line bytes) (nothing (wrongAt line)) .words) < questionNodeWords
+      go true n = line-short nodeKey questionNodeWords line bytes (omega arith) n
+      go false n = omega arith
+
   -- the nodes that are left are a line, and those behind it
   pub node-step : nodesOf (questionNodeLimit - before) line bytes
       ≡ andThen (oneLine (NodeLine before) line bytes) (λ after rest. unlessEnded after rest (nodesOf (questionNodeLimit - before - 1) after rest))
@@ -162,3 +191,11 @@ module _ (before line : ℕ) (bytes : List ℕ) where
           ≡ andThen (oneLine (NodeLine before) line bytes) (λ after rest. unlessEnded after rest (nodesOf (questionNodeLimit - before - 1) after rest))
       go (inl e) = rw e (nodes-step (questionNodeLimit - before) line bytes (omega (arith, ltb-true before questionNodeLimit e)))
       go (inr e) = rw e (nodes-done (questionNodeLimit - before) line bytes (omega (arith, ltb-false before questionNodeLimit e)))
+
+  -- where that line is wrong, no whole node is left
+  pub node-cut : {wrong : ℕ} → oneLine (NodeLine before) line bytes .next ≡ wrongAt wrong → length (nodesOf (questionNodeLimit - before) line bytes .words) < questionNodeWords
+  node-cut {wrong} e =
+      let first : Read = oneLine (NodeLine before) line bytes in
+      let more : ℕ → List ℕ → Read = λ after rest. unlessEnded after rest (nodesOf (questionNodeLimit - before - 1) after rest) in
+      let is : nodesOf (questionNodeLimit - before) line bytes ≡ wordsThen (first .words) (wrongAt wrong) more = node-step ∙ ap (λ (x : Next). wordsThen (first .words) x more) e in
+      omega (arith, ap (λ (x : Read). length (x .words)) is, node-short e)

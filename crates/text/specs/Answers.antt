@@ -1,4 +1,5 @@
--- What the answers of the code's inner steps say of a text: positions stand for the bytes from there on. Assumes nothing.
+-- What the answers of the code's inner steps say of a text: positions stand for the bytes from there on. Each leaves one outcome
+-- (proofs/Once.antt). Assumes nothing.
 use Prim.Native.Nat.{ℕ, _+_, _*_, _/_, _≤_, _<_}
 use mathlib.Core.Path.{_≡_}
 use mathlib.Core.List.{List, [], _∷_}
@@ -11,7 +12,7 @@ use Rattle.catalogue.specs.Judging.{catalogueWords}
 use Rattle.text.specs.Marks.{plainLine, shortLine, relationKey, rowKey, nodeKey}
 use Rattle.text.specs.Put.{furthest}
 use Rattle.text.specs.Reading as reads
-use Rattle.text.specs.Reading.{value, noNumber, Next, goesOn, wrongAt, Read, nothing, begins, keyedLine, relation, noRelation, relationOf, Tables}
+use Rattle.text.specs.Reading.{value, noNumber, Next, goesOn, wrongAt, Read, nothing, begins, keyedLine, relation, noRelation, relationOf, ReadTables}
 use Rattle.text.specs.declared.lines.Cursor.{Cursor}
 use Rattle.text.specs.declared.lines.Number.{Number}
 use Rattle.text.specs.declared.lines.Number.the-variants.{Value, Wrong as NoValue}
@@ -90,7 +91,7 @@ module _ (text : List ℕ) where
   LineAsked at line kind to = Lawful kind × (to + wordsOn kind ≤ furthest) × Placed (record { at = at; line = line })
 
   -- tables: what was read stands behind `pairs` pairs and `total` words
-  pub record TablesFound (found : Tables) (pairs total : ℕ) (catalogue₀ catalogue₁ tables₀ tables₁ : List ℕ) (answer : TablesRead) : Type 0 where
+  pub record TablesFound (found : ReadTables) (pairs total : ℕ) (catalogue₀ catalogue₁ tables₀ tables₁ : List ℕ) (answer : TablesRead) : Type 0 where
     pub means : found .next ≡ standing (answer .step)
     pub placed : PlacedStep (answer .step)
     pub pairs-read : 2 * answer .pairs ≡ 2 * pairs + length (found .catalogue)
@@ -99,11 +100,10 @@ module _ (text : List ℕ) where
     pub catalogue : catalogue₁ ≡ sets catalogue₀ (2 * pairs) (found .catalogue)
     pub tables : tables₁ ≡ sets tables₀ total (found .tables)
 
-  -- nodes: those of a good reading are counted
+  -- nodes: their words as those of other lines, and whole ones counted
   pub record NodesFound (found : Read) (before after : List ℕ) (answer : NodesRead) : Type 0 where
-    pub means : found .next ≡ standing (answer .step)
-    pub counted : {line : ℕ} {bytes : List ℕ} → found .next ≡ goesOn line bytes → questionNodeWords * answer .nodes ≡ length (found .words)
-    pub words : after ≡ sets before 0 (found .words)
+    pub lines : LinesRead found 0 before after (answer .step)
+    pub counted : answer .nodes ≡ length (found .words) / questionNodeWords
 
 -- all lines: the numbers of a bundle, or the wrong line
 abbrev pub linesAnswer : reads.Bundle → Next → Lines

@@ -1,15 +1,14 @@
 -- `text::bundle::read_nodes` meets its contract. The loop carries the reading of the nodes that are left (`Carries`), and leaves at the text's end.
 -- Assumes nothing.
 use Rattle.text.proofs.Carries.{Carries, carries-start, carries-by, carries-lines, carries-off, carries-done, placed-at}
-use Rattle.text.proofs.ReadingLaws.{no-next}
 use Rattle.text.proofs.ReadingSteps.{text-ended, text-goes-on}
-use Rattle.text.proofs.OneLine.{node-read, node-step}
+use Rattle.text.proofs.OneLine.{node-read, node-step, node-cut}
 use Rattle.text.specs.Answers.{standing, oneLine}
 use Rattle.text.specs.declared.reader.Line.the-variants.{Node}
 use Rattle.text.specs.Reading.{Read, unlessEnded, nodesOf}
 use Rattle.relations.specs.Limits.{questionNodeLimit, questionNodeWords}
 use lib.ListN.{length, drop}
-use mathlib.Core.Path.{_≡_, refl, sym, ap, _∙_}
+use mathlib.Core.Path.{_≡_, refl, ap, _∙_}
 use Prim.Native.Nat.{_<_, _≤_, _-_, _+_, _*_}
 use borrow.Author.Needs.{needs}
 use native.Mathlib.Omega.{arith}
@@ -73,10 +72,11 @@ same-length : tie.Need-same-length Inv-loop μ-loop
 same-length c = c .before .before .before .before .before .next-line .kept .1 .1 .1 .1 .0 ∙ c .before .before .before .before .before .before .before .loop .inv .3
 
 returns : tie.Need-returns Inv-loop μ-loop
-returns c = let l = c .before .before .before .before .before .before .before .loop in let t = c .before .before .before .before .before .before .before .before .before .before .args .text .now in
-    let r = carries-off (l .inv .4) (λ after rest. unlessEnded after rest (nodesOf (questionNodeLimit - l .nodes - 1) after rest)) (node-step (l .nodes) (l .line) (drop (l .at) t))
-    (c .before .before .before .before .before .next-line .ensures) (c .before .wrong .given .1) in
-    record { means = r .means; counted = λ e. no-next (sym (r .means) ∙ e); words = r .words }
+returns c = let l = c .before .before .before .before .before .before .before .loop in let t = c .before .before .before .before .before .before .before .before .before .before .args .text .now in let read = c .before .before .before .before .before .next-line .ensures in let e = c .before .wrong .given .1 in
+    record {
+      lines = carries-off (l .inv .4) (λ after rest. unlessEnded after rest (nodesOf (questionNodeLimit - l .nodes - 1) after rest)) (node-step (l .nodes) (l .line) (drop (l .at) t)) read e;
+      counted = omega (arith, l .inv .4 .counts, node-cut (l .nodes) (l .line) (drop (l .at) t) (read .means ∙ ap (standing t) e));
+    }
 
 add-nodes : tie.Need-add-nodes Inv-loop μ-loop
 add-nodes c = omega (arith, head c .loop .inv .0)
@@ -87,8 +87,10 @@ same-length-2 c = c .before .before .before .before .before .before .next-line .
 returns-2 : tie.Need-returns-2 Inv-loop μ-loop
 returns-2 c = let t = c .before .before .before .before .before .before .before .before .before .before .before .args .text .now in let k = c .before .before .next .given .0 .0 in let o = one-node (c .before) in
     let ended = text-ended t (k .line) (k .at) (nodesOf (questionNodeLimit - c .before .before .before .before .before .before .before .before .loop .nodes - 1) (k .line) (drop (k .at) t)) (c .if1 .taken) in
-    let r = carries-done o {text = t} k ended (placed-at (c .before .before .before .before .before .before .next-line .ensures) (c .before .before .next .given .1)) in
-    record { means = r .means; counted = λ e. omega (arith, o .counts, ap (λ (x : Read). length (x .words)) ended); words = r .words }
+    record {
+      lines = carries-done o {text = t} k ended (placed-at (c .before .before .before .before .before .before .next-line .ensures) (c .before .before .next .given .1));
+      counted = omega (arith, o .counts, ap (λ (x : Read). length (x .words)) ended);
+    }
 
 loop-less : tie.Need-loop-less Inv-loop μ-loop
 loop-less c = omega (arith, c .before .before .before .before .before .before .before .before .loop .inv .0)

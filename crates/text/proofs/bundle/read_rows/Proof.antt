@@ -40,8 +40,8 @@ same-length c = c .before .before .before .before .before .next-line .kept .1 .1
 
 returns : tie.Need-returns Inv-loop μ-loop
 returns c = let s = c .before .before .before .before .before .before .before .before .before .before .before in let l = c .before .before .before .before .before .before .before .before .loop in
-    carries-off (l .inv .5) (λ after rest. keyedLines (rowKey) (s .args .columns) (l .left - 1) after rest)
-    (lines-step (rowKey) (s .args .columns) (l .left) (l .line) (drop (l .at) (s .args .text .now)) (omega arith)) (c .before .before .before .before .before .next-line .ensures) (c .before .wrong .given .1)
+    carries-off (l .inv .5) (λ after rest. keyedLines rowKey (s .args .columns) (l .left - 1) after rest)
+    (lines-step rowKey (s .args .columns) (l .left) (l .line) (drop (l .at) (s .args .text .now)) (omega arith)) (c .before .before .before .before .before .next-line .ensures) (c .before .wrong .given .1)
 
 add-place : tie.Need-add-place Inv-loop μ-loop
 add-place c = let l = c .before .before .before .before .before .before .before .before .loop in let s = c .before .before .before .before .before .before .before .before .before .before .before in omega (arith, times-step (s .args .columns) (l .left) (omega arith), l .inv .1, s .pre .1)
@@ -61,9 +61,9 @@ loop-again c = let s = c .before .before .before .before .before .before .before
       p .0,
       p .1,
       c .before .before .before .before .before .next-line .kept .1 .1 .1 .1 .0 ∙ l .inv .4,
-      carries-lines (l .inv .5) (s .args .columns) (λ after rest. keyedLines (rowKey) (s .args .columns) (l .left - 1) after rest)
-          (lines-step (rowKey) (s .args .columns) (l .left) (l .line) (drop (l .at) t) (omega arith)) r (c .before .next .given .1)
-          (keyedLine-length (rowKey) (s .args .columns) (l .line) (drop (l .at) t) _ _ (r .means ∙ ap (standing t) (c .before .next .given .1))),
+      carries-lines (l .inv .5) (s .args .columns) (λ after rest. keyedLines rowKey (s .args .columns) (l .left - 1) after rest)
+          (lines-step rowKey (s .args .columns) (l .left) (l .line) (drop (l .at) t) (omega arith)) r (c .before .next .given .1)
+          (keyedLine-length rowKey (s .args .columns) (l .line) (drop (l .at) t) _ _ (r .means ∙ ap (standing t) (c .before .next .given .1))),
     )
 
 same-length-2 : tie.Need-same-length-2 Inv-loop μ-loop
@@ -71,7 +71,7 @@ same-length-2 c = c .before .loop .inv .4
 
 returns-2 : tie.Need-returns-2 Inv-loop μ-loop
 returns-2 c = let s = c .before .before .before .before in let l = c .before .loop in
-    carries-done (l .inv .5) (record { at = l .at; line = l .line }) (lines-done (rowKey) (s .args .columns) (l .left) (l .line) (drop (l .at) (s .args .text .now)) (omega arith)) (l .inv .2, l .inv .3)
+    carries-done (l .inv .5) (record { at = l .at; line = l .line }) (lines-done rowKey (s .args .columns) (l .left) (l .line) (drop (l .at) (s .args .text .now)) (omega arith)) (l .inv .2, l .inv .3)
 
 pub read-rows-spec : {M : Type 1} → statement M
 read-rows-spec =

@@ -8,7 +8,7 @@ use lib.ListN.{drop}
 use Rattle.relations.specs.Limits.{wordLimit}
 use Rattle.catalogue.specs.Judging.{pairOk, catalogueWords}
 use Rattle.catalogue.proofs.Judgements.{good-pair}
-use Rattle.text.specs.Reading.{wrongAt, relation, tableOf, rowsOf}
+use Rattle.text.specs.Reading.{wrongAt, relation, tableOf, tableBehind}
 use Rattle.text.proofs.Carries.{placed-at}
 use Rattle.text.proofs.OneLine.{table-begun, no-table}
 use native.Mathlib.Omega.{arith}
@@ -20,7 +20,7 @@ use Rattle.text.proofs.bundle.read_table.Tie as tie
 record Begun (c : tie.After-wide2) : Type 0 where
   next-line : c .before .before .before .next .given .0 .0 .line ≡ c .before .before .before .before .before .before .before .before .before .before .before .args .start .line + 1
   table-is : tableOf (c .before .before .before .before .before .before .before .before .before .before .before .args .total) (c .before .before .before .before .before .before .before .before .before .before .before .args .start .line) (drop (c .before .before .before .before .before .before .before .before .before .before .before .args .start .at) (c .before .before .before .before .before .before .before .before .before .before .before .args .text .now))
-      ≡ rowsOf (c .before .before .before .before .before .before .before .before .before .before .before .args .start .line) (relation (c .before .wide .result) (c .wide2 .result) (drop (c .before .before .before .next .given .0 .0 .at) (c .before .before .before .before .before .before .before .before .before .before .before .args .text .now)))
+      ≡ tableBehind (c .before .before .before .before .before .before .before .before .before .before .before .args .start .line) (relation (c .before .wide .result) (c .wide2 .result) (drop (c .before .before .before .next .given .0 .0 .at) (c .before .before .before .before .before .before .before .before .before .before .before .args .text .now)))
   ok : pairOk (c .before .wide .result) (c .wide2 .result) ≡ true
   fits : c .before .before .before .before .before .before .before .before .before .before .before .args .total + c .before .wide .result * c .wide2 .result ≤ wordLimit
 
