@@ -1,12 +1,11 @@
 -- The wanted left rows by their keys: the keys stand from `out` on, the rows behind them, and then they are moved down. Assumes nothing.
 use mathlib.Core.Path.{_≡_, refl, sym, ap, ap₂, _∙_}
-use mathlib.Core.Bool.{Bool, true, not, cond}
+use mathlib.Core.Bool.{Bool}
 use mathlib.Core.List.{List, map}
 use Prim.Native.Nat.{ℕ, _+_, _-_, _*_, _≤_}
 use native.Mathlib.Omega.{arith}
 use lib.ListN.{length}
 use lib.Seq.{sets}
-use Rattle.relations.specs.Lists.{filter}
 use Rattle.relations.specs.Values.{Rows, Ascending, member, canonical}
 use Rattle.relations.specs.Columns.{Triple, attribute}
 use Rattle.relations.specs.Operations.{projectCandidates}
@@ -18,9 +17,8 @@ use Rattle.values.specs.declared.placing.Placed.{Placed}
 use Rattle.values.specs.declared.placing.Placed.the-variants.{Rows as Made, Full}
 use Rattle.values.proofs.FillLaws.{made-length, made-part, made-rows, made-fits, made-value}
 use Rattle.values.proofs.MakeLaws.{rows-by-parts, makes-as, makes-from, builds-makes, moved-makes}
-use Rattle.operations.specs.Lists.{triplesIn}
-use Rattle.operations.specs.Keys.{leftKey, equates, rightNumbers, wantedRows, Tried}
-use Rattle.operations.proofs.KeyLaws.{wanted-by-key}
+use Rattle.operations.specs.Keys.{wantedRows, Tried}
+use Rattle.operations.proofs.KeyLaws.{wanted-canonical}
 
 -- a value that a callee made
 pub made-room : {w out n : ℕ} {cs : Rows} {before after : List ℕ} {p : Placed} → out ≤ length before → p ≡ Made n → Builds w out 0 cs before after p → out + n * w ≤ length after
@@ -51,19 +49,27 @@ module _ {count out w : ℕ} {cs ds : Rows} {l₀ l₁ : List ℕ} {p : Placed} 
   }
 
 -- room for both
-pub tried-made : (wanted : Bool) (count : ℕ) (list : List ℕ) (left right : Value) (out keys n : ℕ) {cs : Rows} {l₀ l₁ l₂ l₃ : List ℕ} {p q : Placed} → equates count list ≡ true → end left ≤ out → out ≤ length l₀
-    → Builds count out 0 cs l₀ l₁ p → rowsAt count keys out l₁ ≡ canonical (projectCandidates (map attribute (rightNumbers count list)) (rowsOf right l₀)) → out + keys * count ≤ length l₁
-    → Builds (left .width) (out + keys * count) 0 (filter (λ t. cond wanted (member (leftKey count list t) (rowsAt count keys out l₁)) (not (member (leftKey count list t) (rowsAt count keys out l₁)))) (rowsOf left l₁)) l₁ l₂ q
-    → q ≡ Made n → l₃ ≡ sets l₂ out (part (out + keys * count) (n * left .width) l₂)
-    → Tried (left .width) out (wantedRows wanted (triplesIn count list) (rowsOf left l₀) (rowsOf right l₀)) l₀ l₃ (Made n)
-tried-made wanted count list left right out keys n {cs} {l₀} {l₁} {l₂} {l₃} {p} {q} e before inside g keyed room k told moved =
-    let keeping : Rows → Rows → Rows = λ ks rows. filter (λ t. cond wanted (member (leftKey count list t) ks) (not (member (leftKey count list t) ks))) rows in
-    let k′ : Builds (left .width) (out + keys * count) 0 (keeping (rowsAt count keys out l₁) (rowsOf left l₁)) l₁ l₂ (Made n) = rw told at k in
-    let m : Makes (left .width) out (keeping (rowsAt count keys out l₁) (rowsOf left l₁)) l₀ l₃ (Made n) =
+pub tried-made : (wanted : Bool) (triples : List Triple) (columns : List ℕ) (left right : Value) (out keys n : ℕ) {cs : Rows} {l₀ l₁ l₂ l₃ : List ℕ} {p q : Placed} → end left ≤ out → out ≤ length l₀
+    → Builds (length columns) out 0 cs l₀ l₁ p → rowsAt (length columns) keys out l₁ ≡ canonical (projectCandidates (map attribute columns) (rowsOf right l₀)) → out + keys * length columns ≤ length l₁
+    → Builds (left .width) (out + keys * length columns) 0 (wantedRows wanted triples (rowsOf left l₁) (rowsAt (length columns) keys out l₁)) l₁ l₂ q
+    → q ≡ Made n → l₃ ≡ sets l₂ out (part (out + keys * length columns) (n * left .width) l₂)
+    → Tried (left .width) out (wantedRows wanted triples (rowsOf left l₀) (projectCandidates (map attribute columns) (rowsOf right l₀))) l₀ l₃ (Made n)
+tried-made wanted triples columns left right out keys n {cs} {l₀} {l₁} {l₂} {l₃} {p} {q} before inside g keyed room k told moved =
+    let width : ℕ = length columns in
+    let k′ : Builds (left .width) (out + keys * width) 0 (wantedRows wanted triples (rowsOf left l₁) (rowsAt width keys out l₁)) l₁ l₂ (Made n) = rw told at k in
+    let m : Makes (left .width) out (wantedRows wanted triples (rowsOf left l₁) (rowsAt width keys out l₁)) l₀ l₃ (Made n) =
     moved-makes (omega arith) (made-length g) (λ start number h. made-part g start number h inside) (builds-makes room k′) moved in
-    let same : keeping (rowsAt count keys out l₁) (rowsOf left l₁) ≡ wantedRows wanted (triplesIn count list) (rowsOf left l₀) (rowsOf right l₀) =
-    ap₂ keeping keyed (made-rows g (left .width) (left .rows) (left .base) before inside) ∙ wanted-by-key wanted count list (rowsOf left l₀) (rowsOf right l₀) e in
+    let same : wantedRows wanted triples (rowsOf left l₁) (rowsAt width keys out l₁) ≡ wantedRows wanted triples (rowsOf left l₀) (projectCandidates (map attribute columns) (rowsOf right l₀)) =
+    ap₂ (wantedRows wanted triples) (made-rows g (left .width) (left .rows) (left .base) before inside) keyed ∙ wanted-canonical wanted triples (rowsOf left l₀) (projectCandidates (map attribute columns) (rowsOf right l₀)) in
     record { size = m .size; front = m .front; made = λ rows is. makes-as m (λ row. ap (member row) same) }
+
+-- no try
+pub tried-not : {w out : ℕ} {cs : Rows} {l : List ℕ} → Tried w out cs l l Full
+tried-not = record { size = refl; front = λ start n h. refl; made = λ rows e. let y : _≡_ {A = ℕ} 0 1 = cc in absurd (omega arith) }
+
+-- a try at the same rows
+pub tried-as : {w out : ℕ} {cs ds : Rows} {before after : List ℕ} {p : Placed} → cs ≡ ds → Tried w out cs before after p → Tried w out ds before after p
+tried-as e t = rw e at t
 
 -- after a try: what it made, or what another way makes
 

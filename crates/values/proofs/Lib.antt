@@ -8,4 +8,4 @@ pub mod BuildLaws
 pub mod FillLaws
 pub mod PutLaws
 pub mod MakeLaws
-pub mod BeginLaws
+pub mod BoundLaws
