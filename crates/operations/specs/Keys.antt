@@ -1,18 +1,17 @@
 -- Keys: the right columns that triples name, as a value of their own.
 use mathlib.Core.Path.{_≡_}
 use mathlib.Core.Bool.{Bool, true, not, _&&_, cond}
-use mathlib.Core.List.{List, [], _∷_}
-use Prim.Native.Nat.{ℕ, zero, suc, _+_, _≤_}
+use mathlib.Core.List.{List}
+use Prim.Native.Nat.{ℕ, zero, suc}
 use lib.Dec.{eqb}
-use lib.ListN.{length, getD, drop}
+use lib.ListN.{getD, drop}
 use Rattle.relations.specs.Rows.{Row}
 use Rattle.relations.specs.Lists.{any, filter}
 use Rattle.relations.specs.Values.{Rows}
 use Rattle.relations.specs.Columns.{Triple, wordAt, meets}
-use Rattle.values.specs.Words.{part}
 use Rattle.values.specs.Building.{Makes}
 use Rattle.values.specs.declared.placing.Placed.{Placed}
-use Rattle.values.specs.declared.placing.Placed.the-variants.{Rows as Made}
+use Rattle.values.specs.declared.placing.Placed.the-variants.{Rows as Made, Full}
 
 -- so many triples of other list words are those of the list, but that their right attributes are numbers of columns, which name the list's
 abbrev pub renumbers : (count : ℕ) (columns list other : List ℕ) → Bool
@@ -27,8 +26,7 @@ wantedRow wanted triples right row = cond wanted (any (meets triples row) right)
 abbrev pub wantedRows : Bool → List Triple → Rows → Rows → Rows
 wantedRows wanted triples left right = filter (wantedRow wanted triples right) left
 
--- what a try leaves that may have too little room for its own way
-pub record Tried (width out : ℕ) (candidates : Rows) (before after : List ℕ) (answer : Placed) : Type 0 where
-  pub size : length after ≡ length before
-  pub front : (start count : ℕ) → start + count ≤ out → part start count after ≡ part start count before
-  pub made : (rows : ℕ) → answer ≡ Made rows → Makes width out candidates before after answer
+-- what a try leaves: the value, or, where its own way has too little room, everything as it was
+abbrev pub Tried : (width out : ℕ) (candidates : Rows) (before after : List ℕ) → Placed → Type 0
+Tried width out candidates before after (Made rows) = Makes width out candidates before after (Made rows)
+Tried width out candidates before after Full = after ≡ before

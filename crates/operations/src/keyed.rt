@@ -9,7 +9,7 @@ ghost use Rattle.relations.specs.Values.{Ascending};
 ghost use Rattle.relations.specs.Columns.{attribute};
 ghost use Rattle.relations.specs.Operations.{projectCandidates, semijoinCandidates, antijoinCandidates};
 ghost use Rattle.values.specs.Words.{rowsOf, end};
-ghost use Rattle.values.specs.Building.{Makes};
+ghost use Rattle.values.specs.Building.{Blank, Makes};
 ghost use Rattle.operations.specs.Lists.{triplesIn};
 ghost use Rattle.operations.specs.Keys.{renumbers, wantedRows, Tried};
 use crate::bounds::triple_with;
@@ -19,6 +19,9 @@ use crate::columns::column_of;
 use crate::keep::Test;
 use crate::keep::keep;
 use crate::project::project;
+use values::clearing::clear_from;
+use values::clearing::clear_words;
+use values::clearing::finish;
 use values::placing::Placed;
 use values::placing::move_down;
 use values::rows::Value;
@@ -151,7 +154,8 @@ fn are_renumbered(list: &[u32], count: usize, columns: &[u32], other: &[u32]) ->
     true
 }
 
-// The wanted left rows by keys, the listed right columns, if these and the rows have room together: the rows are made behind the keys and moved down.
+// The wanted left rows by keys, the listed right columns, if these and the rows have room together: the rows are made behind the
+// keys and moved down. Where they have none, all is as it was.
 fn keep_by_key(
     list: &[u32],
     count: usize,
@@ -162,7 +166,7 @@ fn keep_by_key(
     wanted: bool,
     out: usize,
 ) -> Placed
-    requires { ⌜ (count * 3 ≤ length (now list)) × (0 < length (now columns)) × (length (now columns) ≤ columnLimit) × (0 < left .width) × (end left ≤ out) × (end right ≤ out) × (out ≤ length (now work)) ⌝ }
+    requires { ⌜ (count * 3 ≤ length (now list)) × (0 < length (now columns)) × (length (now columns) ≤ columnLimit) × (0 < left .width) × (end left ≤ out) × (end right ≤ out) × (out ≤ length (now work)) × Blank out (now work) ⌝ }
     ensures { λ r. ⌜ Tried (left .width) out (wantedRows wanted (triplesIn count (now (list .entry))) (rowsOf left (now (work .entry))) (projectCandidates (map attribute (now (columns .entry))) (rowsOf right (now (work .entry))))) (now (work .entry)) (now (work .exit)) r ⌝ }
 {
     let width = left.width;
@@ -177,13 +181,23 @@ fn keep_by_key(
             };
             match keep(list, work, left, Test::Meets(count, value, wanted), behind) {
                 Placed::Rows(rows) => {
-                    move_down(work, behind, rows * width, out);
+                    let words = rows * width;
+                    let end = out + words;
+                    let last = behind + words;
+                    move_down(work, behind, words, out);
+                    clear_words(work, end, last);
                     Placed::Rows(rows)
                 }
-                Placed::Full => Placed::Full,
+                Placed::Full => {
+                    clear_from(work, out);
+                    Placed::Full
+                }
             }
         }
-        Placed::Full => Placed::Full,
+        Placed::Full => {
+            clear_from(work, out);
+            Placed::Full
+        }
     }
 }
 
@@ -202,10 +216,32 @@ fn equated(list: &[u32], count: usize) -> u32
     number
 }
 
-// Whether the triples name a right column beyond the one behind those that are equated, or differ from that one where it is not the last.
+// Whether the columns are all those of a value of that width, in their order.
+fn are_all(columns: Columns, width: usize) -> bool
+    requires { ⌜ columns .count ≤ columnLimit ⌝ }
+{
+    let numbers = columns.numbers;
+    let count = columns.count;
+    let mut number: u32 = 1;
+    let mut i: usize = 0;
+    while i < count {
+        if numbers[i] != number {
+            return false;
+        }
+        number += 1;
+        i += 1;
+    }
+    count == width
+}
+
+// Whether the triples name a right column beyond the one behind those that are equated, or differ from that one where it is not the
+// last; but not where keys would be the right value itself.
 fn names_others(list: &[u32], count: usize, width: usize) -> bool
     requires { ⌜ count * 3 ≤ length (now list) ⌝ }
 {
+    if are_all(named_columns(list, count), width) {
+        return false;
+    }
     let next = equated(list, count) + 1;
     let mut i: usize = 0;
     while i < count {
@@ -230,7 +266,7 @@ fn try_keys(
     wanted: bool,
     out: usize,
 ) -> Placed
-    requires { ⌜ (count * 3 ≤ length (now list)) × (0 < left .width) × (end left ≤ out) × (end right ≤ out) × (out ≤ length (now work)) ⌝ }
+    requires { ⌜ (count * 3 ≤ length (now list)) × (0 < left .width) × (end left ≤ out) × (end right ≤ out) × (out ≤ length (now work)) × Blank out (now work) ⌝ }
     ensures { λ r. ⌜ Tried (left .width) out (wantedRows wanted (triplesIn count (now (list .entry))) (rowsOf left (now (work .entry))) (rowsOf right (now (work .entry)))) (now (work .entry)) (now (work .exit)) r ⌝ }
 {
     if left.rows < 4 {
@@ -275,12 +311,16 @@ fn keep_wanted(
     wanted: bool,
     out: usize,
 ) -> Placed
-    requires { ⌜ (0 < left .width) × (end left ≤ out) × (out ≤ length (now work)) × (end right ≤ out) × (count * 3 ≤ length (now list)) × Ascending (rowsOf right (now work)) ⌝ }
+    requires { ⌜ (0 < left .width) × (end left ≤ out) × (out ≤ length (now work)) × (end right ≤ out) × (count * 3 ≤ length (now list)) × Ascending (rowsOf right (now work)) × Blank out (now work) ⌝ }
     ensures { λ r. ⌜ Makes (left .width) out (wantedRows wanted (triplesIn count (now (list .entry))) (rowsOf left (now (work .entry))) (rowsOf right (now (work .entry)))) (now (work .entry)) (now (work .exit)) r ⌝ }
 {
     match try_keys(list, count, work, left, right, wanted, out) {
         Placed::Rows(rows) => Placed::Rows(rows),
-        Placed::Full => keep(list, work, left, Test::Meets(count, right, wanted), out),
+        Placed::Full => finish(
+            keep(list, work, left, Test::Meets(count, right, wanted), out),
+            work,
+            out,
+        ),
     }
 }
 
@@ -293,7 +333,7 @@ pub fn semijoin(
     right: Value,
     out: usize,
 ) -> Placed
-    requires { ⌜ (0 < left .width) × (end left ≤ out) × (out ≤ length (now work)) × (end right ≤ out) × (count * 3 ≤ length (now list)) × Ascending (rowsOf right (now work)) ⌝ }
+    requires { ⌜ (0 < left .width) × (end left ≤ out) × (out ≤ length (now work)) × (end right ≤ out) × (count * 3 ≤ length (now list)) × Ascending (rowsOf right (now work)) × Blank out (now work) ⌝ }
     ensures { λ r. ⌜ Makes (left .width) out (semijoinCandidates (triplesIn count (now (list .entry))) (rowsOf left (now (work .entry))) (rowsOf right (now (work .entry)))) (now (work .entry)) (now (work .exit)) r ⌝ }
 {
     keep_wanted(list, count, work, left, right, true, out)
@@ -308,7 +348,7 @@ pub fn antijoin(
     right: Value,
     out: usize,
 ) -> Placed
-    requires { ⌜ (0 < left .width) × (end left ≤ out) × (out ≤ length (now work)) × (end right ≤ out) × (count * 3 ≤ length (now list)) × Ascending (rowsOf right (now work)) ⌝ }
+    requires { ⌜ (0 < left .width) × (end left ≤ out) × (out ≤ length (now work)) × (end right ≤ out) × (count * 3 ≤ length (now list)) × Ascending (rowsOf right (now work)) × Blank out (now work) ⌝ }
     ensures { λ r. ⌜ Makes (left .width) out (antijoinCandidates (triplesIn count (now (list .entry))) (rowsOf left (now (work .entry))) (rowsOf right (now (work .entry)))) (now (work .entry)) (now (work .exit)) r ⌝ }
 {
     keep_wanted(list, count, work, left, right, false, out)

@@ -27,10 +27,10 @@ use Rattle.relations.proofs.PlanWidths.{widths-kept}
 use Rattle.relations.proofs.ValueLaws.{ascending-canonical}
 use Rattle.catalogue.specs.Judging.{tablesOk}
 use Rattle.values.specs.Words.{rowsAt, rowsOf, end}
-use Rattle.values.specs.Building.{Makes}
+use Rattle.values.specs.Building.{Blank, Makes}
 use Rattle.values.specs.declared.rows.Value.{Value}
 use Rattle.values.specs.declared.placing.Placed.the-variants.{Rows as Placed·Rows}
-use Rattle.values.proofs.MakeLaws.{makes-fits, makes-count, makes-full}
+use Rattle.values.proofs.MakeLaws.{makes-length, makes-fits, makes-count, makes-full}
 use Rattle.catalogue.specs.Stored.{relationsOf, columnsOf, storedTables}
 use Rattle.plans.specs.Judging.{legalRead, judgeNodes, judgement, nodesIn, nodesOf}
 use Rattle.plans.specs.declared.judging.Judgement.the-variants.{Legal}
@@ -219,9 +219,9 @@ module _ (catalogue tables plan : List ℕ) (nodes : ℕ) (ok : tablesOk catalog
   pub plan-long : planNodeWords * nodes ≤ length plan
   plan-long = omega (arith, judged-sized catalogue plan nodes judged .many)
 
-  pub running-start : (ws ns bs work : List ℕ) → length ws ≡ planNodeLimit → length ns ≡ planNodeLimit → length bs ≡ planNodeLimit → Running catalogue tables plan nodes (length work) ws ns bs 0 0 0 0 work
+  pub running-start : (ws ns bs work : List ℕ) → length ws ≡ planNodeLimit → length ns ≡ planNodeLimit → length bs ≡ planNodeLimit → Blank 0 work → Running catalogue tables plan nodes (length work) ws ns bs 0 0 0 0 work
   unfolding valuesIn
-  running-start ws ns bs work w n b =
+  running-start ws ns bs work w n b clear =
       record {
         inPlan = omega arith;
         here = omega arith;
@@ -229,7 +229,7 @@ module _ (catalogue tables plan : List ℕ) (nodes : ℕ) (ok : tablesOk catalog
         rowsLong = n;
         basesLong = b;
         size = refl;
-        stand = record { rowsMany = refl; basesMany = refl; each = tt; inside = omega arith };
+        stand = record { rowsMany = refl; basesMany = refl; each = tt; inside = omega arith; blank = clear };
         reached = reached-start (length work);
       }
 
@@ -262,7 +262,7 @@ module _ (catalogue tables plan : List ℕ) (nodes : ℕ) (ok : tablesOk catalog
         pub running-off : answer ≡ NoRoom → fitWithin catalogue tables whole (length after) ≡ passesAt place
         running-off e =
             let over : length work - out < length (valueOfNode stored there (coming .node)) * widthOfNode columns (take place ws) (coming .node) = makes-full (rw e at made) (wide (r .reached) widths-there values-there more) in
-            let same : length after ≡ capacity = made .size ∙ r .size in
+            let same : length after ≡ capacity = makes-length (r .stand .inside) (r .stand .blank) made ∙ r .size in
             rw same (reached-off (r .reached) widths-there values-there more (omega (arith, over, r .size, r .stand .inside)))
 
         -- its value stands behind the others
@@ -274,7 +274,7 @@ module _ (catalogue tables plan : List ℕ) (nodes : ℕ) (ok : tablesOk catalog
           placed = rw (counted .0) (rw e at made)
 
           pub running-fits : out + count * width ≤ length work
-          running-fits = omega (arith, makes-fits placed, placed .size)
+          running-fits = omega (arith, makes-fits (r .stand .inside) (r .stand .blank) placed, makes-length (r .stand .inside) (r .stand .blank) placed)
 
           pub running-on : Running catalogue tables plan nodes capacity (set ws place width) (set ns place count) (set bs place out) (heavies + weight) (out + count * width) (place + 1) (at + planNodeWords) after
           running-on =
@@ -283,7 +283,7 @@ module _ (catalogue tables plan : List ℕ) (nodes : ℕ) (ok : tablesOk catalog
               let tn : take (place + 1) (set ns place count) ≡ take place ns ++ (count ∷ []) = rw (add-one place) (take-suc-set ns place count (omega (arith, r .rowsLong))) in
               let tb : take (place + 1) (set bs place out) ≡ take place bs ++ (out ∷ []) = rw (add-one place) (take-suc-set bs place out (omega (arith, r .basesLong))) in
               let thin : (1 ≤ width) × (width ≤ columnLimit) = rw (counted .0) (narrow (r .reached) widths-there values-there more) in
-              let many : count ≡ length (valueOfNode stored there (coming .node)) = makes-count placed in
+              let many : count ≡ length (valueOfNode stored there (coming .node)) = makes-count (r .stand .inside) (r .stand .blank) placed in
               let words : count * width ≡ valueWords (widthOfNode columns (take place ws) (coming .node)) (valueOfNode stored there (coming .node)) = ap₂ _*_ many (counted .0) in
               record {
                 inPlan = omega arith;
@@ -291,7 +291,7 @@ module _ (catalogue tables plan : List ℕ) (nodes : ℕ) (ok : tablesOk catalog
                 widthsLong = length-set ws place width ∙ r .widthsLong;
                 rowsLong = length-set ns place count ∙ r .rowsLong;
                 basesLong = length-set bs place out ∙ r .basesLong;
-                size = placed .size ∙ r .size;
+                size = makes-length (r .stand .inside) (r .stand .blank) placed ∙ r .size;
                 stand = rw (tw, tn, tb) (stand-more (r .stand) placed (thin .0) (thin .1));
                 reached =
                     rw (tw, tn, tb, standing-more (r .stand) placed, words, counted .1, counted .0)

@@ -6,6 +6,7 @@ ghost use Prim.Native.Nat.{ℕ, _≤_};
 ghost use lib.ListN.{length, replicate};
 ghost use Rattle.catalogue.specs.Judging.{tablesOk};
 ghost use Rattle.plans.specs.Judging.{judgement, nodesOf};
+ghost use Rattle.values.specs.Building.{Blank};
 ghost use Rattle.running.specs.RunCall.{runNumbers, runOutcome, capacityOf, fitWithin, ranOutcome};
 ghost use Rattle.running.specs.PlanRun.{PlanRun};
 use crate::node::Made;
@@ -16,6 +17,7 @@ use plans::judging::Judgement;
 use plans::judging::judge_plan;
 use plans::limits::NODE_WORDS;
 use plans::limits::NODES;
+use values::clearing::clear_from;
 use values::placing::write_row;
 use values::rows::Value;
 
@@ -53,7 +55,7 @@ fn run_nodes(
     nodes: usize,
     work: &mut [u32],
 ) -> Worked
-    requires { ⌜ (tablesOk (now catalogue) (now tables) ≡ true) × (judgement (now catalogue) (now plan) ≡ Judgement.Legal nodes) ⌝ }
+    requires { ⌜ (tablesOk (now catalogue) (now tables) ≡ true) × (judgement (now catalogue) (now plan) ≡ Judgement.Legal nodes) × Blank 0 (now work) ⌝ }
     ensures { λ r. ⌜ PlanRun (now (catalogue .entry)) (now (tables .entry)) (nodesOf (now (plan .entry))) (now (work .exit)) r ⌝ }
 {
     let mut widths = [0usize; NODES];
@@ -115,7 +117,7 @@ fn hand_out(
     work: &mut [u32],
     output: &mut [u32],
 ) -> Ran
-    requires { ⌜ (tablesOk (now catalogue) (now tables) ≡ true) × (judgement (now catalogue) (now plan) ≡ Judgement.Legal nodes) ⌝ }
+    requires { ⌜ (tablesOk (now catalogue) (now tables) ≡ true) × (judgement (now catalogue) (now plan) ≡ Judgement.Legal nodes) × Blank 0 (now work) ⌝ }
     ensures { λ r. ⌜ ((left : List ℕ) → record { numbers = runNumbers r; work = left; output = now (output .exit) } ≡ ranOutcome (now (catalogue .entry)) (now (tables .entry)) (nodesOf (now (plan .entry))) left (now (output .entry)) (fitWithin (now (catalogue .entry)) (now (tables .entry)) (nodesOf (now (plan .entry))) (length (now (work .entry))))) ⌝ }
 {
     match run_nodes(catalogue, tables, plan, nodes, work) {
@@ -139,17 +141,7 @@ fn hand_out(
     }
 }
 
-fn clear(words: &mut [u32])
-    ensures { λ r. ⌜ now (words .exit) ≡ replicate (length (now (words .entry))) 0 ⌝ }
-{
-    let mut i: usize = 0;
-    while i < words.len() {
-        words[i] = 0;
-        i += 1;
-    }
-}
-
-// Once running starts, all words of the work area are 0 afterwards, whatever the outcome.
+// The words of the work area are 0 when running starts, and all of them are 0 afterwards, whatever the outcome.
 fn run_legal(
     catalogue: &[u32],
     tables: &[u32],
@@ -161,8 +153,9 @@ fn run_legal(
     requires { ⌜ (tablesOk (now catalogue) (now tables) ≡ true) × (judgement (now catalogue) (now plan) ≡ Judgement.Legal nodes) ⌝ }
     ensures { λ r. ⌜ ((behind : List ℕ) → record { numbers = runNumbers r; work = now (work .exit) ++ behind; output = now (output .exit) } ≡ ranOutcome (now (catalogue .entry)) (now (tables .entry)) (nodesOf (now (plan .entry))) (replicate (length (now (work .entry))) 0 ++ behind) (now (output .entry)) (fitWithin (now (catalogue .entry)) (now (tables .entry)) (nodesOf (now (plan .entry))) (length (now (work .entry))))) ⌝ }
 {
+    clear_from(work, 0);
     let ran = hand_out(catalogue, tables, plan, nodes, work, output);
-    clear(work);
+    clear_from(work, 0);
     ran
 }
 

@@ -2,8 +2,8 @@ use mathlib.Core.Path.{_≡_, refl, sym, ap, ap₂, _∙_}
 use Prim.Native.Nat.{ℕ, _+_, _*_, _-_, _≤_, _<_}
 use lib.ListN.{length, getD, take, drop, length-set}
 use Rattle.relations.specs.Limits.{columnLimit}
-use Rattle.operations.specs.Lists.{triplesIn}
-use Rattle.operations.proofs.TriedLaws.{tried-told, tried-rows, tried-then}
+use Rattle.values.proofs.MakeLaws.{builds-makes}
+use Rattle.operations.proofs.TriedLaws.{tried-told}
 use native.Mathlib.Omega.{arith}
 use borrow.Author.Needs.{needs}
 use Rattle.operations.proofs.keyed.keep_wanted.Statement.{statement}
@@ -27,9 +27,12 @@ enum-told c = search needs
 
 -- src/keyed.rt:278:25
 keep-requires : tie.Need-keep-requires
-keep-requires c κs = let p = c .before .before .before .before .before .before .before .before .before .pre in let t = c .before .before .before .before .before .try-keys .ensures in (p .0, p .1, omega (arith, t .size), (p .3, p .4, rw (tried-rows t (c .before .before .before .before .before .before .before .before .before .args .right) (p .3)) (p .5)))
+keep-requires c κs = let p = c .before .before .before .before .before .before .before .before .before .pre in let e = rw (c .before .enum-told .given .1) at (c .before .before .before .before .before .try-keys .ensures) in (p .0, p .1, rw e (p .2), (p .3, p .4, rw e (p .5)))
 
 -- src/keyed.rt:264:1
+finish-requires : tie.Need-finish-requires
+finish-requires c κs = omega arith
+
 same-length : tie.Need-same-length
 same-length c = search needs
 
@@ -43,7 +46,7 @@ same-length-2 c = search needs
 
 -- src/keyed.rt:264:1
 returns-2 : tie.Need-returns-2
-returns-2 c = let s = c .before .before .before .before .before .before .before .before .before .before .before .before .args in let p = c .before .before .before .before .before .before .before .before .before .before .before .before .pre in tried-then (c .before .before .before .before .before .before .before .before .try-keys .ensures) (s .wanted) (triplesIn (s .count) (s .list .now)) (s .left) (s .right) (p .2) (p .1) (p .3) (c .before .before .keep .ensures)
+returns-2 c = let p = c .before .before .before .before .before .before .before .before .before .before .before .before .before .before .before .before .pre in let e = rw (c .before .before .before .before .before .before .before .before .enum-told .given .1) at (c .before .before .before .before .before .before .before .before .before .before .before .before .try-keys .ensures) in rw e at (builds-makes (rw e (p .2)) (rw e (p .6)) (c .before .before .before .before .before .before .keep .ensures) (c .before .before .finish .ensures))
 
 pub keep-wanted-spec : {M : Type 1} → statement M
 keep-wanted-spec =
@@ -53,6 +56,7 @@ keep-wanted-spec =
     enum-known-rows
     enum-told
     keep-requires
+    finish-requires
     same-length
     returns
     same-length-2

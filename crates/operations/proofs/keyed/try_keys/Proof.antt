@@ -5,7 +5,6 @@ use Rattle.relations.specs.Limits.{columnLimit}
 use lib.Seq.{length-take-le}
 use Rattle.values.specs.Words.{rowsOf}
 use Rattle.operations.proofs.KeyLaws.{wanted-by-key}
-use Rattle.operations.proofs.TriedLaws.{tried-not, tried-as}
 use native.Mathlib.Omega.{arith}
 use borrow.Author.Needs.{needs}
 use Rattle.operations.proofs.keyed.try_keys.Statement.{statement}
@@ -20,7 +19,7 @@ use Rattle.operations.proofs.keyed.renumbered.Reads as renumbered-reads
 
 -- src/keyed.rt:232:9
 returns : tie.Need-returns
-returns c = tried-not
+returns c = refl
 
 -- src/keyed.rt:234:18
 mul-if2 : tie.Need-mul-if2
@@ -28,7 +27,7 @@ mul-if2 c = search needs
 
 -- src/keyed.rt:235:9
 returns-2 : tie.Need-returns-2
-returns-2 c = tried-not
+returns-2 c = refl
 
 -- src/keyed.rt:237:9
 names-others-requires : tie.Need-names-others-requires
@@ -36,7 +35,7 @@ names-others-requires c κs = search needs
 
 -- src/keyed.rt:238:9
 returns-3 : tie.Need-returns-3
-returns-3 c = tried-not
+returns-3 c = refl
 
 -- src/keyed.rt:240:9
 named-columns-requires : tie.Need-named-columns-requires
@@ -51,7 +50,7 @@ numbers-of-requires : tie.Need-numbers-of-requires
 numbers-of-requires c κs = search needs
 
 returns-4 : tie.Need-returns-4
-returns-4 c = tried-not
+returns-4 c = refl
 
 -- src/keyed.rt:247:36
 array-share-prefix-numbers : tie.Need-array-share-prefix-numbers
@@ -85,7 +84,7 @@ slice-aggregate-keep-by-key-2 c = sym (length-take-le (c .before .before .before
 keep-by-key-requires : tie.Need-keep-by-key-requires
 keep-by-key-requires c κs = let p = c .before .before .before .before .before .before .before .before .before .before .before .before .before .before .before .before .before .before .pre in let n = c .before .before .before .before .before .before .before .before .before .before .named-columns .result .count in
     let e : length (take n (c .before .before .before .before .before .before .before .before .numbers-of .result)) ≡ n = length-take-le n (c .before .before .before .before .before .before .before .before .numbers-of .result) (omega (arith, c .before .before .before .before .before .before .before .before .before .before .named-columns .ensures)) in
-    (omega arith, omega arith, omega (arith, c .before .before .before .before .before .before .before .before .before .before .named-columns .ensures), p .1, p .2, p .3, p .4)
+    (omega arith, omega arith, omega (arith, c .before .before .before .before .before .before .before .before .before .before .named-columns .ensures), p .1, p .2, p .3, p .4, p .5)
 
 -- src/keyed.rt:219:1
 same-length : tie.Need-same-length
@@ -94,11 +93,11 @@ same-length c = search needs
 -- src/keyed.rt:219:1
 returns-5 : tie.Need-returns-5
 returns-5 c = let s = c .before .before .before .before .before .before .before .before .before .before .before .before .before .before .before .before .before .before .before .before .before .args in
-    tried-as (wanted-by-key (s .wanted) (s .count) (take (c .before .before .before .before .before .before .before .before .before .before .before .before .before .named-columns .result .count) (c .before .before .before .before .before .before .before .before .before .before .before .numbers-of .result)) (s .list .now) (c .before .before .before .before .before .before .before .before .before .before .before .before .renumbered .result) (rowsOf (s .left) (s .work .now)) (rowsOf (s .right) (s .work .now)) (sym (c .before .before .before .before .before .before .before .are-renumbered .ensures) ∙ c .before .before .before .before .before .before .if5 .taken)) (c .before .before .keep-by-key .ensures)
+    rw (wanted-by-key (s .wanted) (s .count) (take (c .before .before .before .before .before .before .before .before .before .before .before .before .before .named-columns .result .count) (c .before .before .before .before .before .before .before .before .before .before .before .numbers-of .result)) (s .list .now) (c .before .before .before .before .before .before .before .before .before .before .before .before .renumbered .result) (rowsOf (s .left) (s .work .now)) (rowsOf (s .right) (s .work .now)) (sym (c .before .before .before .before .before .before .before .are-renumbered .ensures) ∙ c .before .before .before .before .before .before .if5 .taken)) at (c .before .before .keep-by-key .ensures)
 
 -- src/keyed.rt:219:1
 returns-6 : tie.Need-returns-6
-returns-6 c = tried-not
+returns-6 c = refl
 
 pub try-keys-spec : {M : Type 1} → statement M
 try-keys-spec =

@@ -27,7 +27,7 @@ load-requires c κs =
     let s = c .before .before .before .before .before .before .before .before .before in
     let width : c .before .wide2 .result ≡ columnsOf (s .args .catalogue .now) (s .args .relation) = c .before .wide2 .ensures ∙ c .before .before .columns-of .ensures in
     let rows : c .before .before .before .wide .result ≡ rowsOf (s .args .catalogue .now) (s .args .relation) = c .before .before .before .wide .ensures ∙ c .before .before .before .before .rows-of .ensures in
-    (rw width (has-column (s .args .catalogue .now) (s .args .tables .now) (s .pre .0) (s .args .relation) (s .pre .1) .0), rw (width, rows, c .before .before .before .before .before .start-of .ensures) (stored-inside (s .args .catalogue .now) (s .args .tables .now) (s .pre .0) (s .args .relation) (s .pre .1)), s .pre .2)
+    (rw width (has-column (s .args .catalogue .now) (s .args .tables .now) (s .pre .0) (s .args .relation) (s .pre .1) .0), rw (width, rows, c .before .before .before .before .before .start-of .ensures) (stored-inside (s .args .catalogue .now) (s .args .tables .now) (s .pre .0) (s .args .relation) (s .pre .1)), s .pre .2, s .pre .3)
 
 same-length : tie.Need-same-length
 same-length c = search needs
