@@ -10,7 +10,7 @@ use Rattle.relations.specs.Nodes.{Node}
 use Rattle.relations.specs.Legality.{legalPlan}
 use Rattle.relations.specs.PlanWords.{nodeWords}
 use Rattle.catalogue.specs.Judging.{catalogueOk, tablesOk}
-use Rattle.judgements.specs.Faults.{judgedByFaults}
+use Rattle.judgements.specs.Faults.{judgedQuestion}
 use Rattle.question.specs.declared.judgement.Judgement.the-variants.{Accepted}
 use Rattle.judgements.proofs.FaultsDecide.{accepted-count}
 use Rattle.catalogue.specs.Stored.{relationsOf, columnsOf}
@@ -28,14 +28,14 @@ unfolding runOutcome
 legal-ran catalogue tables ok nodes legal work output = rw (ok, words-judged catalogue nodes legal, words-read catalogue nodes legal)
 
 -- an accepted question is translated
-pub accepted-written : (catalogue question : List ℕ) (mode : ℕ) (plan : List ℕ) → catalogueOk catalogue ≡ true → judgedByFaults catalogue question ≡ Accepted → planBufferWords ≤ length plan
+pub accepted-written : (catalogue question : List ℕ) (mode : ℕ) (plan : List ℕ) → catalogueOk catalogue ≡ true → judgedQuestion catalogue question ≡ Accepted → planBufferWords ≤ length plan
     → translateOutcome catalogue question mode plan ≡ written catalogue question mode plan
 unfolding translateOutcome
 accepted-written catalogue question mode plan ok accepted long = rw (ok, accepted-count catalogue question accepted, le-ltb (length plan) planBufferWords long, accepted)
 
 module _ (catalogue tables question : List ℕ) (mode : ℕ) (plan work output : List ℕ) where
   -- and its plan is run
-  pub written-ran : tablesOk catalogue tables ≡ true → judgedByFaults catalogue question ≡ Accepted → planBufferWords ≤ length plan
+  pub written-ran : tablesOk catalogue tables ≡ true → judgedQuestion catalogue question ≡ Accepted → planBufferWords ≤ length plan
       → translatedOutcome catalogue tables question mode plan work output (written catalogue question mode plan)
       ≡ planRan (written catalogue question mode plan) (ranOutcome catalogue tables (planOf catalogue question mode) (cleared work) output (fitWithin catalogue tables (planOf catalogue question mode) (capacityOf work)))
   written-ran ok accepted long =
@@ -43,7 +43,7 @@ module _ (catalogue tables question : List ℕ) (mode : ℕ) (plan work output :
       rw (words-front catalogue (planOf catalogue question mode) legal plan long)
       (ap (planRan (written catalogue question mode plan)) (legal-ran catalogue tables ok (planOf catalogue question mode) legal work output))
 
-  pub accepted-ran : tablesOk catalogue tables ≡ true → judgedByFaults catalogue question ≡ Accepted → planBufferWords ≤ length plan
+  pub accepted-ran : tablesOk catalogue tables ≡ true → judgedQuestion catalogue question ≡ Accepted → planBufferWords ≤ length plan
       → answerOutcome catalogue tables question mode plan work output
       ≡ planRan (written catalogue question mode plan) (ranOutcome catalogue tables (planOf catalogue question mode) (cleared work) output (fitWithin catalogue tables (planOf catalogue question mode) (capacityOf work)))
   unfolding answerOutcome

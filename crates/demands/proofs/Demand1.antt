@@ -10,7 +10,7 @@ use borrow.Author.Tests.{ltb-false, not-false}
 use Rattle.relations.specs.Lists.{flat}
 use Rattle.relations.specs.PlanWords.{nodeWords}
 use Rattle.catalogue.specs.Judging.{catalogueOk, tablesOk}
-use Rattle.judgements.specs.Faults.{judgedByFaults}
+use Rattle.judgements.specs.Faults.{judgedQuestion}
 use Rattle.question.specs.declared.judgement.Judgement.the-variants.{Accepted}
 use Rattle.judgements.proofs.FaultsDecide.{faults-accept-exactly}
 use Rattle.catalogue.proofs.TableLaws.{known-columns}
@@ -45,7 +45,7 @@ module _ (catalogue tables question : List ℕ) (mode : ℕ) (plan work output :
     tables-good : tablesOk catalogue tables ≡ true
     tables-good = not-false (tablesOk catalogue tables) (none .0)
 
-    accepted : judgedByFaults catalogue question ≡ Accepted
+    accepted : judgedQuestion catalogue question ≡ Accepted
     accepted = accepted-by-lines catalogue question (none .1 .0, none .1 .1 .1)
 
     long : planBufferWords ≤ length plan

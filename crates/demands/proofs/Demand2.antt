@@ -4,6 +4,7 @@ use mathlib.Core.Path.{_≡_, refl, sym, ap, _∙_}
 use mathlib.Core.Bool.{Bool, true, false}
 use mathlib.Core.List.{List, [], _∷_, _++_, append-assoc, append-nil}
 use native.Mathlib.Omega.{arith}
+use lib.Dec.{eqb}
 use lib.ListN.{length, take, getD}
 use lib.Seq.{sets, take-at, getD-append-seam}
 use Rattle.relations.specs.Lists.{flat}
@@ -20,17 +21,17 @@ use Rattle.relations.proofs.ValueLaws.{extensional}
 use Rattle.catalogue.specs.Judging.{catalogueOk}
 use Rattle.catalogue.specs.Stored.{storedTables}
 use Rattle.text.proofs.RoundTrip.{round-trip}
-use Rattle.judgements.specs.Faults.{judgedByFaults}
+use Rattle.judgements.specs.Faults.{judgedQuestion}
 use Rattle.question.specs.declared.judgement.Judgement.the-variants.{Accepted}
-use Rattle.plans.specs.Judging.{judgement, nodesOf}
-use Rattle.plans.specs.declared.judging.Judgement.{Judgement}
-use Rattle.plans.specs.declared.judging.Judgement.the-variants.{Legal, Illegal}
+use Rattle.plans.specs.Judging.{planJudgement, planNumbers, nodesOfPlan}
+use Rattle.plans.specs.declared.judging.PlanJudgement.{PlanJudgement}
+use Rattle.plans.specs.declared.judging.PlanJudgement.the-variants.{Legal, Illegal}
 use Rattle.plans.proofs.PlanTheorem.{judged-exactly}
 use Rattle.translation.specs.TranslateCall.{planBufferWords, planOf, written, translateOutcome}
 use Rattle.running.specs.RunCall.{cleared, answered, runOutcome}
 use Rattle.desk.specs.AnswerCall.{planIn, planRan, answerOutcome}
 use Rattle.desk.proofs.PlansLegal.{plan-legal}
-use Rattle.demands.specs.Refusals.{isIllegal, runLines, answerLines}
+use Rattle.demands.specs.Refusals.{runLines, answerLines}
 use Rattle.demands.specs.Demands.{refusedRun, refusedAnswer, NoneGiven, NodesExact, RunExact, PlanNamed, AnswerExact, Demand2}
 use Rattle.demands.proofs.PlanWritten.{words-front}
 use Rattle.demands.proofs.AnswerLaws.{accepted-written}
@@ -73,19 +74,19 @@ module _ (catalogue tables plan work output : List ℕ) (good : runOutcome catal
   run-none : NoneGiven (runLines catalogue tables plan work output)
   run-none = demand-1 .running catalogue tables plan work output .exactly .0 good
 
-  legal-words : (judged : Judgement) → judgement catalogue plan ≡ judged → isIllegal judged ≡ false → flat nodeWords (nodesOf plan) ≡ plan
+  legal-words : (judged : PlanJudgement) → planJudgement catalogue plan ≡ judged → eqb (planNumbers judged .status) 9 ≡ false → flat nodeWords (nodesOfPlan plan) ≡ plan
   legal-words (Legal count) is e = judged-exactly catalogue .sound plan count is .1
   legal-words (Illegal place) is e = let never : _≡_ {A = ℕ} 0 1 = cc in absurd (omega arith)
 
   run-exact : RunExact catalogue tables plan work output
   run-exact =
       record {
-        spelled = legal-words (judgement catalogue plan) refl (run-none .1 .0);
-        nodes = nodes-exact (storedTables catalogue tables) (nodesOf plan);
-        left = demand-1 .running catalogue tables plan work output .table ∙ none-answered (runLines catalogue tables plan work output) (refusedRun work output) (answered catalogue tables (nodesOf plan) (cleared work) output) run-none;
+        spelled = legal-words (planJudgement catalogue plan) refl (run-none .1 .0);
+        nodes = nodes-exact (storedTables catalogue tables) (nodesOfPlan plan);
+        left = demand-1 .running catalogue tables plan work output .table ∙ none-answered (runLines catalogue tables plan work output) (refusedRun work output) (answered catalogue tables (nodesOfPlan plan) (cleared work) output) run-none;
       }
 
-module _ (catalogue question : List ℕ) (mode : ℕ) (plan : List ℕ) (ok : catalogueOk catalogue ≡ true) (accepted : judgedByFaults catalogue question ≡ Accepted) (long : planBufferWords ≤ length plan) where
+module _ (catalogue question : List ℕ) (mode : ℕ) (plan : List ℕ) (ok : catalogueOk catalogue ≡ true) (accepted : judgedQuestion catalogue question ≡ Accepted) (long : planBufferWords ≤ length plan) where
   plan-named : PlanNamed catalogue question mode plan
   plan-named =
       let is = accepted-written catalogue question mode plan ok accepted long in

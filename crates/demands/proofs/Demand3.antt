@@ -15,7 +15,7 @@ use Rattle.catalogue.specs.Judging.{tablesOk}
 use Rattle.values.specs.Words.{wordsOf}
 use Rattle.values.proofs.RowsLaws.{length-words}
 use Rattle.values.proofs.WordLaws.{part-sets}
-use Rattle.judgements.specs.Faults.{judgedByFaults}
+use Rattle.judgements.specs.Faults.{judgedQuestion}
 use Rattle.question.specs.declared.judgement.Judgement.the-variants.{Accepted}
 use Rattle.translation.specs.TranslateCall.{planBufferWords, isShort, planOf, written}
 use Rattle.running.specs.RunCall.{RunOutcome, capacityOf, cleared, Fit, fits, passesAt, fitWithin, answerRows, answerWidth, answered, ranOutcome}
@@ -39,7 +39,7 @@ with-room catalogue tables nodes work output fits not10 not11 = go (ltb (length 
     go true over = absurd (not11 (rw over))
     go false over = record { whole = rw over; inside = ltb-false (length output) (valueWords (answerWidth catalogue tables nodes) (answerRows catalogue tables nodes)) over }
 
-module _ (catalogue tables question : List ℕ) (ok : tablesOk catalogue tables ≡ true) (accepted : judgedByFaults catalogue question ≡ Accepted) where
+module _ (catalogue tables question : List ℕ) (ok : tablesOk catalogue tables ≡ true) (accepted : judgedQuestion catalogue question ≡ Accepted) where
   module _ (mode : ℕ) (lent : Buffers) (long : planBufferWords ≤ length (lent .plan)) (room : HadRoom (answerWith catalogue tables question mode lent)) where
     -- the whole call is the answer of the question's plan
     answered-whole : (answerWith catalogue tables question mode lent ≡ planRan (written catalogue question mode (lent .plan)) (answered catalogue tables (planOf catalogue question mode) (cleared (lent .work)) (lent .output)))

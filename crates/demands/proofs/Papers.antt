@@ -9,9 +9,9 @@ use Rattle.values.specs.Words.{wordsOf}
 use Rattle.nodes.specs.Nodes.{kindNamed, usedWords, spelled, nodeAt}
 use Rattle.nodes.specs.References.{referencesTo, seen, firstFrom}
 use Rattle.question.specs.Trees.{treesBelow, treeOf, reading}
-use Rattle.judgements.specs.Faults.{faultAt, judgedByFaults}
+use Rattle.judgements.specs.Faults.{faultAt, judgedQuestion}
 use Rattle.catalogue.specs.Stored.{startOf, rowsIn}
-use Rattle.plans.specs.Judging.{judgeNodes as judgePlan, nodesIn}
+use Rattle.plans.specs.Judging.{judgePlanNodes, nodesIn}
 use Rattle.translation.specs.TranslateCall.{translateOutcome}
 use Rattle.running.specs.RunCall.{fitOf, runOutcome}
 use Rattle.desk.specs.AnswerCall.{answerOutcome}
@@ -26,7 +26,7 @@ shown-read = record { numbers = refl; catalogue = refl; tables = refl; question 
 
 -- each line in the table's order
 each-line : All Holds papers
-unfolding answerOutcome translateOutcome runOutcome pairsOk catalogueWords judgedByFaults nodeAt kindNamed usedWords spelled referencesTo seen firstFrom treesBelow treeOf reading faultAt translateRange widthOfRange judgePlan nodesIn startOf rowsIn run fitOf wordsOf
+unfolding answerOutcome translateOutcome runOutcome pairsOk catalogueWords judgedQuestion nodeAt kindNamed usedWords spelled referencesTo seen firstFrom treesBelow treeOf reading faultAt translateRange widthOfRange judgePlanNodes nodesIn startOf rowsIn run fitOf wordsOf
 each-line = (record { numbers = refl; rows = refl }, (record { numbers = refl; rows = refl }, (record { numbers = refl; rows = refl }, (record { numbers = refl; rows = refl }, (record { numbers = refl; rows = refl }, (record { numbers = refl; rows = refl }, (record { numbers = refl; rows = refl }, (record { numbers = refl; rows = refl }, (record { numbers = refl; rows = refl }, (record { numbers = refl; rows = refl }, (record { numbers = refl; rows = refl }, (record { numbers = refl; rows = refl }, tt))))))))))))
 
 pub papers-hold : PapersHold

@@ -16,7 +16,7 @@ use Rattle.calculus.proofs.LegalTheorem.{range-fits}
 use Rattle.calculus.proofs.RangeValues.{range-good}
 use Rattle.catalogue.specs.Judging.{catalogueWords, catalogueOk, tablesOk}
 use Rattle.judgements.specs.Accepted.{QuestionRight}
-use Rattle.judgements.specs.Faults.{judgedByFaults}
+use Rattle.judgements.specs.Faults.{judgedQuestion}
 use Rattle.question.specs.Trees.{questionOf}
 use Rattle.question.specs.declared.judgement.Judgement.the-variants.{Accepted}
 use Rattle.catalogue.specs.Stored.{relationsOf, columnsOf, storedTables}
@@ -34,7 +34,7 @@ pub record PlansRight (catalogue tables question : List ℕ) : Type 0 where
 pub catalogue-ok : (catalogue tables : List ℕ) → tablesOk catalogue tables ≡ true → catalogueOk catalogue ≡ true
 catalogue-ok catalogue tables ok = and-left (catalogueOk catalogue) (eqb (length tables) (catalogueWords catalogue)) ok
 
-module _ (catalogue tables question : List ℕ) (ok : tablesOk catalogue tables ≡ true) (accepted : judgedByFaults catalogue question ≡ Accepted) where
+module _ (catalogue tables question : List ℕ) (ok : tablesOk catalogue tables ≡ true) (accepted : judgedQuestion catalogue question ≡ Accepted) where
   right : QuestionRight catalogue question
   right = question-right catalogue question (catalogue-ok catalogue tables ok) accepted
 

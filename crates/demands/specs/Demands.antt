@@ -20,11 +20,11 @@ use Rattle.calculus.specs.Translation.{translate}
 use Rattle.catalogue.specs.Judging.{catalogueOk, tablesOk}
 use Rattle.values.specs.Words.{wordsOf}
 use Rattle.question.specs.Trees.{questionOf}
-use Rattle.judgements.specs.Faults.{judgedByFaults}
+use Rattle.judgements.specs.Faults.{judgedQuestion}
 use Rattle.judgements.specs.Accepted.{AcceptedExactly}
 use Rattle.question.specs.declared.judgement.Judgement.the-variants.{Accepted}
 use Rattle.catalogue.specs.Stored.{columnsOf, storedTables}
-use Rattle.plans.specs.Judging.{nodesOf, JudgedExactly}
+use Rattle.plans.specs.Judging.{nodesOfPlan, JudgedExactly}
 use Rattle.text.specs.Limits.{byteLimit}
 use Rattle.text.specs.Reading.{reading}
 use Rattle.text.specs.ReadCall.{ReadOutcome, readRefused, readOutcome}
@@ -61,7 +61,7 @@ pub record TranslateDemand (catalogue question : List ℕ) (mode : ℕ) (plan : 
 
 pub record RunDemand (catalogue tables plan work output : List ℕ) : Type 0 where
   pub table : runOutcome catalogue tables plan work output
-      ≡ outcomeBy (runLines catalogue tables plan work output) (refusedRun work output) (answered catalogue tables (nodesOf plan) (cleared work) output)
+      ≡ outcomeBy (runLines catalogue tables plan work output) (refusedRun work output) (answered catalogue tables (nodesOfPlan plan) (cleared work) output)
   pub exactly : AnsweredExactly (runOutcome catalogue tables plan work output .numbers .status) (runLines catalogue tables plan work output)
 
 pub record AnswerDemand (catalogue tables question : List ℕ) (mode : ℕ) (plan work output : List ℕ) : Type 0 where
@@ -101,7 +101,7 @@ pub record WriteDemand (mode : ℕ) (catalogue tables question text : List ℕ) 
 
 pub record Demand1 : Type 0 where
   -- once 7 is past, 1 to 6 refuse nothing but what document 01's lines 1 to 4 name and trees that are not in good form; 9 nothing but illegal plans
-  pub accepting : (catalogue question : List ℕ) → catalogueOk catalogue ≡ true → AcceptedExactly (judgedByFaults catalogue question) catalogue question
+  pub accepting : (catalogue question : List ℕ) → catalogueOk catalogue ≡ true → AcceptedExactly (judgedQuestion catalogue question) catalogue question
   pub judging : (catalogue : List ℕ) → JudgedExactly catalogue
   pub reading : (text catalogue tables question : List ℕ) → ReadDemand text catalogue tables question
   pub writing : (mode : ℕ) (catalogue tables question text : List ℕ) → WriteDemand mode catalogue tables question text
@@ -127,9 +127,9 @@ pub record NodesExact (tables : Tables) (plan : List Node) : Type 0 where
 
 -- A call of run that is answered: its words spell a plan, and it leaves that plan's last value, its heavy operations and its room.
 pub record RunExact (catalogue tables plan work output : List ℕ) : Type 0 where
-  pub spelled : flat nodeWords (nodesOf plan) ≡ plan
-  pub nodes : NodesExact (storedTables catalogue tables) (nodesOf plan)
-  pub left : runOutcome catalogue tables plan work output ≡ answered catalogue tables (nodesOf plan) (cleared work) output
+  pub spelled : flat nodeWords (nodesOfPlan plan) ≡ plan
+  pub nodes : NodesExact (storedTables catalogue tables) (nodesOfPlan plan)
+  pub left : runOutcome catalogue tables plan work output ≡ answered catalogue tables (nodesOfPlan plan) (cleared work) output
 
 -- A call of translate on an accepted question writes the plan that the rules name, and its words are the front of the buffer.
 pub record PlanNamed (catalogue question : List ℕ) (mode : ℕ) (plan : List ℕ) : Type 0 where
@@ -146,7 +146,7 @@ pub record Demand2 : Type 0 where
   -- a value is known by the rows that it has
   pub one-value : (has : Row → Bool) (one other : Rows) → Exactly has one → Exactly has other → one ≡ other
   pub running : (catalogue tables plan work output : List ℕ) → runOutcome catalogue tables plan work output .numbers .status ≡ 0 → RunExact catalogue tables plan work output
-  pub translating : (catalogue question : List ℕ) (mode : ℕ) (plan : List ℕ) → catalogueOk catalogue ≡ true → judgedByFaults catalogue question ≡ Accepted
+  pub translating : (catalogue question : List ℕ) (mode : ℕ) (plan : List ℕ) → catalogueOk catalogue ≡ true → judgedQuestion catalogue question ≡ Accepted
       → planBufferWords ≤ length plan → PlanNamed catalogue question mode plan
   pub answering : (catalogue tables question : List ℕ) (mode : ℕ) (plan work output : List ℕ) → answerOutcome catalogue tables question mode plan work output .numbers .status ≡ 0
       → AnswerExact catalogue tables question mode plan work output
@@ -190,7 +190,7 @@ pub record SameAnswer (catalogue tables question : List ℕ) (mode : ℕ) (plain
 
 -- an accepted question, plain and short; each call has buffers of its own, of any lengths but for the plan's
 pub record Demand3 (catalogue tables question : List ℕ) : Type 0 where
-  pub same : tablesOk catalogue tables ≡ true → judgedByFaults catalogue question ≡ Accepted
+  pub same : tablesOk catalogue tables ≡ true → judgedQuestion catalogue question ≡ Accepted
       → (mode : ℕ) → (mode ≡ 0 → ⊥) → (plain short : Buffers) → planBufferWords ≤ length (plain .plan) → planBufferWords ≤ length (short .plan)
       → HadRoom (answerWith catalogue tables question 0 plain) → HadRoom (answerWith catalogue tables question mode short)
       → SameAnswer catalogue tables question mode plain short

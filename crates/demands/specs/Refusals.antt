@@ -3,7 +3,7 @@ use Prim.Native.Nat.{ℕ, suc}
 use mathlib.Core.List.{List, [], _∷_, _++_}
 use mathlib.Core.Bool.{Bool, true, false, cond, not}
 use lib.ListN.{length, take}
-use lib.Dec.{ltb}
+use lib.Dec.{ltb, eqb}
 use Rattle.relations.specs.Lists.{flat}
 use Rattle.relations.specs.Nodes.{Node}
 use Rattle.relations.specs.Plan.{valueWords}
@@ -13,9 +13,7 @@ use Rattle.nodes.specs.Nodes.{nodeCount, nodeAt}
 use Rattle.nodes.specs.References.{lowest}
 use Rattle.question.specs.Judgement.{countOk, isAlpha, lowestIllFormed, lastNode, lowestNotOnce, lowestUnknown}
 use Rattle.judgements.specs.Faults.{lowestUnbound, lowestUnfit}
-use Rattle.plans.specs.Judging.{judgement, nodesOf}
-use Rattle.plans.specs.declared.judging.Judgement.{Judgement}
-use Rattle.plans.specs.declared.judging.Judgement.the-variants.{Legal, Illegal}
+use Rattle.plans.specs.Judging.{judgedPlan, nodesOfPlan}
 use Rattle.text.specs.Reading.{Next, goesOn, wrongAt, reading}
 use Rattle.text.specs.ReadCall.{smallBuffers}
 use Rattle.text.specs.Writing.{bundleText}
@@ -83,16 +81,8 @@ abbrev pub shortPlan : (plan : List ℕ) → Line
 shortPlan plan = line 8 (ltb (length plan) planBufferWords) 0
 
 -- "plan words not a multiple of 36, or 0 or over 256 nodes; or a node illegal", at "0; lowest such node"
-abbrev pub isIllegal : Judgement → Bool
-isIllegal (Legal nodes) = false
-isIllegal (Illegal place) = true
-
-abbrev pub placeIllegal : Judgement → ℕ
-placeIllegal (Legal nodes) = 0
-placeIllegal (Illegal place) = place
-
 abbrev pub illegalPlan : (catalogue words : List ℕ) → Line
-illegalPlan catalogue words = line 9 (isIllegal (judgement catalogue words)) (placeIllegal (judgement catalogue words))
+illegalPlan catalogue words = line 9 (eqb (judgedPlan catalogue words .status) 9) (judgedPlan catalogue words .place)
 
 module _ (catalogue tables : List ℕ) (nodes : List Node) where
   -- the room of the nodes up to one of them
@@ -137,7 +127,7 @@ runningLines catalogue tables nodes work output = noRoom catalogue tables nodes 
 
 -- "Run: 7, 9, 10, 11."
 abbrev pub runLines : (catalogue tables plan work output : List ℕ) → List Line
-runLines catalogue tables plan work output = wrongTables catalogue tables ∷ illegalPlan catalogue plan ∷ runningLines catalogue tables (nodesOf plan) work output
+runLines catalogue tables plan work output = wrongTables catalogue tables ∷ illegalPlan catalogue plan ∷ runningLines catalogue tables (nodesOfPlan plan) work output
 
 -- "Answer: 7, 1, 8, 2 to 6, 9, 10, 11."
 abbrev pub answerLines : (catalogue tables question : List ℕ) (mode : ℕ) (plan work output : List ℕ) → List Line

@@ -14,7 +14,7 @@ use Rattle.relations.specs.PlanWords.{nodeWords}
 use Rattle.catalogue.specs.Judging.{catalogueOk, tablesOk}
 use Rattle.nodes.specs.Nodes.{nodeCount, nodeAt}
 use Rattle.question.specs.Judgement.{countOk, isAlpha, lowestIllFormed, lastNode, lowestNotOnce, lowestUnknown}
-use Rattle.judgements.specs.Faults.{lowestUnbound, lowestUnfit, judgedByFaults}
+use Rattle.judgements.specs.Faults.{lowestUnbound, lowestUnfit, judgedQuestion}
 use Rattle.question.specs.declared.judgement.Judgement.{Judgement}
 use Rattle.question.specs.declared.judgement.Judgement.the-variants.{Accepted, Refused}
 use Rattle.translation.specs.TranslateCall.{TranslateOutcome, translateNumbers, translateRefusal, planBufferWords, planOf, unwritten, written, judgedOutcome, translateOutcome}
@@ -69,7 +69,7 @@ module _ (catalogue question : List ℕ) (mode : ℕ) (plan : List ℕ) where
   record Wrote (left : TranslateOutcome) : Type 0 where
     is-written : left ≡ written catalogue question mode plan
     catalogue-good : catalogueOk catalogue ≡ true
-    accepted : judgedByFaults catalogue question ≡ Accepted
+    accepted : judgedQuestion catalogue question ≡ Accepted
     long : planBufferWords ≤ length plan
 
   -- status 0: the plan is written; any other: the buffer is as it was
@@ -85,8 +85,8 @@ module _ (catalogue question : List ℕ) (mode : ℕ) (plan : List ℕ) where
   Numbered Accepted = Unit
   Numbered (Refused status place) = status ≡ 0 → ⊥
 
-  numbered : Numbered (judgedByFaults catalogue question)
-  unfolding judgedByFaults
+  numbered : Numbered (judgedQuestion catalogue question)
+  unfolding judgedQuestion
   numbered =
       either Numbered (countOk question)
       (either Numbered (ltb (lowestIllFormed question) (nodeCount question)) (λ e. omega (arith, e))
@@ -104,9 +104,9 @@ module _ (catalogue question : List ℕ) (mode : ℕ) (plan : List ℕ) where
       tested Leaves (not (catalogueOk catalogue)) (λ wrong. refusal-leaves 7 0 (λ e. omega (arith, e)))
       (λ right. tested Leaves (not (countOk question)) (λ wrong. refusal-leaves 1 0 (λ e. omega (arith, e)))
       (λ counted. tested Leaves (ltb (length plan) planBufferWords) (λ wrong. refusal-leaves 8 0 (λ e. omega (arith, e)))
-      (λ long. judged (not-false (catalogueOk catalogue) right) (ltb-false (length plan) planBufferWords long) (judgedByFaults catalogue question) refl numbered)))
+      (λ long. judged (not-false (catalogueOk catalogue) right) (ltb-false (length plan) planBufferWords long) (judgedQuestion catalogue question) refl numbered)))
     where
-      judged : catalogueOk catalogue ≡ true → planBufferWords ≤ length plan → (judgement : Judgement) → judgedByFaults catalogue question ≡ judgement → Numbered judgement
+      judged : catalogueOk catalogue ≡ true → planBufferWords ≤ length plan → (judgement : Judgement) → judgedQuestion catalogue question ≡ judgement → Numbered judgement
           → Leaves (judgedOutcome catalogue question mode plan judgement)
       judged right long (Refused status place) is other = refusal-leaves status place other
       judged right long Accepted is other =

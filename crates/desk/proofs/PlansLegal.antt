@@ -15,7 +15,7 @@ use Rattle.catalogue.specs.Judging.{catalogueOk}
 use Rattle.catalogue.specs.Stored.{relationsOf, columnsOf}
 use Rattle.catalogue.proofs.TableLaws.{known-columns}
 use Rattle.judgements.specs.Accepted.{QuestionRight}
-use Rattle.judgements.specs.Faults.{judgedByFaults}
+use Rattle.judgements.specs.Faults.{judgedQuestion}
 use Rattle.question.specs.Trees.{questionOf}
 use Rattle.question.specs.declared.judgement.Judgement.the-variants.{Accepted}
 use Rattle.judgements.proofs.Accepted.{accepted-right}
@@ -25,7 +25,7 @@ use Rattle.translation.specs.TranslateCall.{isShort, planOf}
 pub nodes-between : (catalogue : List ℕ) (nodes : List Node) → So (legalPlan (columnsOf catalogue) (relationsOf catalogue) nodes) → (1 ≤ length nodes) × (length nodes ≤ planNodeLimit)
 nodes-between catalogue nodes legal = so-between 1 planNodeLimit (length nodes) (and-left (between 1 planNodeLimit (length nodes)) (legalNodes (columnsOf catalogue) (relationsOf catalogue) [] nodes) legal)
 
-module _ (catalogue question : List ℕ) (ok : catalogueOk catalogue ≡ true) (accepted : judgedByFaults catalogue question ≡ Accepted) where
+module _ (catalogue question : List ℕ) (ok : catalogueOk catalogue ≡ true) (accepted : judgedQuestion catalogue question ≡ Accepted) where
   pub question-right : QuestionRight catalogue question
   question-right = accepted-right catalogue question (known-columns catalogue ok) (faults-decide catalogue question (known-columns catalogue ok) ∙ accepted)
 

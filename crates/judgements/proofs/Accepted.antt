@@ -15,7 +15,7 @@ use Rattle.nodes.specs.References.{referencesTo, seen, firstFrom, lowest, notOn
 use Rattle.catalogue.specs.Stored.{relationsOf, columnsOf}
 use Rattle.question.specs.Trees.{treeOf, treeNodes, questionOf}
 use Rattle.question.specs.Judgement.{countOk, isAlpha, isUnknown, lowestIllFormed, lastNode, lowestNotOnce, lowestUnknown}
-use Rattle.question.specs.Walk.{noWidths, faultsFound, judgeTree, judgeNodes, judged}
+use Rattle.question.specs.Walk.{noWidths, faultsFound, judgeTree, judgeNodes, judgedByWalk}
 use Rattle.judgements.specs.Accepted.{HasColumns, QuestionRight, TableRight, AcceptedExactly}
 use Rattle.nodes.specs.declared.node.Node.{Node}
 use Rattle.nodes.specs.declared.node.Node.the-variants.{Table, Alpha, Target, Binding, RangeOr, RangeAnd, RangeAndNot, Atom as AtomNode, And, Or, Not, Some, Every, IllFormed}
@@ -79,8 +79,8 @@ pub record Passed (catalogue words : List ℕ) : Type 0 where
   pub known : nodeCount words ≤ lowestUnknown catalogue words
   pub clean : Clean (faultsFound catalogue words)
 
-pub accepted-passed : (catalogue words : List ℕ) → judged catalogue words ≡ Accepted → Passed catalogue words
-unfolding judged judgeNodes judgeTree
+pub accepted-passed : (catalogue words : List ℕ) → judgedByWalk catalogue words ≡ Accepted → Passed catalogue words
+unfolding judgedByWalk judgeNodes judgeTree
 accepted-passed catalogue words h =
     let a = passed-first (countOk words) 1 0 (judgeNodes catalogue words) h in
     let b = passed (ltb (lowestIllFormed words) (nodeCount words)) 2 (lowestIllFormed words) _ (a .1) in
@@ -99,14 +99,14 @@ accepted-passed catalogue words h =
     }
 
 -- and a table of which this holds is accepted
-pub passed-accepted : (catalogue words : List ℕ) → Passed catalogue words → judged catalogue words ≡ Accepted
-unfolding judged
+pub passed-accepted : (catalogue words : List ℕ) → Passed catalogue words → judgedByWalk catalogue words ≡ Accepted
+unfolding judgedByWalk
 passed-accepted catalogue words p =
     rw (p .count)
     (sym (all-accepted catalogue words refl refl (p .known) (p .clean .bound) (p .clean .fit) ∙ tree-judged catalogue words refl refl (p .formed) (p .once) (p .alpha)))
 
 -- what meets the contract of `judge` is one judgement only
-pub one-judgement : (catalogue words : List ℕ) {a b : Judgement} → a ≡ judged catalogue words → b ≡ judged catalogue words → a ≡ b
+pub one-judgement : (catalogue words : List ℕ) {a b : Judgement} → a ≡ judgedByWalk catalogue words → b ≡ judgedByWalk catalogue words → a ≡ b
 one-judgement catalogue words p q = p ∙ sym q
 
 alpha-kind : (node : Node) → isAlpha node ≡ true → isRange (nodeKind node) ≡ true
@@ -161,7 +161,7 @@ right-tree catalogue words t =
     let e : nodeCount words ≡ suc last = omega (arith, c .some) in
     rw e (sorted words (relationsOf catalogue) (nodeCount words) (c .few) (t .formed) (t .known) last (omega arith) .as-range (alpha-kind (nodeAt words last) (t .alpha)))
 
-pub accepted-right : (catalogue words : List ℕ) → HasColumns catalogue → judged catalogue words ≡ Accepted → QuestionRight catalogue words
+pub accepted-right : (catalogue words : List ℕ) → HasColumns catalogue → judgedByWalk catalogue words ≡ Accepted → QuestionRight catalogue words
 accepted-right catalogue words has h =
     let p = accepted-passed catalogue words h in
     let t = passed-right catalogue words p in
@@ -178,7 +178,7 @@ accepted-right catalogue words has h =
       few = omega (arith, size, c .few);
     }
 
-pub accepted-exactly : (catalogue words : List ℕ) → HasColumns catalogue → AcceptedExactly (judged catalogue words) catalogue words
+pub accepted-exactly : (catalogue words : List ℕ) → HasColumns catalogue → AcceptedExactly (judgedByWalk catalogue words) catalogue words
 accepted-exactly catalogue words has =
     record {
       table-right = λ h. passed-right catalogue words (accepted-passed catalogue words h);

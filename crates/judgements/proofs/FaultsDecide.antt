@@ -14,9 +14,9 @@ use Rattle.nodes.specs.Nodes.{nodeCount, nodeAt}
 use Rattle.nodes.specs.References.{lowest}
 use Rattle.question.specs.Trees.{questionTree}
 use Rattle.question.specs.Judgement.{countOk, isAlpha, lowestIllFormed, lastNode, lowestNotOnce, lowestUnknown}
-use Rattle.question.specs.Walk.{noWidths, faultsFound, judgeTree, judgeNodes, judged}
+use Rattle.question.specs.Walk.{noWidths, faultsFound, judgeTree, judgeNodes, judgedByWalk}
 use Rattle.judgements.specs.Accepted.{HasColumns, TableRight, AcceptedExactly, FaultsDecide}
-use Rattle.judgements.specs.Faults.{faultAt, unbound, unfit, lowestUnbound, lowestUnfit, judgedByFaults}
+use Rattle.judgements.specs.Faults.{faultAt, unbound, unfit, lowestUnbound, lowestUnfit, judgedQuestion}
 use Rattle.question.specs.declared.judgement.Judgement.{Judgement}
 use Rattle.question.specs.declared.judgement.Judgement.the-variants.{Accepted, Refused}
 use Rattle.question.proofs.Counts.{counted}
@@ -72,7 +72,7 @@ module _ (catalogue words : List ℕ) (has : HasColumns catalogue) where
       (λ fit. refl))
 
   pub faults-decide : FaultsDecide catalogue words
-  unfolding judged judgeNodes judgeTree judgedByFaults
+  unfolding judgedByWalk judgeNodes judgeTree judgedQuestion
   faults-decide =
       before (countOk words) (Refused 1 0) (λ count.
       behind (ltb (lowestIllFormed words) (nodeCount words)) (Refused 2 (lowestIllFormed words)) (λ formed.
@@ -83,9 +83,9 @@ module _ (catalogue words : List ℕ) (has : HasColumns catalogue) where
       (searched-right catalogue words count (ltb-false (lowestIllFormed words) (nodeCount words) formed) (ltb-false (lowestNotOnce words) (lastNode words) once) alpha (ltb-false (lowestUnknown catalogue words) (nodeCount words) known)))))))
 
 -- what is accepted has passed 1
-pub accepted-count : (catalogue words : List ℕ) → judgedByFaults catalogue words ≡ Accepted → countOk words ≡ true
-unfolding judgedByFaults
+pub accepted-count : (catalogue words : List ℕ) → judgedQuestion catalogue words ≡ Accepted → countOk words ≡ true
+unfolding judgedQuestion
 accepted-count catalogue words e = passed-first (countOk words) 1 0 _ e .0
 
-pub faults-accept-exactly : (catalogue words : List ℕ) → HasColumns catalogue → AcceptedExactly (judgedByFaults catalogue words) catalogue words
+pub faults-accept-exactly : (catalogue words : List ℕ) → HasColumns catalogue → AcceptedExactly (judgedQuestion catalogue words) catalogue words
 faults-accept-exactly catalogue words has = rw (← faults-decide catalogue words has) (accepted-exactly catalogue words has)

@@ -12,8 +12,8 @@ use Rattle.nodes.specs.References.{referencesTo, seen}
 use Rattle.catalogue.specs.Stored.{relationsOf, columnsOf}
 use Rattle.question.specs.Trees.{questionOf}
 use Rattle.question.specs.Judgement.{countOk, isAlpha, isUnknown, lastNode}
-use Rattle.judgements.specs.Faults.{judgedByFaults}
-use Rattle.question.specs.Walk.{judged}
+use Rattle.judgements.specs.Faults.{judgedQuestion}
+use Rattle.question.specs.Walk.{judgedByWalk}
 use Rattle.question.specs.declared.judgement.Judgement.{Judgement}
 use Rattle.question.specs.declared.judgement.Judgement.the-variants.{Accepted}
 
@@ -47,4 +47,4 @@ pub record AcceptedExactly (judgement : Judgement) (catalogue words : List ℕ) 
 
 -- What the code's walk gives is the judgement by faults, where no relation of the catalogue is without columns. Proved in proofs/FaultsDecide.antt.
 abbrev pub FaultsDecide : (catalogue words : List ℕ) → Type 0
-FaultsDecide catalogue words = judged catalogue words ≡ judgedByFaults catalogue words
+FaultsDecide catalogue words = judgedByWalk catalogue words ≡ judgedQuestion catalogue words

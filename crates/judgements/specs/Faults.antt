@@ -97,8 +97,8 @@ module _ (catalogue words : List ℕ) where
   lowestUnfit = lowest (λ i. faultAt (columnsOf catalogue) (unfit (columnsOf catalogue)) (questionTree words) [] i) (nodeCount words)
 
   -- lines 1 to 6, in their order
-  unfoldable pub judgedByFaults : Judgement
-  judgedByFaults =
+  unfoldable pub judgedQuestion : Judgement
+  judgedQuestion =
       cond (countOk words)
       (cond (ltb (lowestIllFormed words) (nodeCount words)) (Refused 2 (lowestIllFormed words))
       (cond (ltb (lowestNotOnce words) (lastNode words)) (Refused 3 (lowestNotOnce words))

@@ -18,7 +18,7 @@ pub enum Width {
 }
 
 // A legal plan has so many nodes; an illegal one is refused at that place.
-pub enum Judgement {
+pub enum PlanJudgement {
     Legal(usize),
     Illegal(usize),
 }
@@ -38,18 +38,18 @@ fn judge_node(catalogue: &[u32], widths: &[usize], words: &[u32]) -> Width
     }
 }
 
-pub fn judge_plan(catalogue: &[u32], plan: &[u32]) -> Judgement
+pub fn judge_plan(catalogue: &[u32], plan: &[u32]) -> PlanJudgement
     ensures { λ r. ⌜ planNumbers r ≡ judgedPlan (now (catalogue .entry)) (now (plan .entry)) ⌝ }
 {
     let nodes = plan.len() / NODE_WORDS;
     if plan.len() % NODE_WORDS != 0 {
-        return Judgement::Illegal(0);
+        return PlanJudgement::Illegal(0);
     }
     if nodes < 1 {
-        return Judgement::Illegal(0);
+        return PlanJudgement::Illegal(0);
     }
     if NODES < nodes {
-        return Judgement::Illegal(0);
+        return PlanJudgement::Illegal(0);
     }
     let mut widths = [0usize; NODES];
     let mut place = 0;
@@ -61,11 +61,11 @@ pub fn judge_plan(catalogue: &[u32], plan: &[u32]) -> Judgement
                 widths[place] = width;
             }
             Width::Illegal => {
-                return Judgement::Illegal(place);
+                return PlanJudgement::Illegal(place);
             }
         }
         place += 1;
         at = next;
     }
-    Judgement::Legal(nodes)
+    PlanJudgement::Legal(nodes)
 }

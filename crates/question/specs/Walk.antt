@@ -144,5 +144,5 @@ module _ (catalogue words : List ℕ) where
       (cond (isAlpha (nodeAt words (lastNode words))) judgeTree (Refused 3 (lastNode words))))
 
   -- and 1 before all
-  unfoldable pub judged : Judgement
-  judged = cond (countOk words) judgeNodes (Refused 1 0)
+  unfoldable pub judgedByWalk : Judgement
+  judgedByWalk = cond (countOk words) judgeNodes (Refused 1 0)

@@ -7,7 +7,7 @@ ghost use Rattle.question.specs.declared.judgement.Judgement.the-variant
 ghost use Rattle.nodes.specs.Nodes.{nodeCount, nodeAt, isIllFormed};
 ghost use Rattle.nodes.specs.References.{lowest};
 ghost use Rattle.question.specs.Judgement.{countOk, judgeCount, isAlpha, isUnknown};
-ghost use Rattle.question.specs.Walk.{judgeTree, judgeNodes, judged};
+ghost use Rattle.question.specs.Walk.{judgeTree, judgeNodes, judgedByWalk};
 use crate::scope::empty;
 use crate::scope::walk;
 use nodes::limits::NODE_WORDS;
@@ -239,7 +239,7 @@ fn judge_nodes(catalogue: &[u32], words: &[u32]) -> Judgement
 
 // All that a question can be refused for, over a catalogue.
 pub fn judge(catalogue: &[u32], words: &[u32]) -> Judgement
-    ensures { λ r. ⌜ r ≡ judged (now (catalogue .entry)) (now (words .entry)) ⌝ }
+    ensures { λ r. ⌜ r ≡ judgedByWalk (now (catalogue .entry)) (now (words .entry)) ⌝ }
 {
     if count_ok(words) {
         return judge_nodes(catalogue, words);

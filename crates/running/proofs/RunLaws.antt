@@ -32,8 +32,8 @@ use Rattle.values.specs.declared.rows.Value.{Value}
 use Rattle.values.specs.declared.placing.Placed.the-variants.{Rows as Placed·Rows}
 use Rattle.values.proofs.MakeLaws.{makes-length, makes-fits, makes-count, makes-full}
 use Rattle.catalogue.specs.Stored.{relationsOf, columnsOf, storedTables}
-use Rattle.plans.specs.Judging.{legalRead, judgeNodes, judgement, nodesIn, nodesOf}
-use Rattle.plans.specs.declared.judging.Judgement.the-variants.{Legal}
+use Rattle.plans.specs.Judging.{legalRead, judgePlanNodes, planJudgement, nodesIn, nodesOfPlan}
+use Rattle.plans.specs.declared.judging.PlanJudgement.the-variants.{Legal}
 use Rattle.plans.proofs.PlanTheorem.{judged-exactly}
 use Rattle.running.specs.Standing.{valuesIn, noValue, valueNamed, standing, StandsBefore, Stand}
 use Rattle.running.specs.NodeRun.{weightOf, placedOf, NodeRun}
@@ -49,12 +49,12 @@ use Rattle.running.proofs.NextLaws.{Next, next-node, run-next, wide-can
 -- The nodes before `place` are run: the three tables list their values, which stand in front of `out`; what is still to come completes the whole.
 -- `ws` and `vs` are the widths and the rows of the values made.
 pub record Reached (catalogue tables plan : List ℕ) (nodes capacity place at out heavies : ℕ) (ws : List ℕ) (vs : List Rows) : Type 0 where
-  pub judged : judgeNodes catalogue (nodes - place) ws (drop at plan) ≡ Legal nodes
-  pub widthsAll : widths (columnsOf catalogue) (nodesOf plan) ≡ run (widthOfNode (columnsOf catalogue)) ws (nodesIn (nodes - place) (drop at plan))
-  pub valuesAll : values (storedTables catalogue tables) (nodesOf plan) ≡ run (valueOfNode (storedTables catalogue tables)) vs (nodesIn (nodes - place) (drop at plan))
-  pub fit : fitWithin catalogue tables (nodesOf plan) capacity ≡ fitOf capacity out place (sizesFrom (columnsOf catalogue) (storedTables catalogue tables) ws vs (nodesIn (nodes - place) (drop at plan)))
-  pub heavy : heavyOf (nodesOf plan) ≡ heavies + heavyOf (nodesIn (nodes - place) (drop at plan))
-  pub room : planRoom catalogue tables (nodesOf plan) ≡ out + total (sizesFrom (columnsOf catalogue) (storedTables catalogue tables) ws vs (nodesIn (nodes - place) (drop at plan)))
+  pub judged : judgePlanNodes catalogue (nodes - place) ws (drop at plan) ≡ Legal nodes
+  pub widthsAll : widths (columnsOf catalogue) (nodesOfPlan plan) ≡ run (widthOfNode (columnsOf catalogue)) ws (nodesIn (nodes - place) (drop at plan))
+  pub valuesAll : values (storedTables catalogue tables) (nodesOfPlan plan) ≡ run (valueOfNode (storedTables catalogue tables)) vs (nodesIn (nodes - place) (drop at plan))
+  pub fit : fitWithin catalogue tables (nodesOfPlan plan) capacity ≡ fitOf capacity out place (sizesFrom (columnsOf catalogue) (storedTables catalogue tables) ws vs (nodesIn (nodes - place) (drop at plan)))
+  pub heavy : heavyOf (nodesOfPlan plan) ≡ heavies + heavyOf (nodesIn (nodes - place) (drop at plan))
+  pub room : planRoom catalogue tables (nodesOfPlan plan) ≡ out + total (sizesFrom (columnsOf catalogue) (storedTables catalogue tables) ws vs (nodesIn (nodes - place) (drop at plan)))
 
 -- The loop: three tables of the node limit list the values made, of which the first `place` are there.
 abbrev listed : (ws ns bs : List ℕ) (place : ℕ) → List Value
@@ -89,7 +89,7 @@ heavy-few (node ∷ nodes) = let rest : heavyOf nodes ≤ length nodes = heavy-f
     go true rest = omega arith
     go false rest = omega arith
 
-module _ (catalogue tables plan : List ℕ) (nodes : ℕ) (ok : tablesOk catalogue tables ≡ true) (judged : judgement catalogue plan ≡ Legal nodes) where
+module _ (catalogue tables plan : List ℕ) (nodes : ℕ) (ok : tablesOk catalogue tables ≡ true) (judged : planJudgement catalogue plan ≡ Legal nodes) where
   abbrev columns : ℕ → ℕ
   columns = columnsOf catalogue
 
@@ -97,7 +97,7 @@ module _ (catalogue tables plan : List ℕ) (nodes : ℕ) (ok : tablesOk catalog
   stored = storedTables catalogue tables
 
   abbrev whole : List Node
-  whole = nodesOf plan
+  whole = nodesOfPlan plan
 
   legal-plan : So (legalPlan columns (relationsOf catalogue) whole)
   legal-plan = judged-exactly catalogue .sound plan nodes judged .0
@@ -155,7 +155,7 @@ module _ (catalogue tables plan : List ℕ) (nodes : ℕ) (ok : tablesOk catalog
           let coming : behind ≡ nodesIn (nodes - (place + 1)) (drop (at + planNodeWords) plan) = ap₂ nodesIn left words in
           let sizes : List ℕ = sizesFrom columns stored (ws ++ (width ∷ [])) (vs ++ (rows ∷ [])) behind in
           record {
-            judged = ap₂ (λ (n : ℕ) (l : List ℕ). judgeNodes catalogue n (ws ++ (width ∷ [])) l) (sym left) (sym words) ∙ next .onward;
+            judged = ap₂ (λ (n : ℕ) (l : List ℕ). judgePlanNodes catalogue n (ws ++ (width ∷ [])) l) (sym left) (sym words) ∙ next .onward;
             widthsAll = rw (← coming) (r .widthsAll ∙ ap (run (widthOfNode columns) ws) (next .todo) ∙ run-step (widthOfNode columns) ws node behind);
             valuesAll = rw (← coming) (r .valuesAll ∙ ap (run (valueOfNode stored) vs) (next .todo) ∙ run-step (valueOfNode stored) vs node behind);
             fit =

@@ -25,12 +25,12 @@ use Rattle.catalogue.proofs.TableLaws.{known-columns}
 use Rattle.judgements.specs.Accepted.{QuestionRight}
 use Rattle.nodes.specs.Nodes.{nodeCount}
 use Rattle.question.specs.Judgement.{countOk, judgeCount}
-use Rattle.question.specs.Walk.{judged}
+use Rattle.question.specs.Walk.{judgedByWalk}
 use Rattle.question.specs.Trees.{questionOf}
 use Rattle.question.specs.declared.judgement.Judgement.{Judgement}
 use Rattle.question.specs.declared.judgement.Judgement.the-variants.{Accepted, Refused}
 use Rattle.judgements.proofs.Accepted.{accepted-right, accepted-passed}
-use Rattle.judgements.specs.Faults.{judgedByFaults}
+use Rattle.judgements.specs.Faults.{judgedQuestion}
 use Rattle.judgements.proofs.FaultsDecide.{faults-decide}
 use Rattle.question.proofs.Counts.{counted}
 use Rattle.translation.specs.TranslateCall.{TranslateOutcome, planOf, planBufferWords, unwritten, written, judgedOutcome, behindCatalogue, isShort, translateOutcome}
@@ -39,7 +39,7 @@ use Rattle.planning.specs.Translating.{RangeReady, RangeDone}
 use Rattle.planning.specs.declared.translate.Made.{Made}
 use Rattle.emission.proofs.HeavyLaws.{heavy-written}
 
-module _ (catalogue question : List ℕ) (ok : catalogueOk catalogue ≡ true) (accepted : judged catalogue question ≡ Accepted) where
+module _ (catalogue question : List ℕ) (ok : catalogueOk catalogue ≡ true) (accepted : judgedByWalk catalogue question ≡ Accepted) where
   right : QuestionRight catalogue question
   right = accepted-right catalogue question (known-columns catalogue ok) accepted
 
@@ -90,7 +90,7 @@ module _ (catalogue question : List ℕ) (mode : ℕ) (plan : List ℕ) where
   count-refused {status} {place} e = go (countOk question) e
     where
       go : (good : Bool) → Refused status place ≡ cond good Accepted (Refused 1 0)
-          → unwritten catalogue question mode plan status place ≡ cond (not good) (unwritten catalogue question mode plan 1 0) (cond (ltb (length plan) planBufferWords) (unwritten catalogue question mode plan 8 0) (judgedOutcome catalogue question mode plan (judgedByFaults catalogue question)))
+          → unwritten catalogue question mode plan status place ≡ cond (not good) (unwritten catalogue question mode plan 1 0) (cond (ltb (length plan) planBufferWords) (unwritten catalogue question mode plan 8 0) (judgedOutcome catalogue question mode plan (judgedQuestion catalogue question)))
       go true h = let never : _≡_ {A = ℕ} 0 1 = cc in absurd (omega arith)
       go false h = let one : status ≡ 1 = cc in let first : place ≡ 0 = cc in rw (one, first)
 
@@ -105,7 +105,7 @@ module _ (catalogue question : List ℕ) (mode : ℕ) (plan : List ℕ) where
     pub plan-short : length plan < planBufferWords → unwritten catalogue question mode plan 8 0 ≡ behindCatalogue catalogue question mode plan
     plan-short h = rw (count-good, lt-ltb (length plan) planBufferWords h)
 
-    pub question-judged : catalogueOk catalogue ≡ true → planBufferWords ≤ length plan → (judgement : Judgement) → judgement ≡ judged catalogue question → judgedOutcome catalogue question mode plan judgement ≡ behindCatalogue catalogue question mode plan
+    pub question-judged : catalogueOk catalogue ≡ true → planBufferWords ≤ length plan → (judgement : Judgement) → judgement ≡ judgedByWalk catalogue question → judgedOutcome catalogue question mode plan judgement ≡ behindCatalogue catalogue question mode plan
     question-judged ok h judgement e =
         rw (count-good, le-ltb (length plan) planBufferWords h) (ap (judgedOutcome catalogue question mode plan) (e ∙ faults-decide catalogue question (known-columns catalogue ok)))
 

@@ -4,7 +4,7 @@ ghost use mathlib.Core.Bool.{true};
 ghost use Prim.Native.Nat.{_≤_};
 ghost use lib.ListN.{length};
 ghost use Rattle.catalogue.specs.Judging.{catalogueOk};
-ghost use Rattle.question.specs.Walk.{judged};
+ghost use Rattle.question.specs.Walk.{judgedByWalk};
 ghost use Rattle.question.specs.declared.judgement.Judgement.the-variants.{Accepted};
 ghost use Rattle.translation.specs.TranslateCall.{translateNumbers, planBufferWords, written, behindCatalogue, translateOutcome};
 use catalogue::judging::Judged;
@@ -31,7 +31,7 @@ fn translate_accepted(
     mode: u32,
     plan: &mut [u32],
 ) -> Translated
-    requires { ⌜ (catalogueOk (now catalogue) ≡ true) × (planBufferWords ≤ length (now plan)) × (judged (now catalogue) (now question) ≡ Accepted) ⌝ }
+    requires { ⌜ (catalogueOk (now catalogue) ≡ true) × (planBufferWords ≤ length (now plan)) × (judgedByWalk (now catalogue) (now question) ≡ Accepted) ⌝ }
     ensures { λ r. ⌜ record { numbers = translateNumbers r; plan = now (plan .exit) } ≡ written (now (catalogue .entry)) (now (question .entry)) mode (now (plan .entry)) ⌝ }
 {
     let last = (question.len() / NODE_WORDS) as u32;
