@@ -4,10 +4,8 @@ use Prim.Native.Nat.{ℕ, _≤_}
 use mathlib.Core.List.{List}
 use lib.ListN.{length, drop}
 use Rattle.text.specs.Reading as reads
-use Rattle.text.specs.Reading.{value, noNumber, relation, noRelation}
-use Rattle.text.specs.Answers.{NumberRead, Within, RelationRead}
-use Rattle.text.specs.declared.bundle.Relation.{Relation}
-use Rattle.text.specs.declared.bundle.Relation.the-variants.{Of, Wrong as NoPair}
+use Rattle.text.specs.Reading.{value, noNumber}
+use Rattle.text.specs.Answers.{NumberRead}
 use Rattle.text.specs.declared.lines.Number.{Number}
 use Rattle.text.specs.declared.lines.Number.the-variants.{Value, Wrong}
 
@@ -23,12 +21,3 @@ module _ {text : List ℕ} {from : ℕ} {found : reads.Number} {answer : Number}
 -- the number under another name
 pub value-as : {found : reads.Number} {m n : ℕ} {rest : List ℕ} → found ≡ value n rest → m ≡ n → found ≡ value m rest
 value-as {rest = rest} e f = rw f e
-
-module _ {text : List ℕ} {from total : ℕ} {found : reads.Relation} {answer : Relation} (read : RelationRead text from total found answer) where
-  pub relation-read : {columns rows next : ℕ} → answer ≡ Of columns rows next → (found ≡ relation columns rows (drop next text)) × Within text from total (Of columns rows next)
-  relation-read {columns} {rows} {next} e =
-      let r : RelationRead text from total found (Of columns rows next) = rw e at read in
-      (r .means, r .within)
-
-  pub relation-missing : answer ≡ NoPair → found ≡ noRelation
-  relation-missing e = let r : RelationRead text from total found NoPair = rw e at read in r .means

@@ -1,56 +1,26 @@
--- A bundle found, behind its mode, and from its tables and its nodes; and what a call of `read` leaves, from the lines found. Assumes nothing.
-use mathlib.Core.Path.{_≡_, refl, sym, ap, _∙_}
-use Prim.Native.Nat.{ℕ, _+_, _*_, _/_, _≤_, _<_}
+-- A bundle found, from its tables and its nodes; and what a call of `read` leaves, from the lines found. Assumes nothing.
+use mathlib.Core.Path.{_≡_, sym, ap, _∙_}
+use Prim.Native.Nat.{ℕ, _/_, _≤_, _<_}
 use mathlib.Core.List.{List}
-use mathlib.Core.Bool.{Bool, true, false, cond, _||_}
+use mathlib.Core.Bool.{true, false}
 use native.Mathlib.Omega.{arith}
-use lib.Dec.{ltb}
 use lib.ListN.{length, drop}
 use lib.Seq.{sets}
 use borrow.Author.Tests.{lt-ltb, le-ltb}
-use Rattle.relations.specs.Limits.{cataloguePairLimit, questionNodeLimit, questionNodeWords}
+use Rattle.relations.specs.Limits.{questionNodeLimit, questionNodeWords}
 use Rattle.text.specs.Limits.{byteLimit}
 use Rattle.catalogue.specs.Judging.{catalogueWords}
 use Rattle.text.specs.Reading as reads
-use Rattle.text.specs.Reading.{Next, goesOn, wrongAt, Read, nothing, Tables, begins, tablesOf, nodesOf, nodesAfter, withTables, noBundle, linesOf, reading}
-use Rattle.text.specs.ReadCall.{ReadOutcome, readRefused, bundleOutcome, smallBuffers, readOutcome}
-use Rattle.text.specs.Marks.{plainLine, shortLine}
-use Rattle.text.specs.Answers.{standing, TablesFound, NodesFound, modeIn, bundleBehind, PlacedBehind, linesAnswer, BundleFound}
-use Rattle.text.proofs.ReadingSteps.{begins-room}
+use Rattle.text.specs.Reading.{Next, goesOn, wrongAt, ReadTables, nodesOf, withTables, linesOf, reading}
+use Rattle.text.specs.ReadCall.{readRefused, bundleOutcome, smallBuffers, readOutcome}
+use Rattle.text.specs.Answers.{standing, TablesFound, NodesFound, linesAnswer, BundleFound}
 use Rattle.text.specs.declared.lines.Cursor.{Cursor}
 use Rattle.text.specs.declared.lines.Step.the-variants.{Next as Onward, Wrong as Stop}
-use Rattle.text.specs.declared.bundle.Mode.{Mode}
-use Rattle.text.specs.declared.bundle.Mode.the-variants.{Of as ModeOf, Wrong as NoMode}
 use Rattle.text.specs.declared.bundle.TablesRead.{TablesRead}
 use Rattle.text.specs.declared.bundle.NodesRead.{NodesRead}
-use Rattle.text.specs.declared.bundle.Lines.{Lines}
 use Rattle.text.specs.declared.bundle.Lines.the-variants.{Read as AllRead, Wrong as WrongLine}
 
--- The mode's line, by the two tests that decide it.
-abbrev moded : (plain short : Bool) → Mode
-moded plain short = cond plain (ModeOf 0) (cond short (ModeOf 1) (NoMode 1))
-
-behind-tests : (bytes : List ℕ) (plain short : Bool)
-    → bundleBehind 2 bytes (moded plain short)
-    ≡ cond plain (withTables 0 (tablesOf cataloguePairLimit 0 2 bytes)) (cond short (withTables 1 (tablesOf cataloguePairLimit 0 2 bytes)) (noBundle 1))
-behind-tests bytes true short = refl
-behind-tests bytes false true = refl
-behind-tests bytes false false = refl
-
-placed-tests : (text : List ℕ) (plain short : Bool) → (plain ≡ true → 11 ≤ length text) → (short ≡ true → 11 ≤ length text) → PlacedBehind text 11 2 (moded plain short)
-placed-tests text true short p s = (p refl, omega arith)
-placed-tests text false true p s = (s refl, omega arith)
-placed-tests text false false p s = tt
-
--- what is found behind a text's first line is what the text holds
-pub lines-behind : (text : List ℕ) → bundleBehind 2 (drop 11 text) (modeIn 1 text) ≡ linesOf text
-unfolding linesOf
-lines-behind text = behind-tests (drop 11 text) (begins plainLine text) (begins shortLine text)
-
-pub placed-behind : (text : List ℕ) → PlacedBehind text 11 2 (modeIn 1 text)
-placed-behind text = placed-tests text (begins plainLine text) (begins shortLine text) (begins-room plainLine text) (begins-room shortLine text)
-
-module _ {text : List ℕ} {found : Tables} {catalogue₀ catalogue₁ tables₀ tables₁ question₀ : List ℕ} {answer : TablesRead} (mode : ℕ)
+module _ {text : List ℕ} {found : ReadTables} {catalogue₀ catalogue₁ tables₀ tables₁ question₀ : List ℕ} {answer : TablesRead} (mode : ℕ)
     (tables : TablesFound text found 0 0 catalogue₀ catalogue₁ tables₀ tables₁ answer) where
   pub wrong-tables : {line : ℕ} → answer .step ≡ Stop line → BundleFound (withTables mode found) catalogue₀ catalogue₁ tables₀ tables₁ question₀ question₀ (WrongLine line)
   wrong-tables {line} e =
@@ -64,17 +34,17 @@ module _ {text : List ℕ} {found : Tables} {catalogue₀ catalogue₁ tables₀
 
     pub wrong-nodes : {line : ℕ} → last .step ≡ Stop line → BundleFound (withTables mode found) catalogue₀ catalogue₁ tables₀ tables₁ question₀ question₁ (WrongLine line)
     wrong-nodes {line} f =
-        let ends : nodesOf questionNodeLimit (cursor .line) (drop (cursor .at) text) .next ≡ wrongAt line = nodes .means ∙ ap (standing text) f in
-        record { means = rw (stands, ends); catalogue = tables .catalogue; tables = tables .tables; question = rw stands (nodes .words) }
+        let ends : nodesOf questionNodeLimit (cursor .line) (drop (cursor .at) text) .next ≡ wrongAt line = nodes .lines .means ∙ ap (standing text) f in
+        record { means = rw (stands, ends); catalogue = tables .catalogue; tables = tables .tables; question = rw stands (nodes .lines .words) }
 
     pub bundle-found : {end : Cursor} → last .step ≡ Onward end → length (found .tables) ≡ catalogueWords (found .catalogue)
         → BundleFound (withTables mode found) catalogue₀ catalogue₁ tables₀ tables₁ question₀ question₁ (AllRead mode (answer .pairs) (answer .words) (last .nodes))
     bundle-found {end} f many =
-        let ends : nodesOf questionNodeLimit (cursor .line) (drop (cursor .at) text) .next ≡ goesOn (end .line) (drop (end .at) text) = nodes .means ∙ ap (standing text) f in
+        let ends : nodesOf questionNodeLimit (cursor .line) (drop (cursor .at) text) .next ≡ goesOn (end .line) (drop (end .at) text) = nodes .lines .means ∙ ap (standing text) f in
         let pairs : length (found .catalogue) / 2 ≡ answer .pairs = omega (arith, tables .pairs-read) in
         let words : length (found .tables) ≡ answer .words = omega (arith, tables .words-read, many) in
-        let count : length (nodesOf questionNodeLimit (cursor .line) (drop (cursor .at) text) .words) / questionNodeWords ≡ last .nodes = omega (arith, nodes .counted ends) in
-        record { means = rw (stands, ends, pairs, words, count); catalogue = tables .catalogue; tables = tables .tables; question = rw stands (nodes .words) }
+        let count : length (nodesOf questionNodeLimit (cursor .line) (drop (cursor .at) text) .words) / questionNodeWords ≡ last .nodes = sym (nodes .counted) in
+        record { means = rw (stands, ends, pairs, words, count); catalogue = tables .catalogue; tables = tables .tables; question = rw stands (nodes .lines .words) }
 
 module _ (text catalogue tables question : List ℕ) where
   pub read-small : smallBuffers catalogue tables question ≡ true → readOutcome text catalogue tables question ≡ readRefused catalogue tables question 14 0

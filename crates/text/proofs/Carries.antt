@@ -2,13 +2,13 @@
 -- is what the reading of the rest gives from here. Assumes nothing.
 use mathlib.Core.Path.{_≡_, refl, sym, ap, _∙_}
 use Prim.Native.Nat.{ℕ, _+_}
-use mathlib.Core.List.{List, [], _∷_, _++_}
+use mathlib.Core.List.{List}
 use native.Mathlib.Omega.{arith}
 use native.Mathlib.Numerals.{add-one}
 use lib.ListN.{length, drop, set, length-append}
 use lib.Seq.{sets}
 use Rattle.text.specs.Reading as reads
-use Rattle.text.specs.Reading.{Read, Next, goesOn, wrongAt, nothing, value, noNumber, orWrong, andThen, wordsThen}
+use Rattle.text.specs.Reading.{Read, Next, goesOn, wrongAt, nothing, value, orWrong, andThen, wordsThen}
 use Rattle.text.specs.Answers.{Placed, standing, PlacedStep, LinesRead}
 use Rattle.relations.proofs.StoreLaws.{sets-append}
 use Rattle.text.specs.declared.lines.Cursor.{Cursor}

@@ -15,7 +15,7 @@ use Rattle.catalogue.specs.Judging.{pairOk, pairsOk, catalogueWords}
 use Rattle.catalogue.proofs.Judgements.{good-pair}
 use Rattle.text.specs.Marks.{lineFeed, separator, relationKey, rowKey, nodeKey}
 use Rattle.text.specs.Writing.{decimal, numbersText, lineText, linesText, tablesText}
-use Rattle.text.specs.Reading.{Number, value, noNumber, numberThen, Next, goesOn, wrongAt, Read, nothing, wordsThen, orWrong, numbers, begins, keyedLine, keyedLines, Relation, relation, noRelation, relationOf, Tables, noTables, rowsOf, tableOf, tablesThen, andTables, tablesOf, unlessEnded, nodesOf}
+use Rattle.text.specs.Reading.{Number, value, noNumber, numberThen, Next, goesOn, wrongAt, Read, nothing, wordsThen, orWrong, numbers, begins, keyedLine, keyedLines, Relation, relation, noRelation, relationOf, ReadTables, noTables, tableBehind, tableOf, tablesThen, andTables, tablesOf, unlessEnded, nodesOf}
 use Rattle.text.specs.RoundTrip.{Words32}
 use Rattle.text.specs.FirstWrong.{firstLines, endedLines}
 use Rattle.text.proofs.Words32.{words32-append}
@@ -211,7 +211,7 @@ table-completed count total line bytes place key e = go (relationOf total behind
     behind : List ℕ
     behind = drop (length relationKey) bytes
 
-    go : (found : Relation) → relationOf total behind ≡ found → rowsOf line found .next ≡ wrongAt place → TablesCompleted (suc count) total line bytes place
+    go : (found : Relation) → relationOf total behind ≡ found → tableBehind line found .next ≡ wrongAt place → TablesCompleted (suc count) total line bytes place
     go noRelation is e = none-completed (suc count) total line bytes place (sym (same-line e))
     go (relation columns rows rowBytes) is e = rowed columns (relationOf-text total behind columns rows rowBytes is) e
       where
@@ -249,7 +249,7 @@ table-after : (total line : ℕ) (bytes : List ℕ) (after : ℕ) (rest : List �
 table-after total line bytes after rest t e =
     let found : tableOf total line bytes ≡ tablesAt (t .columns ∷ t .rows ∷ []) (tableOf total line bytes .tables) (line + 1 + t .rows) rest =
     ap (λ (text : List ℕ). tableOf total line text) (t .text) ∙ tableOf-of-text total line (t .columns) (t .rows) (tableOf total line bytes .tables) rest (t .ok) (t .fits) (t .many) (t .words32) in
-    let next : goesOn after rest ≡ goesOn (line + 1 + t .rows) rest = sym e ∙ ap (λ (ts : Tables). ts .next) found in
+    let next : goesOn after rest ≡ goesOn (line + 1 + t .rows) rest = sym e ∙ ap (λ (ts : ReadTables). ts .next) found in
     cc
 
 table-feeds : (total line : ℕ) (bytes : List ℕ) (after : ℕ) (rest : List ℕ) (t : TableAsText total bytes (tableOf total line bytes) rest) → tableOf total line bytes .next ≡ goesOn after rest
@@ -279,10 +279,10 @@ tablesOf-completed zero total line bytes place e = no-wrong e
 tablesOf-completed (suc more) total line bytes place e =
     keyed (begins relationKey bytes) refl e (λ words after rest f. tablesOf-completed more words after rest place f)
   where
-    first : Tables
+    first : ReadTables
     first = tableOf total line bytes
 
-    then : ℕ → List ℕ → Tables
+    then : ℕ → List ℕ → ReadTables
     then = λ after rest. tablesOf more (total + catalogueWords (first .catalogue)) after rest
 
     Others : Type 0
@@ -311,10 +311,10 @@ tables-feeds zero total line bytes after rest e = let same : line ≡ after = cc
 tables-feeds (suc more) total line bytes after rest e =
     keyed (begins relationKey bytes) refl e (λ words line′ bytes′ f. tables-feeds more words line′ bytes′ after rest f)
   where
-    first : Tables
+    first : ReadTables
     first = tableOf total line bytes
 
-    then : ℕ → List ℕ → Tables
+    then : ℕ → List ℕ → ReadTables
     then = λ line′ bytes′. tablesOf more (total + catalogueWords (first .catalogue)) line′ bytes′
 
     Others : Type 0
@@ -324,7 +324,7 @@ tables-feeds (suc more) total line bytes after rest e =
         → after ≤ line + endedLines (tablesText (tablesThen (first .catalogue) (first .tables) next then .catalogue) (tablesThen (first .catalogue) (first .tables) next then .tables))
     go key (goesOn line′ bytes′) is e k =
         let t : TableAsText total bytes first bytes′ = tableOf-text total line bytes line′ bytes′ key is in
-        let others : Tables = then line′ bytes′ in
+        let others : ReadTables = then line′ bytes′ in
         let head : List ℕ = lineText relationKey (t .columns ∷ t .rows ∷ []) ++ linesText rowKey (t .columns) (t .rows) (first .tables) in
         let text : tablesText (first .catalogue ++ others .catalogue) (first .tables ++ others .tables) ≡ head ++ tablesText (others .catalogue) (others .tables) =
         ap (λ (front : List ℕ). tablesText (front ++ others .catalogue) (first .tables ++ others .tables)) (t .pair)

@@ -15,7 +15,7 @@ use Rattle.catalogue.proofs.Judgements.{GoodTables, tables-good}
 use Rattle.text.specs.Limits.{byteLimit}
 use Rattle.text.specs.Marks.{plainLine, shortLine, nodeKey}
 use Rattle.text.specs.Writing.{linesText, tablesText, modeText, bundleText}
-use Rattle.text.specs.Reading.{Bundle, Next, goesOn, wrongAt, Tables, begins, tablesOf, noBundle, nodesAfter, withTables, linesOf, reading}
+use Rattle.text.specs.Reading.{Bundle, Next, goesOn, wrongAt, ReadTables, begins, tablesOf, noBundle, nodesAfter, withTables, linesOf, reading}
 use Rattle.text.specs.RoundTrip.{Words32, BundleAsText}
 use Rattle.text.specs.ReadCall.{readRefused, bundleOutcome, smallBuffers, readOutcome}
 use Rattle.text.specs.FirstWrong.{endedLines, RightText, FirstWrong, PlaceIsFirstWrong}
@@ -81,7 +81,7 @@ no-words = omega (arith, no-sum)
 behind-mode : (mode : ℕ) (text bytes : List ℕ) (place : ℕ) → text ≡ modeText mode ++ bytes → withTables mode (tablesOf cataloguePairLimit 0 2 bytes) .next ≡ wrongAt place → Before text place
 behind-mode mode text bytes place is e = go (found .next) refl e
   where
-    found : Tables
+    found : ReadTables
     found = tablesOf cataloguePairLimit 0 2 bytes
 
     go : (next : Next) → found .next ≡ next → nodesAfter next .next ≡ wrongAt place → Before text place

@@ -15,9 +15,11 @@ pub mod FirstWrong
 -- What the code's loops carry
 pub mod Stores
 pub mod ReadingSteps
-pub mod RelationLaws
+pub mod OneLine
 pub mod Answered
 pub mod Carries
 pub mod CarriesTables
 pub mod BundleLaws
 pub mod WritingSteps
+-- One outcome for each contract
+pub mod Once

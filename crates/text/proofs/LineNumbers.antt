@@ -12,7 +12,7 @@ use Rattle.catalogue.specs.Judging.{pairOk, catalogueWords}
 use Rattle.catalogue.proofs.Judgements.{good-pair}
 use Rattle.text.specs.Limits.{byteLimit}
 use Rattle.text.specs.Marks.{lineFeed, space, separator, plainLine, shortLine, relationKey, rowKey, nodeKey}
-use Rattle.text.specs.Reading.{Number, value, noNumber, numberThen, Next, goesOn, wrongAt, Read, nothing, wordsThen, orWrong, numbers, begins, keyedLine, keyedLines, Relation, relation, noRelation, withRows, withColumns, relationOf, Tables, noTables, rowsOf, tableOf, tablesThen, tablesOf, unlessEnded, nodesOf, Bundle, noBundle, nodesAfter, withTables, linesOf, reading}
+use Rattle.text.specs.Reading.{Number, value, noNumber, numberThen, Next, goesOn, wrongAt, Read, nothing, wordsThen, orWrong, numbers, begins, keyedLine, keyedLines, Relation, relation, noRelation, withRows, withColumns, relationOf, ReadTables, noTables, tableBehind, tableOf, tablesThen, tablesOf, unlessEnded, nodesOf, Bundle, noBundle, nodesAfter, withTables, linesOf, reading}
 use Rattle.text.specs.ReadCall.{ReadNumbers, ReadOutcome, readRefused, bundleOutcome, smallBuffers, readNumbers, readOutcome}
 use Rattle.text.specs.declared.bundle.Reading.{Reading}
 use Rattle.text.specs.declared.bundle.Reading.the-variants.{WrongLine}
@@ -81,7 +81,7 @@ table-line : (total line : ℕ) (bytes : List ℕ) → lineOf (tableOf total lin
 unfolding tableOf
 table-line total line bytes = go (relationOf total (drop (length relationKey) bytes)) (relation-rows total (drop (length relationKey) bytes))
   where
-    go : (found : Relation) → RowsFew found → lineOf (rowsOf line found .next) ≤ line + 1 + rowLimit
+    go : (found : Relation) → RowsFew found → lineOf (tableBehind line found .next) ≤ line + 1 + rowLimit
     go (relation columns rows rest) h = omega (arith, h, keyedLines-line rowKey columns rows (line + 1) rest)
     go noRelation h = omega arith
 
@@ -92,10 +92,10 @@ tables-line (suc more) total line bytes =
     let words : ℕ = total + catalogueWords (tableOf total line bytes .catalogue) in
     go (begins relationKey bytes) (tableOf total line bytes .next) (λ after rest. tablesOf more words after rest) (table-line total line bytes) (λ after rest. tables-line more words after rest)
   where
-    first : Tables
+    first : ReadTables
     first = tableOf total line bytes
 
-    go : (table : Bool) (next : Next) (behind : ℕ → List ℕ → Tables) → lineOf next ≤ line + 1 + rowLimit
+    go : (table : Bool) (next : Next) (behind : ℕ → List ℕ → ReadTables) → lineOf next ≤ line + 1 + rowLimit
         → ((after : ℕ) (rest : List ℕ) → lineOf (behind after rest .next) ≤ after + more * (1 + rowLimit))
         → lineOf (cond table (tablesThen (first .catalogue) (first .tables) next behind) (noTables (goesOn line bytes)) .next) ≤ line + suc more * (1 + rowLimit)
     go true (goesOn after rest) behind h k = omega (arith, h, k after rest)

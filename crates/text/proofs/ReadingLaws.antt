@@ -15,7 +15,7 @@ use Rattle.text.specs.Limits.{byteLimit}
 use Rattle.catalogue.specs.Judging.{pairOk, pairsOk, catalogueWords}
 use Rattle.text.specs.Marks.{lineFeed, space, separator, plainLine, shortLine, relationKey, rowKey, nodeKey}
 use Rattle.text.specs.Writing.{decimal, numbersText, lineText, linesText, tablesText, modeText, bundleText}
-use Rattle.text.specs.Reading.{Number, value, noNumber, numberThen, Next, goesOn, wrongAt, Read, nothing, wordsThen, orWrong, numbers, begins, keyedLine, keyedLines, Relation, relation, noRelation, withRows, withColumns, relationOf, Tables, noTables, rowsOf, tableOf, tablesThen, andTables, tablesOf, unlessEnded, nodesOf, noBundle, nodesAfter, withTables, linesOf, reading}
+use Rattle.text.specs.Reading.{Number, value, noNumber, numberThen, Next, goesOn, wrongAt, Read, nothing, wordsThen, orWrong, numbers, begins, keyedLine, keyedLines, Relation, relation, noRelation, withRows, withColumns, relationOf, ReadTables, noTables, tableBehind, tableOf, tablesThen, andTables, tablesOf, unlessEnded, nodesOf, noBundle, nodesAfter, withTables, linesOf, reading}
 use Rattle.text.specs.RoundTrip.{Words32, BundleAsText}
 use Rattle.relations.proofs.BoolLaws.{true-and-false, and-both, and-left, and-right}
 use Rattle.text.proofs.Words32.{words32-append}
@@ -227,7 +227,7 @@ relationOf-text total bytes columns rows rest e = first (numberThen space bytes)
     first (value c behind) is e = second c behind (numberThen-text space bytes c behind is) (numberThen lineFeed behind) refl e
     first noNumber is e = no-relation e
 
-pub record TableAsText (total : ℕ) (bytes : List ℕ) (found : Tables) (rest : List ℕ) : Type 0 where
+pub record TableAsText (total : ℕ) (bytes : List ℕ) (found : ReadTables) (rest : List ℕ) : Type 0 where
   pub columns : ℕ
   pub rows : ℕ
   pub pair : found .catalogue ≡ columns ∷ rows ∷ []
@@ -245,8 +245,8 @@ tableOf-text total line bytes after rest key e = go (relationOf total (drop (len
     behind : List ℕ
     behind = drop (length relationKey) bytes
 
-    go : (found : Relation) → relationOf total behind ≡ found → rowsOf line found .next ≡ goesOn after rest
-        → TableAsText total bytes (rowsOf line found) rest
+    go : (found : Relation) → relationOf total behind ≡ found → tableBehind line found .next ≡ goesOn after rest
+        → TableAsText total bytes (tableBehind line found) rest
     go (relation columns rows rowBytes) is e =
         let head : RelationAsText total behind columns rows rowBytes = relationOf-text total behind columns rows rowBytes is in
         let found : Read = keyedLines rowKey columns rows (line + 1) rowBytes in
@@ -272,7 +272,7 @@ tableOf-text total line bytes after rest key e = go (relationOf total (drop (len
     go noRelation is e = no-next e
 
 -- `found` was read from the front of `bytes`: at most `count` tables, behind others of `total` words
-pub record TablesAsText (count total : ℕ) (bytes : List ℕ) (found : Tables) (rest : List ℕ) : Type 0 where
+pub record TablesAsText (count total : ℕ) (bytes : List ℕ) (found : ReadTables) (rest : List ℕ) : Type 0 where
   pub text : bytes ≡ tablesText (found .catalogue) (found .tables) ++ rest
   pub ok : pairsOk (found .catalogue) ≡ true
   pub few : length (found .catalogue) ≤ 2 * count
@@ -286,7 +286,7 @@ unfolding tablesText pairsOk catalogueWords
 no-tables-read count total line bytes after rest e =
     record { text = cc; ok = refl; few = omega arith; many = refl; fits = λ h. omega arith; words32 = tt }
 
-one-more-read : (count total : ℕ) (bytes : List ℕ) (first : Tables) (behind : List ℕ) (others : Tables) (rest : List ℕ) (next : Next)
+one-more-read : (count total : ℕ) (bytes : List ℕ) (first : ReadTables) (behind : List ℕ) (others : ReadTables) (rest : List ℕ) (next : Next)
     → TableAsText total bytes first behind
     → TablesAsText count (total + catalogueWords (first .catalogue)) behind others rest
     → TablesAsText (suc count) total bytes
@@ -325,10 +325,10 @@ tablesOf-text (suc more) total line bytes after rest e =
     keyed (begins relationKey bytes) refl e
     (λ line′ bytes′ e′. tablesOf-text more (total + catalogueWords (tableOf total line bytes .catalogue)) line′ bytes′ after rest e′)
   where
-    first : Tables
+    first : ReadTables
     first = tableOf total line bytes
 
-    then : ℕ → List ℕ → Tables
+    then : ℕ → List ℕ → ReadTables
     then = λ line′ bytes′. tablesOf more (total + catalogueWords (first .catalogue)) line′ bytes′
 
     Others : Type 0
@@ -430,7 +430,7 @@ tables-then-nodes : (mode : ℕ) (text bytes : List ℕ) (line : ℕ) (rest : Li
 unfolding bundleText
 tables-then-nodes mode text bytes line rest small is short e = go (found .next) refl e
   where
-    found : Tables
+    found : ReadTables
     found = tablesOf cataloguePairLimit 0 2 bytes
 
     go : (next : Next) → found .next ≡ next → nodesAfter next .next ≡ goesOn line rest

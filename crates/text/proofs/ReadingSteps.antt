@@ -1,8 +1,8 @@
 -- One step of each reading, at a position of the text: what the loops of the code follow. Assumes nothing.
-use mathlib.Core.Path.{_≡_, refl, sym, ap, _∙_}
+use mathlib.Core.Path.{_≡_, refl, _∙_}
 use Prim.Native.Nat.{ℕ, suc, zero, _+_, _-_, _*_, _<_, _≤_}
 use mathlib.Core.List.{List, [], _∷_}
-use mathlib.Core.Bool.{Bool, true, false, cond, _&&_, false≢true}
+use mathlib.Core.Bool.{true, false, cond, _&&_, false≢true}
 use native.Mathlib.Omega.{arith}
 use native.Mathlib.Numerals.{add-one}
 use lib.Dec.{leb, eqb}
@@ -14,7 +14,7 @@ use Rattle.text.specs.Limits.{greatestNumber}
 use Rattle.catalogue.specs.Judging.{catalogueWords}
 use Rattle.text.specs.Marks.{zeroDigit, digit, separator, relationKey, nodeKey}
 use Rattle.relations.proofs.BoolLaws.{and-left, and-right}
-use Rattle.text.specs.Reading.{Number, value, noNumber, moreDigits, number, endedBy, numberThen, begins, nothing, goesOn, wrongAt, orWrong, numbers, andThen, keyedLine, keyedLines, Read, tableOf, andTables, noTables, tablesOf, unlessEnded, nodesOf}
+use Rattle.text.specs.Reading.{value, noNumber, moreDigits, number, endedBy, numberThen, begins, nothing, goesOn, wrongAt, orWrong, numbers, andThen, keyedLine, keyedLines, Read, tableOf, andTables, noTables, tablesOf, unlessEnded, nodesOf}
 
 -- the byte at a position, and the bytes behind it
 pub at-byte : (text : List ℕ) (i : ℕ) → i < length text → drop i text ≡ getD text i 0 ∷ drop (i + 1) text

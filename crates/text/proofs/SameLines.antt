@@ -13,7 +13,7 @@ use Rattle.relations.proofs.BoolLaws.{true-or-false, and-left}
 use Rattle.catalogue.specs.Judging.{pairOk, catalogueWords}
 use Rattle.text.specs.Limits.{greatestNumber}
 use Rattle.text.specs.Marks.{lineFeed, space, zeroDigit, digit, separator, plainLine, shortLine, relationKey, rowKey, nodeKey}
-use Rattle.text.specs.Reading.{Number, value, noNumber, moreDigits, number, endedBy, numberThen, Next, goesOn, wrongAt, Read, nothing, wordsThen, orWrong, numbers, begins, keyedLine, keyedLines, Relation, relation, noRelation, withRows, withColumns, relationOf, Tables, noTables, rowsOf, tableOf, tablesThen, tablesOf, unlessEnded, nodesOf, nodesAfter, withTables, linesOf}
+use Rattle.text.specs.Reading.{Number, value, noNumber, moreDigits, number, endedBy, numberThen, Next, goesOn, wrongAt, Read, nothing, wordsThen, orWrong, numbers, begins, keyedLine, keyedLines, Relation, relation, noRelation, withRows, withColumns, relationOf, ReadTables, noTables, tableBehind, tableOf, tablesThen, tablesOf, unlessEnded, nodesOf, nodesAfter, withTables, linesOf}
 use Rattle.text.specs.FirstWrong.{firstLines}
 use Rattle.text.proofs.LineNumbers.{lineOf}
 
@@ -209,7 +209,7 @@ keyedLines-from key width zero line bytes = omega arith
 keyedLines-from key width (suc more) line bytes =
     then-from (keyedLine key width line bytes .words) (keyedLine key width line bytes .next) (λ after rest. keyedLines key width more after rest) (keyedLine-from key width line bytes) (λ after rest. keyedLines-from key width more after rest)
 
-rows-from : (line : ℕ) (found : Relation) → line ≤ lineOf (rowsOf line found .next)
+rows-from : (line : ℕ) (found : Relation) → line ≤ lineOf (tableBehind line found .next)
 rows-from line (relation columns rows bytes) = omega (arith, keyedLines-from rowKey columns rows (line + 1) bytes)
 rows-from line noRelation = omega arith
 
@@ -217,7 +217,7 @@ tableOf-from : (total line : ℕ) (bytes : List ℕ) → line ≤ lineOf (tableO
 unfolding tableOf
 tableOf-from total line bytes = rows-from line (relationOf total (drop (length relationKey) bytes))
 
-tables-then-from : {line : ℕ} (catalogue tables : List ℕ) (next : Next) (more : ℕ → List ℕ → Tables) → line ≤ lineOf next → ((after : ℕ) (rest : List ℕ) → after ≤ lineOf (more after rest .next)) → line ≤ lineOf (tablesThen catalogue tables next more .next)
+tables-then-from : {line : ℕ} (catalogue tables : List ℕ) (next : Next) (more : ℕ → List ℕ → ReadTables) → line ≤ lineOf next → ((after : ℕ) (rest : List ℕ) → after ≤ lineOf (more after rest .next)) → line ≤ lineOf (tablesThen catalogue tables next more .next)
 tables-then-from catalogue tables (goesOn after rest) more h k = omega (arith, h, k after rest)
 tables-then-from catalogue tables (wrongAt after) more h k = h
 
@@ -225,12 +225,12 @@ pub tablesOf-from : (count total line : ℕ) (bytes : List ℕ) → line ≤ lin
 unfolding tablesOf
 tablesOf-from zero total line bytes = omega arith
 tablesOf-from (suc more) total line bytes =
-    let first : Tables = tableOf total line bytes in
+    let first : ReadTables = tableOf total line bytes in
     go (tablesThen (first .catalogue) (first .tables) (first .next) (λ after rest. tablesOf more (total + catalogueWords (first .catalogue)) after rest)) (begins relationKey bytes)
     (tables-then-from (first .catalogue) (first .tables) (first .next) (λ after rest. tablesOf more (total + catalogueWords (first .catalogue)) after rest) (tableOf-from total line bytes)
     (λ after rest. tablesOf-from more (total + catalogueWords (first .catalogue)) after rest))
   where
-    go : (found : Tables) (b : Bool) → line ≤ lineOf (found .next) → line ≤ lineOf (cond b found (noTables (goesOn line bytes)) .next)
+    go : (found : ReadTables) (b : Bool) → line ≤ lineOf (found .next) → line ≤ lineOf (cond b found (noTables (goesOn line bytes)) .next)
     go found true h = h
     go found false h = omega arith
 
@@ -310,15 +310,15 @@ module _ (end : ℕ) where
       go (bothValue {n = columns} {xs = us} {ys = vs} t) = rows-same total columns k (numberThen-same lineFeed k us vs t)
       go neither = noneFits
 
-  record TableAlong (a b : Tables) : Type 0 where
+  record TableAlong (a b : ReadTables) : Type 0 where
     next-along : Along end (a .next) (b .next)
     same-catalogue : a .catalogue ≡ b .catalogue
 
-  rowsOf-along : (line : ℕ) {a b : Relation} → RelationSame (end - (line + 1)) a b → TableAlong (rowsOf line a) (rowsOf line b)
-  rowsOf-along line (bothRelation {columns} {rows} {xs} {ys} s) = record { next-along = keyedLines-along rowKey columns rows (line + 1) xs ys (λ k. tt) (λ k. refl) s; same-catalogue = refl }
-  rowsOf-along line noneFits = record { next-along = wrong; same-catalogue = refl }
+  tableBehind-along : (line : ℕ) {a b : Relation} → RelationSame (end - (line + 1)) a b → TableAlong (tableBehind line a) (tableBehind line b)
+  tableBehind-along line (bothRelation {columns} {rows} {xs} {ys} s) = record { next-along = keyedLines-along rowKey columns rows (line + 1) xs ys (λ k. tt) (λ k. refl) s; same-catalogue = refl }
+  tableBehind-along line noneFits = record { next-along = wrong; same-catalogue = refl }
 
-  tables-then-along : (a b : Tables) (total more : ℕ) → TableAlong a b
+  tables-then-along : (a b : ReadTables) (total more : ℕ) → TableAlong a b
       → ((words line : ℕ) (xs ys : List ℕ) → Same (end - line) xs ys → Along end (tablesOf more words line xs .next) (tablesOf more words line ys .next))
       → Along end (tablesThen (a .catalogue) (a .tables) (a .next) (λ after rest. tablesOf more (total + catalogueWords (a .catalogue)) after rest) .next)
       (tablesThen (b .catalogue) (b .tables) (b .next) (λ after rest. tablesOf more (total + catalogueWords (b .catalogue)) after rest) .next)
@@ -349,7 +349,7 @@ module _ (end : ℕ) where
       go (bothBegin p q t) k =
           rw (p, q)
           (tables-then-along (tableOf total line xs) (tableOf total line ys) total more
-          (rowsOf-along line (relationOf-same total (end - (line + 1)) (drop (length relationKey) xs) (drop (length relationKey) ys) t)) k)
+          (tableBehind-along line (relationOf-same total (end - (line + 1)) (drop (length relationKey) xs) (drop (length relationKey) ys) t)) k)
       go (bothNot p q) k = rw (p, q) (on s)
 
   ended-along : (line : ℕ) (xs ys : List ℕ) (a b : Read) → Same (end - line) xs ys → line ≤ lineOf (a .next) → Along end (a .next) (b .next) → Along end (unlessEnded line xs a .next) (unlessEnded line ys b .next)

@@ -15,7 +15,7 @@ use Rattle.text.specs.Limits.{byteLimit}
 use Rattle.catalogue.specs.Judging.{pairOk, pairsOk, catalogueWords, tablesOk}
 use Rattle.text.specs.Marks.{lineFeed, space, separator, plainLine, shortLine, relationKey, rowKey, nodeKey}
 use Rattle.text.specs.Writing.{decimal, numbersText, lineText, linesText, tablesText, modeText, bundleText}
-use Rattle.text.specs.Reading.{Number, value, numberThen, goesOn, wrongAt, Read, nothing, andThen, orWrong, numbers, begins, keyedLine, keyedLines, Relation, relation, noRelation, withRows, withColumns, relationOf, Tables, rowsOf, tableOf, andTables, tablesOf, unlessEnded, nodesOf, withTables, linesOf, reading}
+use Rattle.text.specs.Reading.{Number, value, numberThen, goesOn, wrongAt, Read, nothing, andThen, orWrong, numbers, begins, keyedLine, keyedLines, Relation, relation, noRelation, withRows, withColumns, relationOf, ReadTables, tableBehind, tableOf, andTables, tablesOf, unlessEnded, nodesOf, withTables, linesOf, reading}
 use Rattle.text.specs.WriteCall.{nodesOk}
 use Rattle.text.specs.RoundTrip.{Words32, tableLines, bundleOf}
 use Rattle.relations.proofs.BoolLaws.{true-and-false, and-both, and-left, and-right}
@@ -102,7 +102,7 @@ relationOf-of-text total columns rows rest ok fits =
     ∙ ap (λ (good : Bool). cond good (relation columns rows rest) noRelation)
     (and-both (pairOk columns rows) (leb (total + columns * rows) wordLimit) ok (le-leb (total + columns * rows) wordLimit fits))
 
-abbrev pub tablesAt : (catalogue tables : List ℕ) (after : ℕ) (rest : List ℕ) → Tables
+abbrev pub tablesAt : (catalogue tables : List ℕ) (after : ℕ) (rest : List ℕ) → ReadTables
 tablesAt catalogue tables after rest = record { catalogue = catalogue; tables = tables; next = goesOn after rest }
 
 pub tableOf-of-text : (total line columns rows : ℕ) (words rest : List ℕ) → pairOk columns rows ≡ true → total + columns * rows ≤ wordLimit
@@ -113,8 +113,8 @@ unfolding tableOf
 tableOf-of-text total line columns rows words rest ok fits many h =
     let names : List ℕ = numbersText (columns ∷ rows ∷ []) in
     let lines : List ℕ = linesText rowKey columns rows words in
-    ap (λ (bytes : List ℕ). rowsOf line (relationOf total bytes)) (append-assoc names lines rest)
-    ∙ ap (λ (found : Relation). rowsOf line found) (relationOf-of-text total columns rows (lines ++ rest) ok fits)
+    ap (λ (bytes : List ℕ). tableBehind line (relationOf total bytes)) (append-assoc names lines rest)
+    ∙ ap (λ (found : Relation). tableBehind line found) (relationOf-of-text total columns rows (lines ++ rest) ok fits)
     ∙ ap (λ (found : Read). record { catalogue = columns ∷ rows ∷ []; tables = found .words; next = found .next })
     (keyedLines-of-text rowKey columns rows (line + 1) words rest (many ∙ mul-comm columns rows) h)
 
@@ -125,7 +125,7 @@ tablesOf-none zero total line bytes e = refl
 tablesOf-none (suc more) total line bytes e = rw e
 
 -- one table before others that were found
-abbrev withTable : (columns rows : ℕ) (words : List ℕ) → Tables → Tables
+abbrev withTable : (columns rows : ℕ) (words : List ℕ) → ReadTables → ReadTables
 withTable columns rows words others =
     record { catalogue = columns ∷ rows ∷ others .catalogue; tables = words ++ others .tables; next = others .next }
 
@@ -153,7 +153,7 @@ tablesOf-one-more count total line columns rows more tables rest room ok fits h 
     let behind : List ℕ = tablesText more (drop words tables) ++ rest in
     let same : total + (words + 0) ≡ total + words = omega arith in
     ap (λ (bytes : List ℕ). tablesOf (suc count) total line bytes) (tablesText-cut columns rows more tables rest room)
-    ∙ ap (λ (found : Tables). andTables found (λ line′ bytes′. tablesOf count (total + catalogueWords (found .catalogue)) line′ bytes′))
+    ∙ ap (λ (found : ReadTables). andTables found (λ line′ bytes′. tablesOf count (total + catalogueWords (found .catalogue)) line′ bytes′))
     (tableOf-of-text total line columns rows (take words tables) behind ok fits (length-take-le words tables room) (words32-take words tables h))
     ∙ ap (λ (sum : ℕ). withTable columns rows (take words tables) (tablesOf count sum (line + 1 + rows) behind)) same
 
@@ -176,7 +176,7 @@ tablesOf-of-text (suc count) total line (columns ∷ rows ∷ more) tables rest 
     let left : length others ≡ catalogueWords more = length-drop words tables ∙ omega arith in
     let lines : line + 1 + rows + tableLines more ≡ line + (1 + rows + tableLines more) = omega arith in
     tablesOf-one-more count total line columns rows more tables rest (omega arith) (and-left (pairOk columns rows) (pairsOk more) ok) (omega arith) h
-    ∙ ap (λ (found : Tables). withTable columns rows (take words tables) found)
+    ∙ ap (λ (found : ReadTables). withTable columns rows (take words tables) found)
     (tablesOf-of-text count (total + words) (line + 1 + rows) more others rest (omega arith) others-ok (omega arith) left
     (words32-drop words tables h) ends)
     ∙ ap (λ (after : ℕ). tablesAt (columns ∷ rows ∷ more) (take words tables ++ others) after rest) lines
@@ -224,7 +224,7 @@ tables-and-nodes : (mode more : ℕ) (catalogue tables nodes : List ℕ) → tab
     ≡ record { mode = mode; catalogue = catalogue; tables = tables; nodes = nodes; next = goesOn (2 + tableLines catalogue + suc more) [] }
 tables-and-nodes mode more catalogue tables nodes ok few many h k =
     let good : GoodTables catalogue tables = good-tables catalogue tables ok in
-    ap (λ (found : Tables). withTables mode found)
+    ap (λ (found : ReadTables). withTables mode found)
     (tablesOf-of-text cataloguePairLimit 0 2 catalogue tables (linesText nodeKey questionNodeWords (suc more) nodes) (good .few) (good .pairs)
     (omega arith) (good .sum) h (nodes-no-relation more nodes))
     ∙ ap (λ (found : Read). record { mode = mode; catalogue = catalogue; tables = tables; nodes = found .words; next = found .next })

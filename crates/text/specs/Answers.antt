@@ -1,37 +1,58 @@
--- What the answers of the code's inner steps say of a text: positions stand for the bytes from there on. Assumes nothing.
-use Prim.Native.Nat.{ℕ, _+_, _*_, _/_, _≤_}
+-- What the answers of the code's inner steps say of a text: positions stand for the bytes from there on. Each leaves one outcome
+-- (proofs/Once.antt). Assumes nothing.
+use Prim.Native.Nat.{ℕ, _+_, _*_, _/_, _≤_, _<_}
 use mathlib.Core.Path.{_≡_}
-use mathlib.Core.List.{List}
+use mathlib.Core.List.{List, [], _∷_}
 use mathlib.Core.Bool.{cond}
+use lib.Dec.{ltb}
 use lib.ListN.{length, drop}
 use lib.Seq.{sets}
-use denote.Ref.{RefT}
-use Rattle.relations.specs.Limits.{cataloguePairLimit, storedColumnLimit, rowLimit, wordLimit, questionNodeWords}
+use Rattle.relations.specs.Limits.{wordLimit, questionNodeLimit, questionNodeWords}
 use Rattle.catalogue.specs.Judging.{catalogueWords}
-use Rattle.text.specs.Marks.{plainLine, shortLine}
+use Rattle.text.specs.Marks.{plainLine, shortLine, relationKey, rowKey, nodeKey}
+use Rattle.text.specs.Put.{furthest}
 use Rattle.text.specs.Reading as reads
-use Rattle.text.specs.Reading.{value, noNumber, relation, noRelation, Next, goesOn, wrongAt, Read, Tables, begins, tablesOf, withTables, noBundle}
+use Rattle.text.specs.Reading.{value, noNumber, Next, goesOn, wrongAt, Read, nothing, begins, keyedLine, relation, noRelation, relationOf, ReadTables}
 use Rattle.text.specs.declared.lines.Cursor.{Cursor}
 use Rattle.text.specs.declared.lines.Number.{Number}
 use Rattle.text.specs.declared.lines.Number.the-variants.{Value, Wrong as NoValue}
 use Rattle.text.specs.declared.lines.Step.{Step}
 use Rattle.text.specs.declared.lines.Step.the-variants.{Next as Onward, Wrong as Stop}
-use Rattle.text.specs.declared.reader.Reader.{Reader}
-use Rattle.text.specs.declared.bundle.Mode.{Mode}
-use Rattle.text.specs.declared.bundle.Mode.the-variants.{Of as ModeOf, Wrong as NoMode}
-use Rattle.text.specs.declared.bundle.Relation.{Relation}
-use Rattle.text.specs.declared.bundle.Relation.the-variants.{Of, Wrong as NoPair}
+use Rattle.text.specs.declared.reader.Line.{Line}
+use Rattle.text.specs.declared.reader.Line.the-variants.{Mode, Relation, Row, Node}
 use Rattle.text.specs.declared.bundle.TablesRead.{TablesRead}
 use Rattle.text.specs.declared.bundle.NodesRead.{NodesRead}
 use Rattle.text.specs.declared.bundle.Lines.{Lines}
 use Rattle.text.specs.declared.bundle.Lines.the-variants.{Read as AllRead, Wrong as WrongLine}
 
--- a reader: at the front of a text, and behind its line, which has so many bytes
-abbrev pub atFirstLine : RefT (List ℕ) → Reader
-atFirstLine text = record { text = text; at = 0; line = 1 }
+-- The line that must come next: the words on it, what was kept to so far, and what it reads as.
+abbrev pub wordsOn : Line → ℕ
+wordsOn Mode = 1
+wordsOn (Relation total) = 2
+wordsOn (Row columns) = columns
+wordsOn (Node before) = questionNodeWords
 
-abbrev pub behindLine : Reader → ℕ → Reader
-behindLine reader bytes = record { text = reader .text; at = reader .at + bytes; line = reader .line + 1 }
+abbrev pub Lawful : Line → Type 0
+Lawful Mode = Unit {0}
+Lawful (Relation total) = total ≤ wordLimit
+Lawful (Row columns) = 0 < columns
+Lawful (Node before) = Unit {0}
+
+abbrev pub modeRead : (mode line : ℕ) → List ℕ → Read
+modeRead mode line bytes = record { words = mode ∷ []; next = goesOn (line + 1) bytes }
+
+abbrev pub pairRead : (line : ℕ) → reads.Relation → Read
+pairRead line (relation columns rows bytes) = record { words = columns ∷ rows ∷ []; next = goesOn (line + 1) bytes }
+pairRead line noRelation = nothing (wrongAt line)
+
+abbrev pub oneLine : Line → (line : ℕ) → List ℕ → Read
+oneLine Mode line bytes =
+    cond (begins plainLine bytes) (modeRead 0 line (drop (length plainLine) bytes))
+    (cond (begins shortLine bytes) (modeRead 1 line (drop (length shortLine) bytes)) (nothing (wrongAt line)))
+oneLine (Relation total) line bytes =
+    cond (begins relationKey bytes) (pairRead line (relationOf total (drop (length relationKey) bytes))) (nothing (wrongAt line))
+oneLine (Row columns) line bytes = keyedLine rowKey columns line bytes
+oneLine (Node before) line bytes = cond (ltb before questionNodeLimit) (keyedLine nodeKey questionNodeWords line bytes) (nothing (wrongAt line))
 
 module _ (text : List ℕ) where
   -- a number: the position behind it stands for the bytes there, and lies in the text, at `from` or later
@@ -65,22 +86,12 @@ module _ (text : List ℕ) where
     pub placed : PlacedStep answer
     pub words : after ≡ sets before to (found .words)
 
-  -- a relation line: its pair is within the limits, and the position behind it in the text
-  abbrev pub relationIn : Relation → reads.Relation
-  relationIn (Of columns rows next) = relation columns rows (drop next text)
-  relationIn NoPair = noRelation
-
-  abbrev pub Within : (from total : ℕ) → Relation → Type 0
-  Within from total (Of columns rows next) =
-      (1 ≤ columns) × (columns ≤ storedColumnLimit) × (rows ≤ rowLimit) × (total + columns * rows ≤ wordLimit) × (from ≤ next) × (next ≤ length text)
-  Within from total NoPair = Unit {0}
-
-  pub record RelationRead (from total : ℕ) (found : reads.Relation) (answer : Relation) : Type 0 where
-    pub means : found ≡ relationIn answer
-    pub within : Within from total answer
+  -- where a line is read: the text goes on there, its words have a place, and the limits were kept so far
+  abbrev pub LineAsked : (at line : ℕ) → Line → (to : ℕ) → Type 0
+  LineAsked at line kind to = Lawful kind × (to + wordsOn kind ≤ furthest) × Placed (record { at = at; line = line })
 
   -- tables: what was read stands behind `pairs` pairs and `total` words
-  pub record TablesFound (found : Tables) (pairs total : ℕ) (catalogue₀ catalogue₁ tables₀ tables₁ : List ℕ) (answer : TablesRead) : Type 0 where
+  pub record TablesFound (found : ReadTables) (pairs total : ℕ) (catalogue₀ catalogue₁ tables₀ tables₁ : List ℕ) (answer : TablesRead) : Type 0 where
     pub means : found .next ≡ standing (answer .step)
     pub placed : PlacedStep (answer .step)
     pub pairs-read : 2 * answer .pairs ≡ 2 * pairs + length (found .catalogue)
@@ -89,24 +100,10 @@ module _ (text : List ℕ) where
     pub catalogue : catalogue₁ ≡ sets catalogue₀ (2 * pairs) (found .catalogue)
     pub tables : tables₁ ≡ sets tables₀ total (found .tables)
 
-  -- nodes: those of a good reading are counted
+  -- nodes: their words as those of other lines, and whole ones counted
   pub record NodesFound (found : Read) (before after : List ℕ) (answer : NodesRead) : Type 0 where
-    pub means : found .next ≡ standing (answer .step)
-    pub counted : {line : ℕ} {bytes : List ℕ} → found .next ≡ goesOn line bytes → questionNodeWords * answer .nodes ≡ length (found .words)
-    pub words : after ≡ sets before 0 (found .words)
-
--- the mode of a line, and the bundle that goes on behind it
-abbrev pub modeIn : (line : ℕ) → List ℕ → Mode
-modeIn line bytes = cond (begins plainLine bytes) (ModeOf 0) (cond (begins shortLine bytes) (ModeOf 1) (NoMode line))
-
-abbrev pub bundleBehind : (line : ℕ) → List ℕ → Mode → reads.Bundle
-bundleBehind line bytes (ModeOf mode) = withTables mode (tablesOf cataloguePairLimit 0 line bytes)
-bundleBehind line bytes (NoMode wrong) = noBundle wrong
-
--- behind a mode the text goes on; of a wrong mode's line nothing is known, and nothing is read behind it
-abbrev pub PlacedBehind : (text : List ℕ) (at line : ℕ) → Mode → Type 0
-PlacedBehind text at line (ModeOf mode) = Placed text (record { at = at; line = line })
-PlacedBehind text at line (NoMode wrong) = Unit {0}
+    pub lines : LinesRead found 0 before after (answer .step)
+    pub counted : answer .nodes ≡ length (found .words) / questionNodeWords
 
 -- all lines: the numbers of a bundle, or the wrong line
 abbrev pub linesAnswer : reads.Bundle → Next → Lines

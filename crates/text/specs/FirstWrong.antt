@@ -42,20 +42,20 @@ pub record FirstWrong (text : List ℕ) (line : ℕ) : Type 0 where
   pub right : RightText example
   pub right-before : firstLines (line - 1) text ≡ firstLines (line - 1) example
 
--- so many lines are ended
+-- the lines of a text that are ended by LF
 unfoldable pub endedLines : List ℕ → ℕ
 endedLines [] = 0
 endedLines (byte ∷ bytes) = cond (eqb byte lineFeed) 1 0 + endedLines bytes
 
 -- The place that `read` gives is the first wrong line. Proved in proofs/FirstWrong.antt.
 pub record PlaceIsFirstWrong : Type 0 where
-  -- a text within the limit is wrong at a line exactly when that is its first wrong line, and it has only one
+  -- a text within the limit is wrong at a line exactly when that is its first wrong line, and there is only one
   pub place : (text : List ℕ) (line : ℕ) → length text ≤ byteLimit → reading text .next ≡ wrongAt line → FirstWrong text line
   pub refused : (text : List ℕ) (line : ℕ) → length text ≤ byteLimit → FirstWrong text line → reading text .next ≡ wrongAt line
   pub one-place : (text : List ℕ) (one other : ℕ) → FirstWrong text one → FirstWrong text other → one ≡ other
   -- "something missing at the end is placed one line after the last; an unended line is wrong": a text that stops before the end of a right one
   pub missing : (text more : List ℕ) → RightText (text ++ more) → (RightText text → ⊥) → FirstWrong text (suc (endedLines text))
-  -- a call of `read`
+  -- on calls of `read` that refusal 14 lets pass: 12 with this place, exactly when that line is the first wrong one
   pub read-place : (text catalogue tables question : List ℕ) → smallBuffers catalogue tables question ≡ false → length text ≤ byteLimit
       → readOutcome text catalogue tables question .numbers .status ≡ 12 → FirstWrong text (readOutcome text catalogue tables question .numbers .place)
   pub read-refuses : (text catalogue tables question : List ℕ) (line : ℕ) → smallBuffers catalogue tables question ≡ false → length text ≤ byteLimit

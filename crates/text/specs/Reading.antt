@@ -98,27 +98,27 @@ withColumns total noNumber = noRelation
 unfoldable pub relationOf : (total : ℕ) → List ℕ → Relation
 relationOf total bytes = withColumns total (numberThen space bytes)
 
-pub record Tables : Type 0 where
+pub record ReadTables : Type 0 where
   pub catalogue : List ℕ
   pub tables : List ℕ
   pub next : Next
 
-abbrev pub noTables : Next → Tables
+abbrev pub noTables : Next → ReadTables
 noTables next = record { catalogue = []; tables = []; next = next }
 
-abbrev pub rowsOf : (line : ℕ) → Relation → Tables
-rowsOf line (relation columns rows bytes) =
+abbrev pub tableBehind : (line : ℕ) → Relation → ReadTables
+tableBehind line (relation columns rows bytes) =
     record {
       catalogue = columns ∷ rows ∷ [];
       tables = keyedLines rowKey columns rows (line + 1) bytes .words;
       next = keyedLines rowKey columns rows (line + 1) bytes .next;
     }
-rowsOf line noRelation = noTables (wrongAt line)
+tableBehind line noRelation = noTables (wrongAt line)
 
-unfoldable pub tableOf : (total line : ℕ) → List ℕ → Tables
-tableOf total line bytes = rowsOf line (relationOf total (drop (length relationKey) bytes))
+unfoldable pub tableOf : (total line : ℕ) → List ℕ → ReadTables
+tableOf total line bytes = tableBehind line (relationOf total (drop (length relationKey) bytes))
 
-abbrev pub tablesThen : (catalogue tables : List ℕ) → Next → (ℕ → List ℕ → Tables) → Tables
+abbrev pub tablesThen : (catalogue tables : List ℕ) → Next → (ℕ → List ℕ → ReadTables) → ReadTables
 tablesThen catalogue tables (goesOn line bytes) more =
     record {
       catalogue = catalogue ++ more line bytes .catalogue;
@@ -127,11 +127,11 @@ tablesThen catalogue tables (goesOn line bytes) more =
     }
 tablesThen catalogue tables (wrongAt line) more = record { catalogue = catalogue; tables = tables; next = wrongAt line }
 
-abbrev pub andTables : Tables → (ℕ → List ℕ → Tables) → Tables
+abbrev pub andTables : ReadTables → (ℕ → List ℕ → ReadTables) → ReadTables
 andTables first more = tablesThen (first .catalogue) (first .tables) (first .next) more
 
 -- at most `count` tables, as many as there are relation= lines
-unfoldable pub tablesOf : (count total line : ℕ) → List ℕ → Tables
+unfoldable pub tablesOf : (count total line : ℕ) → List ℕ → ReadTables
 tablesOf zero total line bytes = noTables (goesOn line bytes)
 tablesOf (suc more) total line bytes =
     cond (begins relationKey bytes)
@@ -163,7 +163,7 @@ abbrev pub nodesAfter : Next → Read
 nodesAfter (goesOn line bytes) = nodesOf questionNodeLimit line bytes
 nodesAfter (wrongAt line) = nothing (wrongAt line)
 
-abbrev pub withTables : (mode : ℕ) → Tables → Bundle
+abbrev pub withTables : (mode : ℕ) → ReadTables → Bundle
 withTables mode found =
     record {
       mode = mode;

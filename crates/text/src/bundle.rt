@@ -1,50 +1,26 @@
 // A bundle's text, read into a catalogue, tables and a question's nodes.
 ghost use mathlib.Core.Path.{_≡_};
 ghost use mathlib.Core.Bool.{true};
-ghost use Prim.Native.Nat.{_+_, _≤_, _<_};
-ghost use lib.ListN.{length, drop};
+ghost use Prim.Native.Nat.{_+_, _*_, _≤_, _<_};
+ghost use lib.ListN.{drop};
 ghost use Rattle.relations.specs.Limits.{cataloguePairLimit, wordLimit, questionNodeLimit};
-ghost use Rattle.text.specs.Marks.{relationKey};
-ghost use Rattle.text.specs.Reading.{relationOf, begins, tableOf, tablesOf, nodesOf, withTables, linesOf};
-ghost use Rattle.text.specs.Answers.{Placed, RelationRead, TablesFound, NodesFound, modeIn, PlacedBehind, bundleBehind, linesAnswer, BundleFound};
+ghost use Rattle.text.specs.Marks.{relationKey, rowKey};
+ghost use Rattle.text.specs.Put.{furthest};
+ghost use Rattle.text.specs.Reading.{begins, keyedLines, tableOf, tablesOf, nodesOf, withTables, linesOf};
+ghost use Rattle.text.specs.Answers.{Placed, LinesRead, TablesFound, NodesFound, linesAnswer, BundleFound};
 ghost use Rattle.text.specs.ReadCall.{readNumbers, readOutcome};
 use crate::limits::BYTES;
 use crate::limits::NODE_WORDS;
 use crate::limits::NODES;
 use crate::lines::Cursor;
-use crate::lines::Number;
 use crate::lines::Step;
 use crate::lines::begins_with;
 use crate::lines::keep;
-use crate::lines::number_then;
-use crate::lines::read_line;
-use crate::lines::read_lines;
-use crate::reader::Reader;
-use crate::reader::at_first_line;
-use crate::reader::behind_line;
-use catalogue::judging::pair_ok;
+use crate::reader::Line;
+use crate::reader::next_line;
 use catalogue::judging::wide;
 use catalogue::limits::PAIRS;
 use catalogue::limits::WORDS;
-
-// What a bundle's first line says: the mode's number, or that the line of that number is wrong.
-pub enum Mode {
-    Of(u32),
-    Wrong(usize),
-}
-
-// The bytes of a mode's line, its LF with them: "mode=plain" is as long as "mode=short".
-const MODE_BYTES: usize = 11;
-
-// What a relation line says, and the position behind it.
-pub enum Relation {
-    Of {
-        columns: usize,
-        rows: usize,
-        next: usize,
-    },
-    Wrong,
-}
 
 // How much was read, and where that ends.
 pub struct TablesRead {
@@ -81,32 +57,36 @@ pub enum Reading {
     SmallBuffer,
 }
 
-// The two numbers of a relation line, from `at` on, where the tables before have `total` words.
-fn read_relation(text: &[u8], at: usize, total: usize) -> Relation
-    requires { ⌜ total ≤ wordLimit ⌝ }
-    ensures { λ r. ⌜ RelationRead (now (text .entry)) at total (relationOf total (drop at (now (text .entry)))) r ⌝ }
+// The rows of a table.
+fn read_rows(
+    text: &[u8],
+    start: Cursor,
+    columns: usize,
+    rows: usize,
+    tables: &mut [u32],
+    to: usize,
+) -> Step
+    requires { ⌜ (0 < columns) × (to + columns * rows ≤ furthest) × Placed (now text) start ⌝ }
+    ensures { λ r. ⌜ LinesRead (now (text .entry)) (keyedLines rowKey columns rows (start .line) (drop (start .at) (now (text .entry)))) to (now (tables .entry)) (now (tables .exit)) r ⌝ }
 {
-    match number_then(text, at, b' ') {
-        Number::Value(first, behind) => match number_then(text, behind, b'\n') {
-            Number::Value(second, next) => {
-                let columns = wide(first);
-                let rows = wide(second);
-                if pair_ok(columns, rows) {
-                    if WORDS < total + columns * rows {
-                        return Relation::Wrong;
-                    }
-                    return Relation::Of {
-                        columns,
-                        rows,
-                        next,
-                    };
-                }
-                Relation::Wrong
+    let mut at = start.at;
+    let mut line = start.line;
+    let mut left = rows;
+    let mut place = to;
+    while 0 < left {
+        match next_line(text, at, line, Line::Row { columns }, tables, place) {
+            Step::Next(next) => {
+                at = next.at;
+                line = next.line;
             }
-            Number::Wrong => Relation::Wrong,
-        },
-        Number::Wrong => Relation::Wrong,
+            Step::Wrong(wrong) => {
+                return Step::Wrong(wrong);
+            }
+        }
+        place += columns;
+        left -= 1;
     }
+    Step::Next(Cursor { at, line })
 }
 
 // A table: its relation line, whose key has been seen, and its rows.
@@ -121,38 +101,26 @@ fn read_table(
     requires { ⌜ (pairs < cataloguePairLimit) × (total ≤ wordLimit) × Placed (now text) start × (begins relationKey (drop (start .at) (now text)) ≡ true) ⌝ }
     ensures { λ r. ⌜ TablesFound (now (text .entry)) (tableOf total (start .line) (drop (start .at) (now (text .entry)))) pairs total (now (catalogue .entry)) (now (catalogue .exit)) (now (tables .entry)) (now (tables .exit)) r ⌝ }
 {
-    let line = start.line;
     let at = start.at;
-    match read_relation(text, at + 9, total) {
-        Relation::Of {
-            columns,
-            rows,
-            next,
-        } => {
-            keep(catalogue, 2 * pairs, columns as u32);
-            keep(catalogue, 2 * pairs + 1, rows as u32);
-            let step = read_lines(
-                text,
-                Cursor {
-                    at: next,
-                    line: line + 1,
-                },
-                b"row=",
-                columns,
-                rows,
-                tables,
-                total,
-            );
+    let line = start.line;
+    let mut pair = [0u32; 2];
+    match next_line(text, at, line, Line::Relation { total }, &mut pair, 0) {
+        Step::Next(next) => {
+            let columns = wide(pair[0]);
+            let rows = wide(pair[1]);
+            keep(catalogue, 2 * pairs, pair[0]);
+            keep(catalogue, 2 * pairs + 1, pair[1]);
+            let step = read_rows(text, next, columns, rows, tables, total);
             TablesRead {
                 pairs: pairs + 1,
                 words: total + columns * rows,
                 step,
             }
         }
-        Relation::Wrong => TablesRead {
+        Step::Wrong(wrong) => TablesRead {
             pairs,
             words: total,
-            step: Step::Wrong(line),
+            step: Step::Wrong(wrong),
         },
     }
 }
@@ -208,12 +176,12 @@ fn read_nodes(text: &[u8], start: Cursor, question: &mut [u32]) -> NodesRead
     let mut at = start.at;
     let mut line = start.line;
     let mut nodes: usize = 0;
-    while nodes < NODES {
-        match read_line(
+    loop {
+        match next_line(
             text,
-            Cursor { at, line },
-            b"node=",
-            NODE_WORDS,
+            at,
+            line,
+            Line::Node { before: nodes },
             question,
             NODE_WORDS * nodes,
         ) {
@@ -235,10 +203,6 @@ fn read_nodes(text: &[u8], start: Cursor, question: &mut [u32]) -> NodesRead
                 step: Step::Next(Cursor { at, line }),
             };
         }
-    }
-    NodesRead {
-        nodes,
-        step: Step::Wrong(line),
     }
 }
 
@@ -274,84 +238,15 @@ fn read_behind_mode(
     }
 }
 
-// The mode of the line at `at`, which has the number `line`.
-fn mode_at(text: &[u8], at: usize, line: usize) -> Mode
-    ensures { λ r. ⌜ r ≡ modeIn line (drop at (now (text .entry))) ⌝ }
-{
-    if begins_with(text, at, b"mode=plain\n") {
-        return Mode::Of(0);
-    }
-    if begins_with(text, at, b"mode=short\n") {
-        return Mode::Of(1);
-    }
-    Mode::Wrong(line)
-}
-
-// The lines from `at` on, which stand behind the mode's; behind a wrong one none is read.
-fn rest_at(
-    text: &[u8],
-    at: usize,
-    line: usize,
-    mode: Mode,
-    catalogue: &mut [u32],
-    tables: &mut [u32],
-    question: &mut [u32],
-) -> Lines
-    requires { ⌜ PlacedBehind (now text) at line mode ⌝ }
-    ensures { λ r. ⌜ BundleFound (bundleBehind line (drop at (now (text .entry))) mode) (now (catalogue .entry)) (now (catalogue .exit)) (now (tables .entry)) (now (tables .exit)) (now (question .entry)) (now (question .exit)) r ⌝ }
-{
-    match mode {
-        Mode::Of(number) => {
-            read_behind_mode(
-                text,
-                Cursor { at, line },
-                number,
-                catalogue,
-                tables,
-                question,
-            )
-        }
-        Mode::Wrong(wrong) => Lines::Wrong(wrong),
-    }
-}
-
-// The mode of the line that the reader stands at.
-fn read_mode<'a>(reader: Reader<'a>) -> Mode
-    ensures { λ r. ⌜ r ≡ modeIn (reader .entry .line) (drop (reader .entry .at) (now (reader .entry .text))) ⌝ }
-{
-    mode_at(reader.text, reader.at, reader.line)
-}
-
-// The lines from where the reader stands, behind the mode's.
-fn read_rest<'a>(
-    reader: Reader<'a>,
-    mode: Mode,
-    catalogue: &mut [u32],
-    tables: &mut [u32],
-    question: &mut [u32],
-) -> Lines
-    requires { ⌜ PlacedBehind (now (reader .text)) (reader .at) (reader .line) mode ⌝ }
-    ensures { λ r. ⌜ BundleFound (bundleBehind (reader .entry .line) (drop (reader .entry .at) (now (reader .entry .text))) mode) (now (catalogue .entry)) (now (catalogue .exit)) (now (tables .entry)) (now (tables .exit)) (now (question .entry)) (now (question .exit)) r ⌝ }
-{
-    rest_at(
-        reader.text,
-        reader.at,
-        reader.line,
-        mode,
-        catalogue,
-        tables,
-        question,
-    )
-}
-
-// Every line; each word is kept where there is room. It goes through a reader, but its callers lend a plain text and see none.
+// Every line; each word is kept where there is room.
 fn read_all(text: &[u8], catalogue: &mut [u32], tables: &mut [u32], question: &mut [u32]) -> Lines
     ensures { λ r. ⌜ BundleFound (linesOf (now (text .entry))) (now (catalogue .entry)) (now (catalogue .exit)) (now (tables .entry)) (now (tables .exit)) (now (question .entry)) (now (question .exit)) r ⌝ }
 {
-    let first = at_first_line(text);
-    let mode = read_mode(first);
-    let second = behind_line(first, MODE_BYTES);
-    read_rest(second, mode, catalogue, tables, question)
+    let mut mode = [0u32; 1];
+    match next_line(text, 0, 1, Line::Mode, &mut mode, 0) {
+        Step::Next(next) => read_behind_mode(text, next, mode[0], catalogue, tables, question),
+        Step::Wrong(wrong) => Lines::Wrong(wrong),
+    }
 }
 
 // What `read_all` would answer, with no buffer written.

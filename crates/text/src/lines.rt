@@ -1,17 +1,16 @@
 // The rules for numbers and lines, read: what every text of the desk is made of.
 ghost use mathlib.Core.Path.{_≡_};
-ghost use mathlib.Core.List.{_∷_};
-ghost use Prim.Native.Nat.{ℕ, _+_, _*_, _≤_, _<_};
+ghost use Prim.Native.Nat.{_+_, _≤_, _<_};
 ghost use lib.ListN.{length, drop, set};
-ghost use lib.Seq.{sets};
 ghost use Rattle.text.specs.Limits.{greatestNumber};
 ghost use Rattle.text.specs.Marks.{digit, separator};
-ghost use Rattle.text.specs.Reading.{number, moreDigits, numberThen, begins, numbers, keyedLine, keyedLines};
+ghost use Rattle.text.specs.Reading.{number, moreDigits, numberThen, begins, numbers, keyedLine};
+ghost use Rattle.text.specs.Put.{furthest};
 ghost use Rattle.text.specs.Answers.{NumberRead, Placed, LinesRead};
 use crate::limits::GREATEST;
 
-// Where reading stands, as a plain value: the position of the byte that comes next, and the number of its line, from 1.
-// A step hands it back, and a loop goes on from it; a `Reader` would hold the text too, but no enum can hold one.
+// Where a reader stands, as a plain value: the position of the byte that comes next, and the number of its line, from 1.
+// A step hands it back, since no enum can hold a reader; a loop carries it to the next line.
 pub struct Cursor {
     pub at: usize,
     pub line: usize,
@@ -137,7 +136,7 @@ pub fn separator_behind(more: usize) -> u8
 
 // The rest of a line: `count` numbers, kept from `to` on, and its end.
 pub fn read_numbers(text: &[u8], start: Cursor, count: usize, words: &mut [u32], to: usize) -> Step
-    requires { ⌜ (0 < count) × (to + count ≤ 4294967296) × Placed (now text) start ⌝ }
+    requires { ⌜ (0 < count) × (to + count ≤ furthest) × Placed (now text) start ⌝ }
     ensures { λ r. ⌜ LinesRead (now (text .entry)) (numbers count (start .line) (drop (start .at) (now (text .entry)))) to (now (words .entry)) (now (words .exit)) r ⌝ }
 {
     let line = start.line;
@@ -161,7 +160,7 @@ pub fn read_numbers(text: &[u8], start: Cursor, count: usize, words: &mut [u32],
 }
 
 // A line: `key`, and `count` numbers, kept from `to` on.
-pub fn read_line(
+pub fn keyed_line(
     text: &[u8],
     start: Cursor,
     key: &[u8],
@@ -169,7 +168,7 @@ pub fn read_line(
     words: &mut [u32],
     to: usize,
 ) -> Step
-    requires { ⌜ (0 < count) × (to + count ≤ 4294967296) × Placed (now text) start ⌝ }
+    requires { ⌜ (0 < count) × (to + count ≤ furthest) × Placed (now text) start ⌝ }
     ensures { λ r. ⌜ LinesRead (now (text .entry)) (keyedLine (now (key .entry)) count (start .line) (drop (start .at) (now (text .entry)))) to (now (words .entry)) (now (words .exit)) r ⌝ }
 {
     let at = start.at;
@@ -180,37 +179,4 @@ pub fn read_line(
     } else {
         Step::Wrong(line)
     }
-}
-
-// `count` lines of `width` numbers each.
-pub fn read_lines(
-    text: &[u8],
-    start: Cursor,
-    key: &[u8],
-    width: usize,
-    count: usize,
-    words: &mut [u32],
-    to: usize,
-) -> Step
-    requires { ⌜ (0 < width) × (to + width * count ≤ 4294967296) × Placed (now text) start ⌝ }
-    ensures { λ r. ⌜ LinesRead (now (text .entry)) (keyedLines (now (key .entry)) width count (start .line) (drop (start .at) (now (text .entry)))) to (now (words .entry)) (now (words .exit)) r ⌝ }
-{
-    let mut at = start.at;
-    let mut line = start.line;
-    let mut left = count;
-    let mut place = to;
-    while 0 < left {
-        match read_line(text, Cursor { at, line }, key, width, words, place) {
-            Step::Next(next) => {
-                at = next.at;
-                line = next.line;
-            }
-            Step::Wrong(wrong) => {
-                return Step::Wrong(wrong);
-            }
-        }
-        place += width;
-        left -= 1;
-    }
-    Step::Next(Cursor { at, line })
 }

@@ -10,7 +10,7 @@ use Rattle.catalogue.specs.Judging.{catalogueWords}
 use Rattle.relations.specs.Limits.{cataloguePairLimit, wordLimit}
 use lib.ListN.{length, drop}
 use mathlib.Core.Path.{_≡_, refl, sym, ap, _∙_}
-use Prim.Native.Nat.{ℕ, _≤_, _-_, _+_}
+use Prim.Native.Nat.{_≤_, _-_, _+_}
 use borrow.Author.Needs.{needs}
 use native.Mathlib.Omega.{arith}
 use Rattle.text.proofs.bundle.read_tables.Statement.{statement}
