@@ -5,38 +5,13 @@
  * call, so that one that isn't set shows. A broken guard, or a changed slice that is only lent to be read, is printed
  * behind the outcome. Built with the address and undefined-behaviour sanitizers. */
 #define _GNU_SOURCE
-#include "call_line.h"
-#include "desk.h"
+#include "make_call.h"
 
 #include <stdio.h>
 #include <stdlib.h>
 #include <string.h>
 
 #define UNSET 0xDEADBEEFu
-
-struct results {
-  uint32_t status, place, nodes, heavy, room, width, rows;
-};
-
-#define SLICE(slice) (slice).words, (slice).length
-
-static void make_call(const struct call *call, struct results *r) {
-  switch (call->name) {
-  case TRANSLATE:
-    r->status = desk_translate(SLICE(call->catalogue), SLICE(call->question), call->mode, SLICE(call->plan), &r->place,
-                               &r->nodes, &r->heavy);
-    break;
-  case RUN:
-    r->status = desk_run(SLICE(call->catalogue), SLICE(call->tables), SLICE(call->plan), SLICE(call->work),
-                         SLICE(call->output), &r->place, &r->nodes, &r->heavy, &r->room, &r->width, &r->rows);
-    break;
-  case ANSWER:
-    r->status = desk_answer(SLICE(call->catalogue), SLICE(call->tables), SLICE(call->question), call->mode,
-                            SLICE(call->plan), SLICE(call->work), SLICE(call->output), &r->place, &r->nodes, &r->heavy,
-                            &r->room, &r->width, &r->rows);
-    break;
-  }
-}
 
 /* " |" and the words; never more than the slice holds, whatever numbers the desk gave */
 static void print_words(struct slice slice, size_t count) {

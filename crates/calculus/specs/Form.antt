@@ -55,6 +55,12 @@ module _ (columns : ℕ → ℕ) where
   abbrev pub alphaScope : ℕ → Range → Bindings → Scope
   alphaScope variable range bindings = scopeOfBindings bindings (entry variable (widthOfRange range) ∷ [])
 
+  -- What a question's good form asks, in document 01's words and in the order of the conjunctions below.
+  -- A table: not an "unknown relation" (4). A range operation: its sides are good, and they don't "differ in width" (6).
+  -- An alpha: its first range is good; so are its other bindings, along the chain; so are its condition, if it has one, and each of its targets, in the
+  -- scope of all bindings; then no "columns in scope" over 32 (6), at least one target, and no "alpha's width" over 32 (6).
+  -- A binding, a "some" and an "every": its variable is not "bound while in scope" (5); its range is good; so is what follows, with the variable in
+  -- scope; no "columns in scope" over 32 (6). A target and an atom: no "variable not in scope" (5), no "attribute beyond its variable" (6).
   module _ (relations : ℕ) where
     unfoldable mutual
       -- a range starts with no variable in scope; an alpha has at least one target

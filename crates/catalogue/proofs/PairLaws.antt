@@ -8,8 +8,9 @@ use native.Mathlib.Numerals.{add-one}
 use lib.Dec.{eqb}
 use lib.ListN.{length, getD, drop, length-drop, drop-of-length-le}
 use lib.Seq.{drop-cons}
-use Rattle.catalogue.specs.Judging.{pairOk, pairsOk, catalogueWords, catalogueOk, tablesOk, judged}
+use Rattle.catalogue.specs.Judging.{pairOk, pairsOk, catalogueWords, catalogueOk, tablesOk, CatalogueNumbers, catalogueNumbers, judgedCatalogue}
 use Rattle.relations.proofs.BoolLaws.{and-left}
+use Rattle.catalogue.specs.declared.judging.Judged.{Judged}
 use Rattle.catalogue.specs.declared.judging.Judged.the-variants.{Words, Wrong}
 
 -- A pair at the front of what is left.
@@ -59,16 +60,23 @@ pub words-end : (l : List ℕ) (at : ℕ) → length l ≤ at → catalogueWords
 unfolding catalogueWords
 words-end l at h = ap catalogueWords (drop-of-length-le l h)
 
+-- The numbers of an answer name it: `judge_catalogue` promises one answer.
+pub one-catalogue : (one other : Judged) → catalogueNumbers one ≡ catalogueNumbers other → one ≡ other
+one-catalogue (Words words) (Words others) e = ap Words (ap (λ (n : CatalogueNumbers). n .words) e)
+one-catalogue (Words words) Wrong e = let never : _≡_ {A = ℕ} 0 7 = ap (λ (n : CatalogueNumbers). n .status) e in absurd (omega arith)
+one-catalogue Wrong (Words words) e = let never : _≡_ {A = ℕ} 7 0 = ap (λ (n : CatalogueNumbers). n .status) e in absurd (omega arith)
+one-catalogue Wrong Wrong e = refl
+
 -- The tables, by the answer of `judge_catalogue`.
 module _ (catalogue tables : List ℕ) where
-  pub tables-judged : (words : ℕ) → Words words ≡ judged catalogue → eqb (length tables) words ≡ tablesOk catalogue tables
+  pub tables-judged : (words : ℕ) → catalogueNumbers (Words words) ≡ judgedCatalogue catalogue → eqb (length tables) words ≡ tablesOk catalogue tables
   tables-judged words h = go (catalogueOk catalogue) h where
-    go : (ok : Bool) → Words words ≡ cond ok (Words (catalogueWords catalogue)) Wrong → eqb (length tables) words ≡ (ok && eqb (length tables) (catalogueWords catalogue))
-    go true e = let same : words ≡ catalogueWords catalogue = cc in rw same
-    go false e = let never : _≡_ {A = ℕ} 0 1 = cc in absurd (omega arith)
+    go : (ok : Bool) → catalogueNumbers (Words words) ≡ cond ok (catalogueNumbers (Words (catalogueWords catalogue))) (catalogueNumbers Wrong) → eqb (length tables) words ≡ (ok && eqb (length tables) (catalogueWords catalogue))
+    go true e = let same : words ≡ catalogueWords catalogue = ap (λ (n : CatalogueNumbers). n .words) e in rw same
+    go false e = let never : _≡_ {A = ℕ} 0 7 = ap (λ (n : CatalogueNumbers). n .status) e in absurd (omega arith)
 
-  pub tables-wrong : Wrong ≡ judged catalogue → false ≡ tablesOk catalogue tables
+  pub tables-wrong : catalogueNumbers Wrong ≡ judgedCatalogue catalogue → false ≡ tablesOk catalogue tables
   tables-wrong h = go (catalogueOk catalogue) h where
-    go : (ok : Bool) → Wrong ≡ cond ok (Words (catalogueWords catalogue)) Wrong → false ≡ (ok && eqb (length tables) (catalogueWords catalogue))
-    go true e = let never : _≡_ {A = ℕ} 0 1 = cc in absurd (omega arith)
+    go : (ok : Bool) → catalogueNumbers Wrong ≡ cond ok (catalogueNumbers (Words (catalogueWords catalogue))) (catalogueNumbers Wrong) → false ≡ (ok && eqb (length tables) (catalogueWords catalogue))
+    go true e = let never : _≡_ {A = ℕ} 7 0 = ap (λ (n : CatalogueNumbers). n .status) e in absurd (omega arith)
     go false e = refl

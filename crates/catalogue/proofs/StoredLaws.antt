@@ -10,7 +10,7 @@ use lib.ListN.{getD, length, take, drop, length-drop}
 use lib.Seq.{drop-drop, length-take-le}
 use borrow.Author.Tests.{lt-ltb, ltb-true}
 use Rattle.relations.specs.Values.{Wide}
-use Rattle.catalogue.specs.Stored.{relationsOf, pairWord, columnsOf, rowsOf, startOf, rowsIn, storedTables}
+use Rattle.catalogue.specs.Stored.{relationsOf, pairWord, columnsOf, rowCountOf, startOf, rowsIn, storedTables}
 
 -- Where the words start.
 
@@ -18,7 +18,7 @@ pub start-none : (catalogue : List ℕ) → 0 ≡ startOf catalogue 0
 unfolding startOf
 start-none catalogue = refl
 
-pub start-next : (catalogue : List ℕ) (relation : ℕ) → startOf catalogue (relation + 1) ≡ startOf catalogue relation + columnsOf catalogue relation * rowsOf catalogue relation
+pub start-next : (catalogue : List ℕ) (relation : ℕ) → startOf catalogue (relation + 1) ≡ startOf catalogue relation + columnsOf catalogue relation * rowCountOf catalogue relation
 unfolding startOf
 start-next catalogue relation = let next : relation + 1 ≡ suc relation = omega arith in rw next
 
@@ -31,7 +31,7 @@ start-later catalogue relation (suc more) =
     rw next (omega (arith, start-later catalogue relation more))
 
 -- a relation's words end no later than a later relation starts
-pub start-room : (catalogue : List ℕ) (relation later : ℕ) → relation < later → startOf catalogue relation + columnsOf catalogue relation * rowsOf catalogue relation ≤ startOf catalogue later
+pub start-room : (catalogue : List ℕ) (relation later : ℕ) → relation < later → startOf catalogue relation + columnsOf catalogue relation * rowCountOf catalogue relation ≤ startOf catalogue later
 start-room catalogue relation later h =
     let is : relation + 1 + (later - (relation + 1)) ≡ later = omega arith in
     rw (← start-next catalogue relation) (rw is at (start-later catalogue (relation + 1) (later - (relation + 1))))
@@ -44,7 +44,7 @@ start-pair columns rows more zero =
     rw known (omega arith)
 start-pair columns rows more (suc relation) =
     let ih : startOf (columns ∷ rows ∷ more) (suc relation) ≡ columns * rows + startOf more relation = start-pair columns rows more relation in
-    let here : columnsOf (columns ∷ rows ∷ more) (suc relation) * rowsOf (columns ∷ rows ∷ more) (suc relation) ≡ columnsOf more relation * rowsOf more relation = ap₂ _*_ (word (2 * suc relation) (2 * relation) (omega arith)) (word (2 * suc relation + 1) (2 * relation + 1) (omega arith)) in
+    let here : columnsOf (columns ∷ rows ∷ more) (suc relation) * rowCountOf (columns ∷ rows ∷ more) (suc relation) ≡ columnsOf more relation * rowCountOf more relation = ap₂ _*_ (word (2 * suc relation) (2 * relation) (omega arith)) (word (2 * suc relation + 1) (2 * relation + 1) (omega arith)) in
     omega (arith, ih, here)
   where
     -- the relation is known among all pairs where its place is among those behind the first
@@ -75,14 +75,14 @@ rows-wide columns zero words h = tt
 rows-wide columns (suc rows) words h =
     (length-take-le columns words (omega (arith, mul-suc columns rows)), rows-wide columns rows (drop columns words) (omega (arith, mul-suc columns rows, length-drop columns words)))
 
-pub stored-many : (catalogue tables : List ℕ) (relation : ℕ) → length (storedTables catalogue tables relation) ≡ rowsOf catalogue relation
-stored-many catalogue tables relation = rows-many (columnsOf catalogue relation) (rowsOf catalogue relation) (drop (startOf catalogue relation) tables)
+pub stored-many : (catalogue tables : List ℕ) (relation : ℕ) → length (storedTables catalogue tables relation) ≡ rowCountOf catalogue relation
+stored-many catalogue tables relation = rows-many (columnsOf catalogue relation) (rowCountOf catalogue relation) (drop (startOf catalogue relation) tables)
 
 -- a row of a stored table is a part of the tables
-pub stored-row : (catalogue tables : List ℕ) (relation row : ℕ) → row < rowsOf catalogue relation
+pub stored-row : (catalogue tables : List ℕ) (relation row : ℕ) → row < rowCountOf catalogue relation
     → getD (storedTables catalogue tables relation) row [] ≡ take (columnsOf catalogue relation) (drop (startOf catalogue relation + columnsOf catalogue relation * row) tables)
 stored-row catalogue tables relation row h =
-    rows-at (columnsOf catalogue relation) (rowsOf catalogue relation) (drop (startOf catalogue relation) tables) row h
+    rows-at (columnsOf catalogue relation) (rowCountOf catalogue relation) (drop (startOf catalogue relation) tables) row h
     ∙ ap (take (columnsOf catalogue relation)) (drop-drop (columnsOf catalogue relation * row) (startOf catalogue relation) tables)
 
 -- tables that hold the words of all relations have rows of the catalogue's widths
@@ -92,6 +92,6 @@ stored-wide catalogue tables room relation = go (ltb relation (relationsOf catal
   where
     go : (known : Bool) → ltb relation (relationsOf catalogue) ≡ known → Wide (columnsOf catalogue relation) (storedTables catalogue tables relation)
     go true known =
-        rows-wide (columnsOf catalogue relation) (rowsOf catalogue relation) (drop (startOf catalogue relation) tables)
+        rows-wide (columnsOf catalogue relation) (rowCountOf catalogue relation) (drop (startOf catalogue relation) tables)
         (omega (arith, start-room catalogue relation (relationsOf catalogue) (ltb-true relation (relationsOf catalogue) known), length-drop (startOf catalogue relation) tables))
     go false known = rw known tt

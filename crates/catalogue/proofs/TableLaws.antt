@@ -11,7 +11,7 @@ use Rattle.relations.specs.Limits.{cataloguePairLimit, wordLimit, storedColumnL
 use Rattle.relations.specs.Values.{Wide}
 use Rattle.relations.proofs.BoolLaws.{and-left, and-right}
 use Rattle.catalogue.specs.Judging.{pairOk, pairsOk, catalogueWords, catalogueOk, tablesOk}
-use Rattle.catalogue.specs.Stored.{relationsOf, columnsOf, rowsOf, startOf, storedTables}
+use Rattle.catalogue.specs.Stored.{relationsOf, columnsOf, rowCountOf, startOf, storedTables}
 use Rattle.catalogue.proofs.Judgements.{GoodPair, good-pair, GoodTables, good-tables}
 use Rattle.catalogue.proofs.StoredLaws.{start-pair, start-room, stored-wide}
 
@@ -56,7 +56,7 @@ module _ (catalogue tables : List ℕ) (ok : tablesOk catalogue tables ≡ true)
     pub has-column : (1 ≤ columnsOf catalogue relation) × (columnsOf catalogue relation ≤ storedColumnLimit)
     has-column = columns-some catalogue relation (good .pairs) known
 
-    pub stored-inside : startOf catalogue relation + rowsOf catalogue relation * columnsOf catalogue relation ≤ length tables
+    pub stored-inside : startOf catalogue relation + rowCountOf catalogue relation * columnsOf catalogue relation ≤ length tables
     stored-inside = omega (arith, start-room catalogue relation (relationsOf catalogue) known, start-words catalogue (good .pairs), good .sum)
 
     pub start-few : startOf catalogue relation ≤ wordLimit

@@ -31,6 +31,20 @@ catalogueOk catalogue = leb (length catalogue) (2 * cataloguePairLimit) && pairs
 abbrev pub tablesOk : List ℕ → List ℕ → Bool
 tablesOk catalogue tables = catalogueOk catalogue && eqb (length tables) (catalogueWords catalogue)
 
--- What `judge_catalogue` answers: the number of words, or `Wrong`, which is refusal 7.
-abbrev pub judged : List ℕ → Judged
-judged catalogue = cond (catalogueOk catalogue) (Words (catalogueWords catalogue)) Wrong
+-- What a judgement of the catalogue says in document 01's numbers: status and place, and how many words the tables have.
+pub record CatalogueNumbers : Type 0 where
+  pub status : ℕ
+  pub place : ℕ
+  pub words : ℕ
+
+-- the numbers of each case of the answer
+abbrev pub catalogueNumbers : Judged → CatalogueNumbers
+catalogueNumbers (Words count) = record { status = 0; place = 0; words = count }
+catalogueNumbers Wrong = record { status = 7; place = 0; words = 0 }
+
+-- 7, "pairs and their total of words only": "catalogue .. wrong", at 0
+abbrev pub judgedCatalogue : List ℕ → CatalogueNumbers
+judgedCatalogue catalogue =
+    cond (catalogueOk catalogue)
+    (record { status = 0; place = 0; words = catalogueWords catalogue })
+    (record { status = 7; place = 0; words = 0 })

@@ -17,13 +17,13 @@ pairWord catalogue relation word = cond (ltb relation (relationsOf catalogue)) (
 abbrev pub columnsOf : List ℕ → ℕ → ℕ
 columnsOf catalogue relation = pairWord catalogue relation (2 * relation)
 
-abbrev pub rowsOf : List ℕ → ℕ → ℕ
-rowsOf catalogue relation = pairWord catalogue relation (2 * relation + 1)
+abbrev pub rowCountOf : List ℕ → ℕ → ℕ
+rowCountOf catalogue relation = pairWord catalogue relation (2 * relation + 1)
 
 -- where a relation's words start: behind those of the relations before it
 unfoldable pub startOf : List ℕ → ℕ → ℕ
 startOf catalogue zero = 0
-startOf catalogue (suc relation) = startOf catalogue relation + columnsOf catalogue relation * rowsOf catalogue relation
+startOf catalogue (suc relation) = startOf catalogue relation + columnsOf catalogue relation * rowCountOf catalogue relation
 
 -- so many rows of `columns` words each, from the front
 unfoldable pub rowsIn : ℕ → ℕ → List ℕ → Rows
@@ -31,4 +31,4 @@ rowsIn columns zero words = []
 rowsIn columns (suc rows) words = take columns words ∷ rowsIn columns rows (drop columns words)
 
 abbrev pub storedTables : List ℕ → List ℕ → Tables
-storedTables catalogue tables relation = rowsIn (columnsOf catalogue relation) (rowsOf catalogue relation) (drop (startOf catalogue relation) tables)
+storedTables catalogue tables relation = rowsIn (columnsOf catalogue relation) (rowCountOf catalogue relation) (drop (startOf catalogue relation) tables)

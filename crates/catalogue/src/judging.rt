@@ -1,6 +1,6 @@
 // The catalogue: pairs of columns and rows, and the words of the tables that they describe.
 ghost use mathlib.Core.Path.{_≡_};
-ghost use Rattle.catalogue.specs.Judging.{pairOk, tablesOk, judged};
+ghost use Rattle.catalogue.specs.Judging.{pairOk, tablesOk, catalogueNumbers, judgedCatalogue};
 use crate::limits::PAIRS;
 use crate::limits::ROWS;
 use crate::limits::STORED_COLUMNS;
@@ -27,7 +27,7 @@ pub fn pair_ok(columns: usize, rows: usize) -> bool
 
 // Refusal 7 as translation asks for it: the pairs and their total of words.
 pub fn judge_catalogue(catalogue: &[u32]) -> Judged
-    ensures { λ r. ⌜ r ≡ judged (now (catalogue .entry)) ⌝ }
+    ensures { λ r. ⌜ catalogueNumbers r ≡ judgedCatalogue (now (catalogue .entry)) ⌝ }
 {
     if 2 * PAIRS < catalogue.len() {
         return Judged::Wrong;

@@ -2,7 +2,7 @@
 ghost use mathlib.Core.Path.{_≡_};
 ghost use Prim.Native.Nat.{_≤_};
 ghost use Rattle.relations.specs.Limits.{wordLimit};
-ghost use Rattle.catalogue.specs.Stored.{relationsOf, columnsOf, rowsOf, startOf};
+ghost use Rattle.catalogue.specs.Stored.{relationsOf, columnsOf, rowCountOf, startOf};
 use crate::judging::wide;
 
 pub fn relations_of(catalogue: &[u32]) -> usize
@@ -24,7 +24,7 @@ pub fn columns_of(catalogue: &[u32], relation: usize) -> u32
 
 // 0 for an unknown relation.
 pub fn rows_of(catalogue: &[u32], relation: usize) -> u32
-    ensures { λ r. ⌜ r ≡ rowsOf (now (catalogue .entry)) relation ⌝ }
+    ensures { λ r. ⌜ r ≡ rowCountOf (now (catalogue .entry)) relation ⌝ }
 {
     if relation < catalogue.len() / 2 {
         catalogue[2 * relation + 1]

@@ -11,8 +11,8 @@ use Rattle.calculus.specs.Question.{compare}
 use Rattle.calculus.specs.Question as calculus
 use Rattle.calculus.specs.Leaves.{isEqual}
 use Rattle.question.specs.Trees.{operatorFor, operandOf, atomOf}
-use Rattle.question.specs.declared.node.Operand.{Operand}
-use Rattle.question.specs.declared.node.Atom.{Atom}
+use Rattle.nodes.specs.declared.node.Operand.{Operand}
+use Rattle.nodes.specs.declared.node.Atom.{Atom}
 use Rattle.conditions.specs.Atoms.{operatorNamed}
 
 abbrev pub withOperand : Atom → Operand → calculus.Atom

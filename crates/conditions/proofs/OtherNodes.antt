@@ -10,9 +10,9 @@ use Rattle.calculus.specs.Question.{table, noMore, onCondition}
 use Rattle.calculus.specs.Scope as scopes
 use Rattle.calculus.specs.Form.{GoodCondition}
 use Rattle.question.specs.Trees.{Tree, nothing, branch, treeOf, Reading, reading, readingOf}
-use Rattle.question.specs.declared.node.Node as question
-use Rattle.question.specs.declared.node.Node.the-variants.{Table, Alpha, Target, Binding, RangeOr, RangeAnd, RangeAndNot, Atom as AtomNode, And, Or, Not, Some, Every, IllFormed}
-use Rattle.question.proofs.node.Node.{the-type}
+use Rattle.nodes.specs.declared.node.Node as question
+use Rattle.nodes.specs.declared.node.Node.the-variants.{Table, Alpha, Target, Binding, RangeOr, RangeAnd, RangeAndNot, Atom as AtomNode, And, Or, Not, Some, Every, IllFormed}
+use Rattle.nodes.proofs.node.Node.{the-type}
 use Rattle.conditions.specs.Readings.{restrictionAt, conditionAt}
 use Rattle.conditions.specs.Leaves.{leafOf}
 

@@ -1,27 +1,26 @@
 -- The scope in arrays, one variable longer, and its first variable. Assumes nothing.
 use Prim.Native.Nat.{ℕ, _+_, _-_, _≤_, _<_}
-use mathlib.Core.Path.{_≡_, refl, sym, ap, ap₂}
+use mathlib.Core.Path.{_≡_, refl, sym, ap, ap₂, _∙_}
 use mathlib.Core.List.{[], _∷_, _++_}
 use native.Mathlib.Omega.{arith}
 use native.Mathlib.Nat.{zero-add}
 use native.Mathlib.Numerals.{add-one}
-use lib.ListN.{length, getD, set}
+use lib.ListN.{length, getD}
 use lib.Seq.{getD-set-same, getD-set-other}
 use borrow.Author.Tests.{eq-eqb, ne-eqb}
 use Rattle.relations.specs.Limits.{columnLimit}
 use Rattle.calculus.specs.Scope.{entry, columnsIn, widthIn, columnNumber}
 use Rattle.calculus.proofs.ScopeLaws.{columns-extend}
 use Rattle.conditions.specs.Entries.{entries}
-use Rattle.conditions.specs.Scopes.{emptyScope, entryAt, scopeOf, ScopeFits, Extended}
+use Rattle.conditions.specs.Scopes.{emptyScope, entryAt, scopeOf, ScopeFits, withVariable, Extended}
 use Rattle.conditions.specs.declared.scope.Scope.{Scope}
 use Rattle.conditions.proofs.EntryLaws.{entries-step, entries-last, entries-same}
 
 module _ (scope : Scope) (v w : ℕ) where
   abbrev longer : Scope
-  longer = record { variables = set (scope .variables) (scope .count) v; widths = set (scope .widths) (scope .count) w; count = scope .count + 1; columns = scope .columns + w }
+  longer = withVariable scope v w
 
-  pub extended : length (scope .variables) ≡ columnLimit → length (scope .widths) ≡ columnLimit → ScopeFits scope → 1 ≤ w → scope .columns + w ≤ columnLimit
-      → Extended scope v w (record { variables = set (scope .variables) (scope .count) v; widths = set (scope .widths) (scope .count) w; count = scope .count + 1; columns = scope .columns + w })
+  pub extended : length (scope .variables) ≡ columnLimit → length (scope .widths) ≡ columnLimit → ScopeFits scope → 1 ≤ w → scope .columns + w ≤ columnLimit → Extended scope v w longer
   extended lv lw fits some few =
       let inside : scope .count < columnLimit = omega (arith, fits .few) in
       let last : entryAt longer (0 + scope .count) ≡ entry v w = rw (zero-add (scope .count)) (ap₂ entry (getD-set-same (scope .variables) (scope .count) v 0 (omega arith)) (getD-set-same (scope .widths) (scope .count) w 0 (omega arith))) in
@@ -29,9 +28,13 @@ module _ (scope : Scope) (v w : ℕ) where
       let stands : entries (entryAt longer) 0 (scope .count + 1) ≡ scopeOf scope ++ (entry v w ∷ []) =
       rw (add-one (scope .count), entries-last (entryAt longer) 0 (scope .count), entries-same (entryAt longer) (entryAt scope) 0 (scope .count) others, last) in
       record {
+        is = refl;
         fits = record { counted = omega (arith, fits .counted, ap columnsIn stands, columns-extend (scopeOf scope) v w); few = omega (arith, fits .few); narrow = few };
         stands = stands;
       }
+
+pub extended-unique : {scope a b : Scope} {v w : ℕ} → Extended scope v w a → Extended scope v w b → a ≡ b
+extended-unique e f = e .is ∙ sym (f .is)
 
 -- one variable of the scope passed
 module _ (scope : Scope) (v i left : ℕ) (h : 0 < left) where

@@ -4,9 +4,9 @@ use mathlib.Core.Path.{_≡_}
 use Rattle.relations.specs.Limits.{columnLimit}
 use Rattle.relations.specs.Comparison.{Operator, operatorNumber, operatorOf}
 use Rattle.question.specs.Trees.{operatorFor}
-use Rattle.question.specs.declared.node.Operand.{Operand}
-use Rattle.question.specs.declared.node.Operand.the-variants.{Of, Fixed}
-use Rattle.question.specs.declared.node.Atom.{Atom}
+use Rattle.nodes.specs.declared.node.Operand.{Operand}
+use Rattle.nodes.specs.declared.node.Operand.the-variants.{Of, Fixed}
+use Rattle.nodes.specs.declared.node.Atom.{Atom}
 
 abbrev pub operatorNamed : ℕ → Operator
 operatorNamed number = operatorFor (operatorOf number)

@@ -1,7 +1,7 @@
 -- The scope that the code carries, and the scope of `calculus` that it stands for. Assumes nothing.
-use Prim.Native.Nat.{ℕ, _≤_}
+use Prim.Native.Nat.{ℕ, _+_, _≤_}
 use mathlib.Core.Path.{_≡_}
-use lib.ListN.{getD, replicate}
+use lib.ListN.{getD, set, replicate}
 use Rattle.relations.specs.Limits.{columnLimit}
 use Rattle.calculus.specs.Scope as calculus
 use Rattle.calculus.specs.Scope.{ScopeEntry, entry, columnsIn}
@@ -23,6 +23,12 @@ pub record ScopeFits (scope : Scope) : Type 0 where
   pub few : scope .count ≤ scope .columns
   pub narrow : scope .columns ≤ columnLimit
 
+-- one variable more, behind the others
+abbrev pub withVariable : Scope → ℕ → ℕ → Scope
+withVariable scope variable width =
+    record { variables = set (scope .variables) (scope .count) variable; widths = set (scope .widths) (scope .count) width; count = scope .count + 1; columns = scope .columns + width }
+
 pub record Extended (scope : Scope) (variable width : ℕ) (longer : Scope) : Type 0 where
+  pub is : longer ≡ withVariable scope variable width
   pub fits : ScopeFits longer
   pub stands : scopeOf longer ≡ calculus.extend (scopeOf scope) variable width

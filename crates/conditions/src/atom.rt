@@ -7,9 +7,9 @@ ghost use Rattle.relations.specs.Comparison as comparison;
 ghost use Rattle.calculus.specs.Leaves.{oppositeAtom, aloneOn, comparesWithOther, areBoth, equatesWith, equatesOutside, ownAttribute, otherVariable, otherAttribute};
 ghost use Rattle.question.specs.Trees.{operandOf, atomOf};
 ghost use Rattle.conditions.specs.Atoms.{operatorNamed, AtomNarrow};
-use question::node::Atom;
-use question::node::Attribute;
-use question::node::Operand;
+use nodes::node::Atom;
+use nodes::node::Attribute;
+use nodes::node::Operand;
 
 // The operator that holds where this one doesn't.
 fn opposite(operator: u32) -> u32

@@ -3,17 +3,17 @@ ghost use mathlib.Core.Path.{_≡_};
 ghost use mathlib.Core.Bool.{false};
 ghost use Prim.Native.Nat.{_+_, _<_};
 ghost use Rattle.relations.specs.Limits.{questionNodeLimit};
-ghost use Rattle.question.specs.Trees.{atomOf};
+ghost use Rattle.question.specs.Trees.{treeOf, atomOf};
 ghost use Rattle.conditions.specs.Atoms.{AtomNarrow};
 ghost use Rattle.conditions.specs.Readings.{conditionAt};
-ghost use Rattle.conditions.specs.Leaves.{atomIn, leafAt, LeavesFit, Collectable, Collected, LeavesOf, noLeaves, withLeaf, joinedBy, opposites};
+ghost use Rattle.conditions.specs.Leaves.{atomIn, leafAt, LeavesFit, Collectable, Collected, LeavesOf, leafNumbers, leavesFound, noLeaves, withLeaf, joinedBy, opposites};
 use crate::atom::opposite_atom;
-use question::node::Atom;
-use question::node::Attribute;
-use question::node::Constant;
-use question::node::Node;
-use question::node::Operand;
-use question::node::decode;
+use nodes::node::Atom;
+use nodes::node::Attribute;
+use nodes::node::Constant;
+use nodes::node::Node;
+use nodes::node::Operand;
+use nodes::node::decode;
 
 // The first `count` numbers are in use. `conjoined`: no node but "and" stands above them; `disjoined`: none but "or";
 // `opposite`: each stands for the opposite of its atom.
@@ -96,7 +96,7 @@ pub fn leaf(words: &[u32], leaves: Leaves, i: usize) -> Atom
 // The leaves of the condition that a reference names, behind those collected so far.
 fn collect(words: &[u32], reference: u32, collected: Leaves) -> Leaves
     requires { ⌜ Collectable (now words) reference collected ⌝ }
-    ensures { λ r. ⌜ Collected (now (words .entry)) collected (conditionAt (now (words .entry)) reference) r ⌝ }
+    ensures { λ r. ⌜ Collected (now (words .entry)) collected (leafNumbers (treeOf (now (words .entry)) reference)) (conditionAt (now (words .entry)) reference) r ⌝ }
 {
     let number = reference - 1;
     let node = decode(words, number as usize);
@@ -127,7 +127,7 @@ fn collect(words: &[u32], reference: u32, collected: Leaves) -> Leaves
 // The leaves of the condition that a reference names.
 pub fn leaves_of(words: &[u32], reference: u32) -> Leaves
     requires { ⌜ Collectable (now words) reference noLeaves ⌝ }
-    ensures { λ r. ⌜ LeavesOf (now (words .entry)) (conditionAt (now (words .entry)) reference) r ⌝ }
+    ensures { λ r. ⌜ (r ≡ leavesFound (now (words .entry)) reference) × LeavesOf (now (words .entry)) (conditionAt (now (words .entry)) reference) r ⌝ }
 {
     collect(words, reference, no_leaves())
 }

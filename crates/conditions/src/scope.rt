@@ -4,7 +4,7 @@ ghost use Prim.Native.Nat.{_+_, _≤_};
 ghost use Rattle.relations.specs.Limits.{columnLimit};
 ghost use Rattle.calculus.specs.Scope.{widthIn, columnNumber};
 ghost use Rattle.conditions.specs.Scopes.{emptyScope, scopeOf, ScopeFits, Extended};
-use question::node::Attribute;
+use nodes::node::Attribute;
 
 // The first `count` variables and widths are in use; `columns` is the sum of these widths.
 pub struct Scope {

@@ -19,9 +19,9 @@ use Rattle.relations.proofs.PlanNarrow.{widths-narrow}
 use Rattle.catalogue.specs.Judging.{tablesOk}
 use Rattle.catalogue.specs.Stored.{relationsOf, columnsOf}
 use Rattle.catalogue.proofs.TableLaws.{has-column}
-use Rattle.plans.specs.Judging.{judgement, nodesOf}
-use Rattle.plans.specs.declared.judging.Judgement.{Judgement}
-use Rattle.plans.specs.declared.judging.Judgement.the-variants.{Legal, Illegal}
+use Rattle.plans.specs.Judging.{planJudgement, nodesOfPlan}
+use Rattle.plans.specs.declared.judging.PlanJudgement.{PlanJudgement}
+use Rattle.plans.specs.declared.judging.PlanJudgement.the-variants.{Legal, Illegal}
 use Rattle.plans.proofs.PlanTheorem.{judged-exactly}
 use Rattle.translation.specs.TranslateCall.{TranslateOutcome, translateOutcome}
 use Rattle.running.specs.RunCall.{RunNumbers, RunOutcome, runOutcome, Fit, fits, passesAt, answerRows, answerWidth, lastPlace, fitWithin, capacityOf, cleared, stopped, answered, ranOutcome, refused, judgedOutcome}
@@ -63,22 +63,22 @@ module _ (catalogue tables : List ℕ) (ok : tablesOk catalogue tables ≡ true)
   of-fit fits e = of-length (ltb (length output) (valueWords (answerWidth catalogue tables nodes) (answerRows catalogue tables nodes))) refl e
 
 module _ (catalogue tables plan work output : List ℕ) where
-  of-plan : tablesOk catalogue tables ≡ true → (judged : Judgement) → judgement catalogue plan ≡ judged
+  of-plan : tablesOk catalogue tables ≡ true → (judged : PlanJudgement) → planJudgement catalogue plan ≡ judged
       → judgedOutcome catalogue tables plan work output judged .numbers .status ≡ 0 → AnswerSize (judgedOutcome catalogue tables plan work output judged .numbers) output
   of-plan ok (Illegal place) is e = absurd (omega (arith, e))
   of-plan ok (Legal count) is e =
-      of-fit catalogue tables ok (nodesOf plan) (judged-exactly catalogue .sound plan count is .0) (cleared work) output (fitWithin catalogue tables (nodesOf plan) (capacityOf work)) e
+      of-fit catalogue tables ok (nodesOfPlan plan) (judged-exactly catalogue .sound plan count is .0) (cleared work) output (fitWithin catalogue tables (nodesOfPlan plan) (capacityOf work)) e
 
   run-size : runOutcome catalogue tables plan work output .numbers .status ≡ 0 → AnswerSize (runOutcome catalogue tables plan work output .numbers) output
   unfolding runOutcome
   run-size e = go (tablesOk catalogue tables) refl e
     where
       outcome : Bool → RunOutcome
-      outcome ok = cond (not ok) (refused catalogue tables plan work output 7 0) (judgedOutcome catalogue tables plan work output (judgement catalogue plan))
+      outcome ok = cond (not ok) (refused catalogue tables plan work output 7 0) (judgedOutcome catalogue tables plan work output (planJudgement catalogue plan))
 
       go : (ok : Bool) → tablesOk catalogue tables ≡ ok → outcome ok .numbers .status ≡ 0 → AnswerSize (outcome ok .numbers) output
       go false is e = absurd (omega (arith, e))
-      go true is e = of-plan is (judgement catalogue plan) refl e
+      go true is e = of-plan is (planJudgement catalogue plan) refl e
 
 module _ (catalogue tables question : List ℕ) (mode : ℕ) (plan work output : List ℕ) where
   outcome-size : answerOutcome catalogue tables question mode plan work output .numbers .status ≡ 0

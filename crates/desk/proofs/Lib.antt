@@ -1,13 +1,4 @@
 -- In reading order.
-pub mod PlansRight
-pub mod PlanWritten
-pub mod AnswerLaws
-pub mod AnswerSize
-pub mod Demand3
-pub mod LineLaws
-pub mod RoomLaws
-pub mod TranslateTable
-pub mod RunTable
-pub mod Demand1
+pub mod PlansLegal
 pub mod CallLaws
-pub mod Papers
+pub mod AnswerSize

@@ -1,5 +1,2 @@
--- In reading order.
+-- What a call leaves
 pub mod AnswerCall
-pub mod Refusals
-pub mod Demands
-pub mod Papers

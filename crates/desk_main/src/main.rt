@@ -1,14 +1,53 @@
-// `desk`: reads a bundle from standard input, answers its question, and prints the answer's listing, or the refusal.
+// `desk`: reads a bundle from standard input, answers its question, and prints the answer's listing, or the refusal. A program has no exit status of
+// its own: input that can't be read and a listing that can't be written whole are told on standard error, where nothing else is written.
+ghost use Rattle.io.specs.Counts.{Counts};
 ghost use Rattle.listing.specs.Listing.{Listable};
 use desk::Answered;
+use libc::STDERR_FILENO;
 use libc::STDIN_FILENO;
 use libc::STDOUT_FILENO;
 use text::bundle::Reading;
 
+struct Input {
+    bytes: usize,
+    failed: bool,
+}
+
+// Reads until the text is full or the input ends; `io::read_full` wouldn't tell a failed read from the end.
+fn read_input(text: &mut [u8]) -> Input
+    ensures { λ r. ⌜ Counts (r .bytes) (now (text .exit)) ⌝ }
+{
+    let mut bytes = 0;
+    while bytes < text.len() {
+        let got = libc::read(STDIN_FILENO, &mut text[bytes..]);
+        let more = io::count(got, &text[bytes..]);
+        if more == 0 {
+            return Input {
+                bytes: bytes,
+                failed: got < 0,
+            };
+        }
+        bytes += more;
+    }
+    Input {
+        bytes: bytes,
+        failed: false,
+    }
+}
+
+fn print(text: &[u8]) {
+    if !io::write_all(STDOUT_FILENO, text) {
+        io::write_all(
+            STDERR_FILENO,
+            b"desk: the listing could not be written whole\n",
+        );
+    }
+}
+
 fn print_refusal(status: u32, place: u32) {
     let mut text = [0u8; 35];
     let bytes = listing::put_refusal(status, place, &mut text);
-    io::write_all(STDOUT_FILENO, &text[..bytes]);
+    print(&text[..bytes]);
 }
 
 // The buffer holds the longest listing: 16,384 rows of one word of ten digits.
@@ -17,7 +56,7 @@ fn print_listing(nodes: u32, heavy: u32, room: u32, width: u32, rows: u32, words
 {
     let mut text = [0u8; 262144];
     let bytes = listing::put_listing(nodes, heavy, room, width, rows, words, &mut text);
-    io::write_all(STDOUT_FILENO, &text[..bytes]);
+    print(&text[..bytes]);
 }
 
 // The question of a bundle that was read.
@@ -45,14 +84,12 @@ fn print_answer(mode: u32, catalogue: &[u32], tables: &[u32], question: &[u32]) 
     }
 }
 
-// One byte more than a text may have is asked for, so that `read` can tell an over-long one.
-fn main() {
-    let mut text = [0u8; 65537];
+// A bundle's text.
+fn print_outcome(text: &[u8]) {
     let mut catalogue = [0u32; 32];
     let mut tables = [0u32; 16384];
     let mut question = [0u32; 384];
-    let bytes = io::read_full(STDIN_FILENO, &mut text);
-    match text::bundle::read(&text[..bytes], &mut catalogue, &mut tables, &mut question) {
+    match text::bundle::read(text, &mut catalogue, &mut tables, &mut question) {
         Reading::Bundle {
             mode,
             pairs,
@@ -68,5 +105,17 @@ fn main() {
         }
         Reading::WrongLine(line) => print_refusal(12, line as u32),
         Reading::SmallBuffer => print_refusal(14, 0),
+    }
+}
+
+// One byte more than a text may have is asked for, so that `read` can tell an over-long one.
+fn main() {
+    let mut text = [0u8; 65537];
+    let input = read_input(&mut text);
+    if input.failed {
+        io::write_all(STDERR_FILENO, b"desk: the input could not be read\n");
+    } else {
+        let bytes = input.bytes;
+        print_outcome(&text[..bytes]);
     }
 }

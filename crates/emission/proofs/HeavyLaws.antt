@@ -15,9 +15,9 @@ use Rattle.relations.specs.PlanWords.{nodeWords}
 use Rattle.relations.proofs.BoolLaws.{and-left, and-right}
 use Rattle.relations.proofs.LegalityLaws.{legal-count}
 use Rattle.relations.proofs.PlanWordsBack.{words-size}
-use Rattle.emission.specs.HeavyCount.{heavyNumber, weightOf, heavyIn}
+use Rattle.emission.specs.HeavyCount.{heavyNumber, weightOfNumber, heavyIn}
 
-pub weight-small : (operation : ℕ) → weightOf operation ≤ 1
+pub weight-small : (operation : ℕ) → weightOfNumber operation ≤ 1
 weight-small operation = go (heavyNumber operation)
   where
     go : (b : Bool) → cond b 1 0 ≤ 1
@@ -30,7 +30,7 @@ heavy-none words left e = rw e
 
 -- one node of the loop: the words before it are counted
 
-pub heavy-step : (words : List ℕ) (at left weight : ℕ) → 0 < left → at < length words → weight ≡ weightOf (getD words at 0) → heavyIn left (drop at words) ≡ weight + heavyIn (left - 1) (drop (at + planNodeWords) words)
+pub heavy-step : (words : List ℕ) (at left weight : ℕ) → 0 < left → at < length words → weight ≡ weightOfNumber (getD words at 0) → heavyIn left (drop at words) ≡ weight + heavyIn (left - 1) (drop (at + planNodeWords) words)
 unfolding heavyIn
 heavy-step words at zero weight some inside e = absurd (omega arith)
 heavy-step words at (suc left) weight some inside e =
@@ -39,7 +39,7 @@ heavy-step words at (suc left) weight some inside e =
     let one : suc left - 1 ≡ left = omega arith in
     rw (head, next, one, e)
 
-weight-node : (node : Node) (rest : List ℕ) → weightOf (getD (nodeWords node ++ rest) 0 0) ≡ cond (heavyNode node) 1 0
+weight-node : (node : Node) (rest : List ℕ) → weightOfNumber (getD (nodeWords node ++ rest) 0 0) ≡ cond (heavyNode node) 1 0
 weight-node (load relation) rest = refl
 weight-node (project left attributes) rest = refl
 weight-node (selectConstant left a operator c) rest = refl

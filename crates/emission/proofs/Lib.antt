@@ -1,6 +1,6 @@
 -- Stores, a node's list
 pub mod Stores
-pub mod ListingLaws
+pub mod NodeListLaws
 -- What is written
 pub mod WrittenLaws
 -- Heavy operations

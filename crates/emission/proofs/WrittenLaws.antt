@@ -25,6 +25,10 @@ written-one {before} {n = n} node words w e l =
       counted = w .1;
     }
 
+-- a call that appends nodes has one outcome
+pub written-unique : {before after other : List ℕ} {n count total : ℕ} {xs : List Node} → Written before n xs after count → Written before n xs other total → (after ≡ other) × (count ≡ total)
+written-unique v w = (v .words ∙ sym (w .words), v .counted ∙ sym (w .counted))
+
 pub written-nothing : (plan : List ℕ) (n : ℕ) → Written plan n [] plan n
 written-nothing plan n = record { words = refl; whole = refl; counted = omega arith }
 

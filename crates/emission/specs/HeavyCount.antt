@@ -10,10 +10,10 @@ use Rattle.relations.specs.Limits.{planNodeWords}
 abbrev pub heavyNumber : ℕ → Bool
 heavyNumber operation = eqb operation 5 || (leb 8 operation && leb operation 11)
 
-abbrev pub weightOf : ℕ → ℕ
-weightOf operation = cond (heavyNumber operation) 1 0
+abbrev pub weightOfNumber : ℕ → ℕ
+weightOfNumber operation = cond (heavyNumber operation) 1 0
 
 -- among so many nodes from the front
 unfoldable pub heavyIn : ℕ → List ℕ → ℕ
 heavyIn zero words = 0
-heavyIn (suc nodes) words = weightOf (getD words 0 0) + heavyIn nodes (drop planNodeWords words)
+heavyIn (suc nodes) words = weightOfNumber (getD words 0 0) + heavyIn nodes (drop planNodeWords words)

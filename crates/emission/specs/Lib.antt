@@ -1,5 +1,6 @@
--- A node's list, and what a call leaves that appends nodes
-pub mod Listings
+-- A node's list, a select, and what a call leaves that appends nodes
+pub mod NodeLists
+pub mod Selects
 pub mod Written
 -- The heavy operations in a plan's words
 pub mod HeavyCount

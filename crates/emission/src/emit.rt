@@ -1,22 +1,19 @@
 // Plan nodes written at the end of a plan: each function writes node `n` and returns the number of nodes that there are then.
 ghost use mathlib.Core.Path.{_≡_};
-ghost use mathlib.Core.List.{List, [], _∷_};
-ghost use Prim.Native.Nat.{_+_, _*_, _<_};
+ghost use mathlib.Core.List.{[], _∷_};
+ghost use Prim.Native.Nat.{_+_, _*_};
 ghost use lib.Seq.{sets};
 ghost use Rattle.relations.specs.Limits.{planNodeWords};
-ghost use Rattle.relations.specs.Lists.{flat};
-ghost use Rattle.relations.specs.Comparison.{Operator, operatorNumber};
-ghost use Rattle.relations.specs.Columns as columns;
 ghost use Rattle.relations.specs.Nodes as nodes;
-ghost use Rattle.relations.specs.PlanWords.{tripleWords, pairWords};
-ghost use Rattle.emission.specs.Listings.{padded, listing, numbersOf};
+ghost use Rattle.emission.specs.NodeLists.{attributesIn, triplesIn, pairsIn, ListsAttributes, ListsTriples, ListsPairs};
+ghost use Rattle.emission.specs.Selects.{NamesOperator, selecting};
 ghost use Rattle.emission.specs.Written.{Room, Written};
 use crate::limits::HEAD_WORDS;
 use crate::limits::LIST_WORDS;
 use crate::limits::PLAN_NODE_WORDS;
-use crate::listing::Listing;
-use question::node::Attribute;
-use question::node::Constant;
+use crate::node_list::NodeList;
+use nodes::node::Attribute;
+use nodes::node::Constant;
 
 fn push(
     plan: &mut [u32],
@@ -50,60 +47,44 @@ pub fn load(plan: &mut [u32], n: u32, relation: u32) -> u32
     push(plan, n, 1, relation, 0, 0, [0u32; 32])
 }
 
-pub fn project(plan: &mut [u32], n: u32, left: u32, attributes: Listing) -> u32
-    requires { ⌜ Room (now plan) n 1 ⌝ }
-    ensures { λ r. ⌜ ((listed : List columns.Attribute) → attributes ≡ listing (numbersOf listed) → Written (now (plan .entry)) n (nodes.project left listed ∷ []) (now (plan .exit)) r) ⌝ }
+pub fn project(plan: &mut [u32], n: u32, left: u32, attributes: NodeList) -> u32
+    requires { ⌜ Room (now plan) n 1 × ListsAttributes attributes ⌝ }
+    ensures { λ r. ⌜ Written (now (plan .entry)) n (nodes.project left (attributesIn attributes) ∷ []) (now (plan .exit)) r ⌝ }
 {
     let words = attributes.words;
     push(plan, n, 2, left, 0, attributes.used, words)
 }
 
-// A select compares an attribute with a constant (operation 3) or with another attribute (operation 4).
-fn select(
+// What a select compares an attribute with (operations 4 and 3).
+pub enum Comparand {
+    Attribute(Attribute),
+    Constant(Constant),
+}
+
+pub fn select(
     plan: &mut [u32],
     n: u32,
-    operation: u32,
     left: u32,
-    attribute: u32,
+    attribute: Attribute,
     operator: u32,
-    with: u32,
+    with: Comparand,
 ) -> u32
-    requires { ⌜ Room (now plan) n 1 ⌝ }
-    ensures { λ r. ⌜ (now (plan .exit) ≡ sets (now (plan .entry)) (n * planNodeWords) (operation ∷ left ∷ 0 ∷ 1 ∷ padded (attribute ∷ operator ∷ with ∷ []))) × (r ≡ n + 1) ⌝ }
+    requires { ⌜ Room (now plan) n 1 × NamesOperator operator ⌝ }
+    ensures { λ r. ⌜ Written (now (plan .entry)) n (selecting left (attribute .0) operator with ∷ []) (now (plan .exit)) r ⌝ }
 {
     let mut list = [0u32; 32];
-    list[0] = attribute;
+    list[0] = attribute.0;
     list[1] = operator;
-    list[2] = with;
-    push(plan, n, operation, left, 0, 1, list)
-}
-
-pub fn select_constant(
-    plan: &mut [u32],
-    n: u32,
-    left: u32,
-    attribute: Attribute,
-    operator: u32,
-    constant: Constant,
-) -> u32
-    requires { ⌜ Room (now plan) n 1 ⌝ }
-    ensures { λ r. ⌜ ((o : Operator) → operator ≡ operatorNumber o → Written (now (plan .entry)) n (nodes.selectConstant left (record { number = attribute .0 }) o (record { value = constant .0 }) ∷ []) (now (plan .exit)) r) ⌝ }
-{
-    select(plan, n, 3, left, attribute.0, operator, constant.0)
-}
-
-pub fn select_attribute(
-    plan: &mut [u32],
-    n: u32,
-    left: u32,
-    attribute: Attribute,
-    operator: u32,
-    other: Attribute,
-) -> u32
-    requires { ⌜ Room (now plan) n 1 ⌝ }
-    ensures { λ r. ⌜ ((o : Operator) → operator ≡ operatorNumber o → Written (now (plan .entry)) n (nodes.selectAttribute left (record { number = attribute .0 }) o (record { number = other .0 }) ∷ []) (now (plan .exit)) r) ⌝ }
-{
-    select(plan, n, 4, left, attribute.0, operator, other.0)
+    match with {
+        Comparand::Attribute(other) => {
+            list[2] = other.0;
+            push(plan, n, 4, left, 0, 1, list)
+        }
+        Comparand::Constant(constant) => {
+            list[2] = constant.0;
+            push(plan, n, 3, left, 0, 1, list)
+        }
+    }
 }
 
 // A join with no triples.
@@ -114,25 +95,25 @@ pub fn product(plan: &mut [u32], n: u32, left: u32, right: u32) -> u32
     push(plan, n, 5, left, right, 0, [0u32; 32])
 }
 
-pub fn semijoin(plan: &mut [u32], n: u32, left: u32, right: u32, triples: Listing) -> u32
-    requires { ⌜ Room (now plan) n 1 ⌝ }
-    ensures { λ r. ⌜ ((listed : List columns.Triple) → triples ≡ listing (flat tripleWords listed) → Written (now (plan .entry)) n (nodes.semijoin left right listed ∷ []) (now (plan .exit)) r) ⌝ }
+pub fn semijoin(plan: &mut [u32], n: u32, left: u32, right: u32, triples: NodeList) -> u32
+    requires { ⌜ Room (now plan) n 1 × ListsTriples triples ⌝ }
+    ensures { λ r. ⌜ Written (now (plan .entry)) n (nodes.semijoin left right (triplesIn triples) ∷ []) (now (plan .exit)) r ⌝ }
 {
     let words = triples.words;
     push(plan, n, 6, left, right, triples.used / 3, words)
 }
 
-pub fn antijoin(plan: &mut [u32], n: u32, left: u32, right: u32, triples: Listing) -> u32
-    requires { ⌜ Room (now plan) n 1 ⌝ }
-    ensures { λ r. ⌜ ((listed : List columns.Triple) → triples ≡ listing (flat tripleWords listed) → Written (now (plan .entry)) n (nodes.antijoin left right listed ∷ []) (now (plan .exit)) r) ⌝ }
+pub fn antijoin(plan: &mut [u32], n: u32, left: u32, right: u32, triples: NodeList) -> u32
+    requires { ⌜ Room (now plan) n 1 × ListsTriples triples ⌝ }
+    ensures { λ r. ⌜ Written (now (plan .entry)) n (nodes.antijoin left right (triplesIn triples) ∷ []) (now (plan .exit)) r ⌝ }
 {
     let words = triples.words;
     push(plan, n, 7, left, right, triples.used / 3, words)
 }
 
-pub fn divide(plan: &mut [u32], n: u32, left: u32, right: u32, pairs: Listing) -> u32
-    requires { ⌜ Room (now plan) n 1 ⌝ }
-    ensures { λ r. ⌜ ((listed : List columns.Pair) → pairs ≡ listing (flat pairWords listed) → Written (now (plan .entry)) n (nodes.divide left right listed ∷ []) (now (plan .exit)) r) ⌝ }
+pub fn divide(plan: &mut [u32], n: u32, left: u32, right: u32, pairs: NodeList) -> u32
+    requires { ⌜ Room (now plan) n 1 × ListsPairs pairs ⌝ }
+    ensures { λ r. ⌜ Written (now (plan .entry)) n (nodes.divide left right (pairsIn pairs) ∷ []) (now (plan .exit)) r ⌝ }
 {
     let words = pairs.words;
     push(plan, n, 8, left, right, pairs.used / 2, words)

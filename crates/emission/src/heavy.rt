@@ -3,12 +3,12 @@ ghost use mathlib.Core.Path.{_≡_};
 ghost use Prim.Native.Nat.{_*_, _≤_};
 ghost use lib.ListN.{length};
 ghost use Rattle.relations.specs.Limits.{planNodeLimit, planNodeWords};
-ghost use Rattle.emission.specs.HeavyCount.{weightOf, heavyIn};
+ghost use Rattle.emission.specs.HeavyCount.{weightOfNumber, heavyIn};
 use crate::limits::PLAN_NODE_WORDS;
 
 // 1 for the number of a heavy operation, else 0.
 fn weight(operation: u32) -> u32
-    ensures { λ r. ⌜ r ≡ weightOf operation ⌝ }
+    ensures { λ r. ⌜ r ≡ weightOfNumber operation ⌝ }
 {
     if (operation == 5) | ((8 <= operation) & (operation <= 11)) {
         1

@@ -2,4 +2,4 @@
 pub mod emit;
 pub mod heavy;
 pub mod limits;
-pub mod listing;
+pub mod node_list;

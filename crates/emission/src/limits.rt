@@ -1,4 +1,4 @@
-// The limits of document 01 that a plan is written by, one home for each (the crate `relations` says the same numbers).
+// The limits of document 01 that a plan is written by; relations/specs/Limits says the same numbers. An array's length is spelled where it stands.
 
 // A plan's node has so many words: op, left, right and count, then its list.
 pub const PLAN_NODE_WORDS: usize = 36;

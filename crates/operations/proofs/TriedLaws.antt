@@ -4,20 +4,21 @@ use mathlib.Core.Bool.{Bool, true, not, cond}
 use mathlib.Core.List.{List, map}
 use Prim.Native.Nat.{ℕ, _+_, _-_, _*_, _≤_}
 use native.Mathlib.Omega.{arith}
-use lib.ListN.{length}
+use lib.ListN.{length, replicate}
 use lib.Seq.{sets}
 use Rattle.relations.specs.Lists.{filter}
 use Rattle.relations.specs.Values.{Rows, Ascending, member, canonical}
-use Rattle.relations.specs.Columns.{Triple, attribute}
+use Rattle.relations.specs.Columns.{attribute}
 use Rattle.relations.specs.Operations.{projectCandidates}
 use Rattle.relations.proofs.ValueLaws.{ascending-canonical}
-use Rattle.values.specs.Words.{part, rowsAt, rowsOf, end}
-use Rattle.values.specs.Building.{Builds, Makes}
+use Rattle.values.specs.Words.{part, rowsAt, rowsOf, end, wordsOf}
+use Rattle.values.specs.Building.{Builds, clearedFrom, Blank, Makes}
 use Rattle.values.specs.declared.rows.Value.{Value}
 use Rattle.values.specs.declared.placing.Placed.{Placed}
 use Rattle.values.specs.declared.placing.Placed.the-variants.{Rows as Made, Full}
-use Rattle.values.proofs.FillLaws.{made-length, made-part, made-rows, made-fits, made-value}
-use Rattle.values.proofs.MakeLaws.{rows-by-parts, makes-as, makes-from, builds-makes, moved-makes}
+use Rattle.values.proofs.RowsLaws.{length-value}
+use Rattle.values.proofs.FillLaws.{made-length, made-rows, made-fits, made-words, made-value}
+use Rattle.values.proofs.MakeLaws.{makes-as, builds-cleared, moved-makes}
 use Rattle.operations.specs.Lists.{triplesIn}
 use Rattle.operations.specs.Keys.{leftKey, equates, rightNumbers, wantedRows, Tried}
 use Rattle.operations.proofs.KeyLaws.{wanted-by-key}
@@ -37,44 +38,34 @@ keys-made {count} {out} {keys} {columns} {numbers} right {before} {after} inside
     let v : rowsAt count keys out after ≡ canonical (projectCandidates (map attribute numbers) right) = made-value inside b in
     (v, rw v (ascending-canonical (projectCandidates (map attribute numbers) right)))
 
-module _ {count out w : ℕ} {cs ds : Rows} {l₀ l₁ : List ℕ} {p : Placed} (inside : out ≤ length l₀) (g : Builds count out 0 cs l₀ l₁ p) where
+module _ {count out : ℕ} {cs : Rows} {l₀ l₁ after : List ℕ} {p : Placed} (blank : Blank out l₀) (g : Builds count out 0 cs l₀ l₁ p) where
   -- no room for the keys
-  pub tried-none : Tried w out ds l₀ l₁ Full
-  tried-none = record { size = made-length g; front = λ start n h. made-part g start n h inside; made = λ rows e. let y : _≡_ {A = ℕ} 0 1 = cc in absurd (omega arith) }
+  pub tried-none : after ≡ clearedFrom out l₁ → after ≡ l₀
+  tried-none clear = clear ∙ builds-cleared out (omega arith) g ∙ sym blank
 
   -- none for the rows behind them
-  pub tried-short : {behind z : ℕ} {es : Rows} {l₂ : List ℕ} {q : Placed} → out ≤ behind → behind ≤ length l₁ → Builds z behind 0 es l₁ l₂ q → Tried w out ds l₀ l₂ Full
-  tried-short low room k = record {
-    size = made-length k ∙ made-length g;
-    front = λ start n h. made-part k start n (omega arith) room ∙ made-part g start n h inside;
-    made = λ rows e. let y : _≡_ {A = ℕ} 0 1 = cc in absurd (omega arith);
-  }
+  pub tried-short : {behind z : ℕ} {es : Rows} {l₂ : List ℕ} {q : Placed} → out ≤ behind → Builds z behind 0 es l₁ l₂ q → after ≡ clearedFrom out l₂ → after ≡ l₀
+  tried-short low k clear = clear ∙ builds-cleared out low k ∙ builds-cleared out (omega arith) g ∙ sym blank
 
 -- room for both
-pub tried-made : (wanted : Bool) (count : ℕ) (list : List ℕ) (left right : Value) (out keys n : ℕ) {cs : Rows} {l₀ l₁ l₂ l₃ : List ℕ} {p q : Placed} → equates count list ≡ true → end left ≤ out → out ≤ length l₀
-    → Builds count out 0 cs l₀ l₁ p → rowsAt count keys out l₁ ≡ canonical (projectCandidates (map attribute (rightNumbers count list)) (rowsOf right l₀)) → out + keys * count ≤ length l₁
+pub tried-made : (wanted : Bool) (count : ℕ) (list : List ℕ) (left right : Value) (out keys n : ℕ) {cs : Rows} {l₀ l₁ l₂ l₃ l₄ : List ℕ} {p q : Placed} → equates count list ≡ true → end left ≤ out → out ≤ length l₀ → Blank out l₀
+    → p ≡ Made keys → Builds count out 0 cs l₀ l₁ p → rowsAt count keys out l₁ ≡ canonical (projectCandidates (map attribute (rightNumbers count list)) (rowsOf right l₀))
     → Builds (left .width) (out + keys * count) 0 (filter (λ t. cond wanted (member (leftKey count list t) (rowsAt count keys out l₁)) (not (member (leftKey count list t) (rowsAt count keys out l₁)))) (rowsOf left l₁)) l₁ l₂ q
-    → q ≡ Made n → l₃ ≡ sets l₂ out (part (out + keys * count) (n * left .width) l₂)
-    → Tried (left .width) out (wantedRows wanted (triplesIn count list) (rowsOf left l₀) (rowsOf right l₀)) l₀ l₃ (Made n)
-tried-made wanted count list left right out keys n {cs} {l₀} {l₁} {l₂} {l₃} {p} {q} e before inside g keyed room k told moved =
+    → q ≡ Made n → l₃ ≡ sets l₂ out (part (out + keys * count) (n * left .width) l₂) → l₄ ≡ sets l₃ (out + n * left .width) (replicate (out + keys * count + n * left .width - (out + n * left .width)) 0)
+    → Makes (left .width) out (wantedRows wanted (triplesIn count list) (rowsOf left l₀) (rowsOf right l₀)) l₀ l₄ (Made n)
+tried-made wanted count list left right out keys n {cs} {l₀} {l₁} {l₂} {l₃} {l₄} {p} {q} e before inside blank made g keyed k told moved clear =
     let keeping : Rows → Rows → Rows = λ ks rows. filter (λ t. cond wanted (member (leftKey count list t) ks) (not (member (leftKey count list t) ks))) rows in
+    let g′ : Builds count out 0 cs l₀ l₁ (Made keys) = rw made at g in
     let k′ : Builds (left .width) (out + keys * count) 0 (keeping (rowsAt count keys out l₁) (rowsOf left l₁)) l₁ l₂ (Made n) = rw told at k in
-    let m : Makes (left .width) out (keeping (rowsAt count keys out l₁) (rowsOf left l₁)) l₀ l₃ (Made n) =
-    moved-makes (omega arith) (made-length g) (λ start number h. made-part g start number h inside) (builds-makes room k′) moved in
+    let room : out + keys * count ≤ length l₁ = made-fits inside g′ in
+    let many : out + keys * count + n * left .width - (out + n * left .width) ≡ keys * count = omega arith in
+    let m : Makes (left .width) out (keeping (rowsAt count keys out l₁) (rowsOf left l₁)) l₀ l₄ (Made n) =
+    moved-makes (wordsOf (rowsAt count keys out l₁)) inside blank (made-words inside g′) (length-value count keys out l₁ room) (omega (arith, room, made-length g′)) k′ moved (rw many at clear) in
     let same : keeping (rowsAt count keys out l₁) (rowsOf left l₁) ≡ wantedRows wanted (triplesIn count list) (rowsOf left l₀) (rowsOf right l₀) =
     ap₂ keeping keyed (made-rows g (left .width) (left .rows) (left .base) before inside) ∙ wanted-by-key wanted count list (rowsOf left l₀) (rowsOf right l₀) e in
-    record { size = m .size; front = m .front; made = λ rows is. makes-as m (λ row. ap (member row) same) }
+    makes-as m (λ row. ap (member row) same)
 
 -- after a try: what it made, or what another way makes
 
 pub tried-told : {w out n : ℕ} {cs : Rows} {before after : List ℕ} {p : Placed} → Tried w out cs before after p → p ≡ Made n → Makes w out cs before after (Made n)
-tried-told {w} {out} {n} t e = rw e at (t .made n e)
-
-module _ {w out : ℕ} {cs : Rows} {l₀ l₁ : List ℕ} {p : Placed} (t : Tried w out cs l₀ l₁ p) where
-  pub tried-rows : (value : Value) → end value ≤ out → rowsOf value l₁ ≡ rowsOf value l₀
-  tried-rows value h = rows-by-parts (value .width) (value .rows) (value .base) out l₀ l₁ (t .front) h
-
-  pub tried-then : (wanted : Bool) (triples : List Triple) (left right : Value) {l₂ : List ℕ} {q : Placed} → out ≤ length l₀ → end left ≤ out → end right ≤ out
-      → Builds w out 0 (wantedRows wanted triples (rowsOf left l₁) (rowsOf right l₁)) l₁ l₂ q → Makes w out (wantedRows wanted triples (rowsOf left l₀) (rowsOf right l₀)) l₀ l₂ q
-  tried-then wanted triples left right inside h k g =
-      makes-from (makes-as (builds-makes (omega (arith, t .size)) g) (λ row. ap (member row) (ap₂ (wantedRows wanted triples) (tried-rows left h) (tried-rows right k)))) (t .size) (t .front)
+tried-told t e = rw e at t

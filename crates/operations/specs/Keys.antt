@@ -2,17 +2,16 @@
 use mathlib.Core.Path.{_≡_}
 use mathlib.Core.Bool.{Bool, true, not, _&&_, cond}
 use mathlib.Core.List.{List, [], _∷_}
-use Prim.Native.Nat.{ℕ, zero, suc, _+_, _≤_}
+use Prim.Native.Nat.{ℕ, zero, suc}
 use lib.Dec.{eqb}
-use lib.ListN.{length, getD, drop}
+use lib.ListN.{getD, drop}
 use Rattle.relations.specs.Rows.{Row}
 use Rattle.relations.specs.Lists.{any, filter}
 use Rattle.relations.specs.Values.{Rows}
 use Rattle.relations.specs.Columns.{Triple, attribute, column, meets}
-use Rattle.values.specs.Words.{part}
 use Rattle.values.specs.Building.{Makes}
 use Rattle.values.specs.declared.placing.Placed.{Placed}
-use Rattle.values.specs.declared.placing.Placed.the-variants.{Rows as Made}
+use Rattle.values.specs.declared.placing.Placed.the-variants.{Rows as Made, Full}
 
 -- so many triples of the list words have the operator = and the right attributes from that number on
 abbrev pub equatesFrom : (number count : ℕ) → List ℕ → Bool
@@ -38,8 +37,7 @@ rightNumbers (suc count) list = getD list 2 0 ∷ rightNumbers count (drop 3 lis
 abbrev pub wantedRows : Bool → List Triple → Rows → Rows → Rows
 wantedRows wanted triples left right = filter (λ t. cond wanted (any (meets triples t) right) (not (any (meets triples t) right))) left
 
--- what a try leaves that may have too little room for its own way
-pub record Tried (width out : ℕ) (candidates : Rows) (before after : List ℕ) (answer : Placed) : Type 0 where
-  pub size : length after ≡ length before
-  pub front : (start count : ℕ) → start + count ≤ out → part start count after ≡ part start count before
-  pub made : (rows : ℕ) → answer ≡ Made rows → Makes width out candidates before after answer
+-- what a try leaves: the value, or, where its own way has too little room, everything as it was
+abbrev pub Tried : (width out : ℕ) (candidates : Rows) (before after : List ℕ) → Placed → Type 0
+Tried width out candidates before after (Made rows) = Makes width out candidates before after (Made rows)
+Tried width out candidates before after Full = after ≡ before

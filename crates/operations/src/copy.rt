@@ -7,8 +7,10 @@ ghost use lib.ListN.{length};
 ghost use Rattle.relations.specs.Values.{Ascending};
 ghost use Rattle.relations.specs.Operations.{loadCandidates, uniteCandidates};
 ghost use Rattle.values.specs.Words.{held, rowIn, rowsAt, rowsOf, end};
-ghost use Rattle.values.specs.Building.{Stands, Builds, Makes};
+ghost use Rattle.values.specs.Building.{Stands, Builds, Blank, Makes};
 use crate::columns::NO_WORDS;
+use values::clearing::clear_from;
+use values::clearing::finish;
 use values::placing::Placed;
 use values::placing::place_row;
 use values::rows::Value;
@@ -76,7 +78,7 @@ fn ends_before(tables: &[u32], stored: Value) -> bool
 
 // The stored rows are offered from the last to the first.
 fn load_backwards(tables: &[u32], work: &mut [u32], stored: Value, out: usize) -> Placed
-    requires { ⌜ (0 < stored .width) × (end stored ≤ length (now tables)) × (out ≤ length (now work)) ⌝ }
+    requires { ⌜ (0 < stored .width) × (end stored ≤ length (now tables)) × (out ≤ length (now work)) × Blank out (now work) ⌝ }
     ensures { λ r. ⌜ Makes (stored .width) out (rowsOf stored (now (tables .entry))) (now (work .entry)) (now (work .exit)) r ⌝ }
 {
     let base = stored.base;
@@ -100,6 +102,7 @@ fn load_backwards(tables: &[u32], work: &mut [u32], stored: Value, out: usize) -
                 made = rows;
             }
             Placed::Full => {
+                clear_from(work, out);
                 return Placed::Full;
             }
         }
@@ -110,13 +113,13 @@ fn load_backwards(tables: &[u32], work: &mut [u32], stored: Value, out: usize) -
 // Operation 1: the stored rows, each once. Rows that come in ascending order cost one comparison each, so rows that stand in descending order are
 // offered from the last one on.
 pub fn load(tables: &[u32], work: &mut [u32], stored: Value, out: usize) -> Placed
-    requires { ⌜ (0 < stored .width) × (end stored ≤ length (now tables)) × (out ≤ length (now work)) ⌝ }
+    requires { ⌜ (0 < stored .width) × (end stored ≤ length (now tables)) × (out ≤ length (now work)) × Blank out (now work) ⌝ }
     ensures { λ r. ⌜ Makes (stored .width) out (loadCandidates (rowsOf stored (now (tables .entry)))) (now (work .entry)) (now (work .exit)) r ⌝ }
 {
     if ends_before(tables, stored) {
         load_backwards(tables, work, stored, out)
     } else {
-        copy_rows(tables, work, false, stored, out, 0)
+        finish(copy_rows(tables, work, false, stored, out, 0), work, out)
     }
 }
 
@@ -165,7 +168,7 @@ fn place_next(work: &mut [u32], start: usize, width: usize, out: usize, made: us
 
 // Operation 9: the rows of both values, the earlier one first, so that each is placed by one comparison.
 pub fn unite(work: &mut [u32], left: Value, right: Value, out: usize) -> Placed
-    requires { ⌜ (0 < left .width) × (right .width ≡ left .width) × (end left ≤ out) × (end right ≤ out) × (out ≤ length (now work)) ⌝ }
+    requires { ⌜ (0 < left .width) × (right .width ≡ left .width) × (end left ≤ out) × (end right ≤ out) × (out ≤ length (now work)) × Blank out (now work) ⌝ }
     ensures { λ r. ⌜ Makes (left .width) out (uniteCandidates (rowsOf left (now (work .entry))) (rowsOf right (now (work .entry)))) (now (work .entry)) (now (work .exit)) r ⌝ }
 {
     let width = left.width;
@@ -181,6 +184,7 @@ pub fn unite(work: &mut [u32], left: Value, right: Value, out: usize) -> Placed
                     made = rows;
                 }
                 Placed::Full => {
+                    clear_from(work, out);
                     return Placed::Full;
                 }
             }
@@ -192,6 +196,7 @@ pub fn unite(work: &mut [u32], left: Value, right: Value, out: usize) -> Placed
                     made = rows;
                 }
                 Placed::Full => {
+                    clear_from(work, out);
                     return Placed::Full;
                 }
             }

@@ -8,7 +8,7 @@ ghost use Rattle.relations.specs.Limits.{columnLimit};
 ghost use Rattle.relations.specs.Values.{Ascending};
 ghost use Rattle.relations.specs.Operations.{semijoinCandidates, antijoinCandidates};
 ghost use Rattle.values.specs.Words.{rowsOf, end};
-ghost use Rattle.values.specs.Building.{Builds, Makes};
+ghost use Rattle.values.specs.Building.{Blank, Makes};
 ghost use Rattle.operations.specs.Lists.{triplesIn};
 ghost use Rattle.operations.specs.Keys.{equates, rightNumbers, wantedRows, Tried};
 use crate::columns::COLUMNS;
@@ -16,6 +16,9 @@ use crate::keep::Test;
 use crate::keep::equates_first;
 use crate::keep::keep;
 use crate::project::project;
+use values::clearing::clear_from;
+use values::clearing::clear_words;
+use values::clearing::finish;
 use values::placing::Placed;
 use values::placing::move_down;
 use values::rows::Value;
@@ -54,7 +57,8 @@ fn right_columns(list: &[u32], count: usize) -> [u32; COLUMNS]
     made
 }
 
-// The wanted left rows by their keys, if the keys and these rows have room together: the rows are made behind the keys and moved down.
+// The wanted left rows by their keys, if the keys and these rows have room together: the rows are made behind the keys and
+// moved down. Where they have none, all is as it was.
 fn keep_by_key(
     list: &[u32],
     count: usize,
@@ -64,7 +68,7 @@ fn keep_by_key(
     wanted: bool,
     out: usize,
 ) -> Placed
-    requires { ⌜ (0 < count) × (count ≤ columnLimit) × (count * 3 ≤ length (now list)) × (equates count (now list) ≡ true) × (0 < left .width) × (end left ≤ out) × (end right ≤ out) × (out ≤ length (now work)) ⌝ }
+    requires { ⌜ (0 < count) × (count ≤ columnLimit) × (count * 3 ≤ length (now list)) × (equates count (now list) ≡ true) × (0 < left .width) × (end left ≤ out) × (end right ≤ out) × (out ≤ length (now work)) × Blank out (now work) ⌝ }
     ensures { λ r. ⌜ Tried (left .width) out (wantedRows wanted (triplesIn count (now (list .entry))) (rowsOf left (now (work .entry))) (rowsOf right (now (work .entry)))) (now (work .entry)) (now (work .exit)) r ⌝ }
 {
     let width = left.width;
@@ -79,13 +83,23 @@ fn keep_by_key(
             };
             match keep(list, work, left, Test::Key(count, value, wanted), behind) {
                 Placed::Rows(rows) => {
-                    move_down(work, behind, rows * width, out);
+                    let words = rows * width;
+                    let end = out + words;
+                    let last = behind + words;
+                    move_down(work, behind, words, out);
+                    clear_words(work, end, last);
                     Placed::Rows(rows)
                 }
-                Placed::Full => Placed::Full,
+                Placed::Full => {
+                    clear_from(work, out);
+                    Placed::Full
+                }
             }
         }
-        Placed::Full => Placed::Full,
+        Placed::Full => {
+            clear_from(work, out);
+            Placed::Full
+        }
     }
 }
 
@@ -116,13 +130,21 @@ fn keep_tested(
     wanted: bool,
     out: usize,
 ) -> Placed
-    requires { ⌜ (0 < left .width) × (end left ≤ out) × (out ≤ length (now work)) × (end right ≤ out) × (count * 3 ≤ length (now list)) × Ascending (rowsOf right (now work)) ⌝ }
-    ensures { λ r. ⌜ Builds (left .width) out 0 (wantedRows wanted (triplesIn count (now (list .entry))) (rowsOf left (now (work .entry))) (rowsOf right (now (work .entry)))) (now (work .entry)) (now (work .exit)) r ⌝ }
+    requires { ⌜ (0 < left .width) × (end left ≤ out) × (out ≤ length (now work)) × (end right ≤ out) × (count * 3 ≤ length (now list)) × Ascending (rowsOf right (now work)) × Blank out (now work) ⌝ }
+    ensures { λ r. ⌜ Makes (left .width) out (wantedRows wanted (triplesIn count (now (list .entry))) (rowsOf left (now (work .entry))) (rowsOf right (now (work .entry)))) (now (work .entry)) (now (work .exit)) r ⌝ }
 {
     if wanted {
-        keep(list, work, left, Test::Meets(count, right), out)
+        finish(
+            keep(list, work, left, Test::Meets(count, right), out),
+            work,
+            out,
+        )
     } else {
-        keep(list, work, left, Test::MeetsNone(count, right), out)
+        finish(
+            keep(list, work, left, Test::MeetsNone(count, right), out),
+            work,
+            out,
+        )
     }
 }
 
@@ -136,7 +158,7 @@ fn keep_wanted(
     wanted: bool,
     out: usize,
 ) -> Placed
-    requires { ⌜ (0 < left .width) × (end left ≤ out) × (out ≤ length (now work)) × (end right ≤ out) × (count * 3 ≤ length (now list)) × Ascending (rowsOf right (now work)) ⌝ }
+    requires { ⌜ (0 < left .width) × (end left ≤ out) × (out ≤ length (now work)) × (end right ≤ out) × (count * 3 ≤ length (now list)) × Ascending (rowsOf right (now work)) × Blank out (now work) ⌝ }
     ensures { λ r. ⌜ Makes (left .width) out (wantedRows wanted (triplesIn count (now (list .entry))) (rowsOf left (now (work .entry))) (rowsOf right (now (work .entry)))) (now (work .entry)) (now (work .exit)) r ⌝ }
 {
     if needs_keys(list, count) {
@@ -158,7 +180,7 @@ pub fn semijoin(
     right: Value,
     out: usize,
 ) -> Placed
-    requires { ⌜ (0 < left .width) × (end left ≤ out) × (out ≤ length (now work)) × (end right ≤ out) × (count * 3 ≤ length (now list)) × Ascending (rowsOf right (now work)) ⌝ }
+    requires { ⌜ (0 < left .width) × (end left ≤ out) × (out ≤ length (now work)) × (end right ≤ out) × (count * 3 ≤ length (now list)) × Ascending (rowsOf right (now work)) × Blank out (now work) ⌝ }
     ensures { λ r. ⌜ Makes (left .width) out (semijoinCandidates (triplesIn count (now (list .entry))) (rowsOf left (now (work .entry))) (rowsOf right (now (work .entry)))) (now (work .entry)) (now (work .exit)) r ⌝ }
 {
     keep_wanted(list, count, work, left, right, true, out)
@@ -173,7 +195,7 @@ pub fn antijoin(
     right: Value,
     out: usize,
 ) -> Placed
-    requires { ⌜ (0 < left .width) × (end left ≤ out) × (out ≤ length (now work)) × (end right ≤ out) × (count * 3 ≤ length (now list)) × Ascending (rowsOf right (now work)) ⌝ }
+    requires { ⌜ (0 < left .width) × (end left ≤ out) × (out ≤ length (now work)) × (end right ≤ out) × (count * 3 ≤ length (now list)) × Ascending (rowsOf right (now work)) × Blank out (now work) ⌝ }
     ensures { λ r. ⌜ Makes (left .width) out (antijoinCandidates (triplesIn count (now (list .entry))) (rowsOf left (now (work .entry))) (rowsOf right (now (work .entry)))) (now (work .entry)) (now (work .exit)) r ⌝ }
 {
     keep_wanted(list, count, work, left, right, false, out)

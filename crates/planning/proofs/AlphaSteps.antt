@@ -17,21 +17,22 @@ use Rattle.calculus.specs.Translation.{translateRange, translateBindings, trans
 use Rattle.calculus.proofs.ScopeLaws.{targets-width}
 use Rattle.calculus.proofs.SizeTheorem.{range-size, bindings-size, maybe-size}
 use Rattle.catalogue.specs.Stored.{relationsOf, columnsOf}
-use Rattle.question.specs.Nodes.{nodeAt}
+use Rattle.nodes.specs.Nodes.{nodeAt}
 use Rattle.question.specs.Trees.{alphaOf}
-use Rattle.question.specs.declared.node.Node.the-variants.{Binding}
-use Rattle.emission.specs.Listings.{listing, Longer, numbersOf}
+use Rattle.nodes.specs.declared.node.Node.the-variants.{Binding}
+use Rattle.emission.specs.NodeLists.{nodeList, grownBy, numbersOf, attributesIn, ListsAttributes}
 use Rattle.conditions.specs.Readings.{Inside, Names, rangeAt, targetsAt, bindingsAt, restrictionAt}
 use Rattle.conditions.specs.Scopes.{emptyScope, scopeOf, ScopeFits, Extended}
 use Rattle.planning.specs.Translating.{RangeReady, RangeDone, BindingsReady, BindingsDone, ConditionReady}
 use Rattle.emission.specs.Written.{Room, Written}
-use Rattle.emission.specs.declared.listing.Listing.{Listing}
+use Rattle.emission.specs.declared.node_list.NodeList.{NodeList}
 use Rattle.conditions.specs.declared.scope.Scope.{Scope}
 use Rattle.planning.specs.declared.translate.Bound.{Bound}
 use Rattle.planning.specs.declared.translate.Made.{Made}
 use Rattle.planning.proofs.BindingSteps.{Chain, chain}
 use Rattle.planning.proofs.RangeSteps.{lower-call, range-wide}
 use Rattle.conditions.proofs.ScopeLaws.{empty-fits}
+use Rattle.emission.proofs.NodeListLaws.{grown-used, grown-list, names-attributes, lists-attributes}
 use Rattle.emission.proofs.WrittenLaws.{room-after, room-less, written-as, going-on}
 
 -- what an alpha was asked with, read by its first binding
@@ -146,7 +147,7 @@ module _ {catalogue words plan : List ℕ} {t n target binding condition variabl
           pub some-kept : 1 ≤ kept
           some-kept = omega (arith, some-joined, k .counted)
 
-          module _ {nothing : Listing} (unused : nothing ≡ listing []) where
+          module _ {nothing : NodeList} (unused : nothing ≡ nodeList []) where
             abbrev listed : List Attribute
             listed = flat (targetColumns (scopeOf (bound .scope))) targets
 
@@ -155,22 +156,24 @@ module _ {catalogue words plan : List ℕ} {t n target binding condition variabl
 
             pub list-targets : Inside words target × ScopeFits (bound .scope) × All (GoodTarget (scopeOf (bound .scope))) targets × (nothing .used + length listed ≤ listWords)
             list-targets =
-                (asked .target-inside, d .fits, subst (λ (s : scopes.Scope). All (GoodTarget s) targets) (sym stands) (good .3), omega (arith, ap (λ (list : Listing). list .used) unused, listed-size, good .6))
+                (asked .target-inside, d .fits, subst (λ (s : scopes.Scope). All (GoodTarget s) targets) (sym stands) (good .3), omega (arith, ap (λ (list : NodeList). list .used) unused, listed-size, good .6))
 
-            module _ {list : Listing} (longer : Longer nothing (numbersOf listed) list) where
+            module _ {list : NodeList} (grows : list ≡ grownBy nothing (numbersOf listed)) where
               list-size : list .used ≡ targetsWidth inner targets
-              list-size = omega (arith, longer .grown, ap (λ (l : Listing). l .used) unused, length-map listed (λ (a : Attribute). a .number), listed-size)
+              list-size = omega (arith, grown-used _ _ grows, ap (λ (l : NodeList). l .used) unused, length-map listed (λ (a : Attribute). a .number), listed-size)
 
-              pub room-project : (list .used ≤ listWords) × Room last kept 1
+              listed-is : list ≡ nodeList (numbersOf listed)
+              listed-is = grown-list (numbersOf listed) unused grows (omega (arith, length-map listed (λ (a : Attribute). a .number), listed-size, good .6))
+
+              pub room-project : ListsAttributes list × Room last kept 1
               room-project =
-                  (omega (arith, list-size, good .6), room-after 1 room-joined k (omega (arith, maybe-size columns short restriction (scopeOf (bound .scope)) (bound .count - 1) (bound .count))))
+                  (lists-attributes listed listed-is, room-after 1 room-joined k (omega (arith, maybe-size columns short restriction (scopeOf (bound .scope)) (bound .count - 1) (bound .count))))
 
-              pub alpha-done : {after : List ℕ} {count : ℕ} → ((attributes : List Attribute) → list ≡ listing (numbersOf attributes) → Written last kept (projectNodes short (bound .scope .columns) (kept - 1) attributes) after count) → RangeDone catalogue short plan (alphaOf targets (bindingsAt words binding) restriction) n after (record { count = count; width = list .used })
+              pub alpha-done : {after : List ℕ} {count : ℕ} → Written last kept (projectNodes short (bound .scope .columns) (kept - 1) (attributesIn list)) after count → RangeDone catalogue short plan (alphaOf targets (bindingsAt words binding) restriction) n after (record { count = count; width = list .used })
               unfolding translateRange widthOfRange
-              alpha-done {after} {count} project =
-                  let w = project listed (longer .holds [] unused) in
-                  let e : projectNodes short (columnsIn inner) (kept - 1) (flat (targetColumns inner) targets) ≡ projectNodes short (bound .scope .columns) (kept - 1) listed =
-                  ap (λ (s : scopes.Scope). projectNodes short (columnsIn s) (kept - 1) (flat (targetColumns s) targets)) (sym stands) ∙ ap (λ (width : ℕ). projectNodes short width (kept - 1) listed) (sym (d .fits .counted)) in
+              alpha-done {after} {count} w =
+                  let e : projectNodes short (columnsIn inner) (kept - 1) (flat (targetColumns inner) targets) ≡ projectNodes short (bound .scope .columns) (kept - 1) (attributesIn list) =
+                  ap (λ (s : scopes.Scope). projectNodes short (columnsIn s) (kept - 1) (flat (targetColumns s) targets)) (sym stands) ∙ ap (λ (width : ℕ). projectNodes short width (kept - 1) listed) (sym (d .fits .counted)) ∙ ap (projectNodes short (bound .scope .columns) (kept - 1)) (sym (names-attributes listed listed-is)) in
                   let joined = going-on (λ p m. translateBindings columns short rest p m) (r .written) (d .written) in
                   let met = going-on (λ p m. translateMaybe columns short restriction inner p m) joined (written-as (ap (λ (s : scopes.Scope). translateMaybe columns short restriction s (bound .count - 1) (bound .count)) (sym stands)) k) in
                   subst (λ bindings. RangeDone catalogue short plan (alphaOf targets bindings restriction) n after (record { count = count; width = list .used })) (sym (asked .link .reads)) (record {

@@ -13,13 +13,13 @@ use Rattle.calculus.specs.Form.{widthOfRange, scopeOfBindings, GoodRange, GoodB
 use Rattle.calculus.specs.Translation.{translateBindings}
 use Rattle.calculus.proofs.SizeTheorem.{range-size}
 use Rattle.catalogue.specs.Stored.{relationsOf, columnsOf}
-use Rattle.question.specs.Limits.{variableCount}
-use Rattle.question.specs.Nodes.{isBinding, isRange, kindNamed, nodeAt}
-use Rattle.question.specs.declared.node.Node.the-variants.{Binding}
-use Rattle.question.proofs.Forms.{lower, second-of, references-lower}
+use Rattle.nodes.specs.Limits.{variableCount}
+use Rattle.nodes.specs.Nodes.{isBinding, isRange, kindNamed, nodeAt}
+use Rattle.nodes.specs.declared.node.Node.the-variants.{Binding}
+use Rattle.nodes.proofs.Forms.{lower, second-of, references-lower}
 use Rattle.conditions.specs.Readings.{Inside, Names, rangeAt, bindingsAt}
-use Rattle.conditions.specs.Scopes.{scopeOf, ScopeFits, Extended}
-use Rattle.planning.specs.Translating.{RangeReady, RangeDone, BindingsReady, BindingsDone}
+use Rattle.conditions.specs.Scopes.{withVariable, scopeOf, ScopeFits, Extended}
+use Rattle.planning.specs.Translating.{withBindings, RangeReady, RangeDone, BindingsReady, BindingsDone}
 use Rattle.emission.specs.Written.{Room, Written}
 use Rattle.conditions.specs.declared.scope.Scope.{Scope}
 use Rattle.planning.specs.declared.translate.Bound.{Bound}
@@ -105,13 +105,13 @@ module _ {words : List ℕ} {reference variable range next : ℕ} (link : Chain 
       )
 
       pub bindings-done : {after : List ℕ} {bound : Bound} → BindingsDone catalogue short later rest longer (made .count) count after bound → BindingsDone catalogue short plan (bindingsAt words reference) scope p n after bound
-      unfolding translateBindings scopeOfBindings
+      unfolding translateBindings scopeOfBindings withBindings
       bindings-done {after} {bound} d =
           let written : Written plan n (translateBindings (columnsOf catalogue) short (bind variable first rest) p n) after (bound .count) =
           written-then (going-on (λ k m. join p k [] ∷ []) (r .written) w) (written-as (ap₂ (λ q m. translateBindings (columnsOf catalogue) short rest q m) (sym (r .written .counted)) (omega (arith, r .written .counted, w .counted))) (d .written)) in
-          subst (λ bindings. BindingsDone catalogue short plan bindings scope p n after bound) (sym (link .reads)) (record { written = written; fits = d .fits; stands = d .stands ∙ ap (scopeOfBindings (columnsOf catalogue) rest) stands })
+          subst (λ bindings. BindingsDone catalogue short plan bindings scope p n after bound) (sym (link .reads)) (record { written = written; is = d .is ∙ ap (withBindings catalogue rest) (grown .is ∙ ap (withVariable scope variable) (r .width)); fits = d .fits; stands = d .stands ∙ ap (scopeOfBindings (columnsOf catalogue) rest) stands })
 
 pub no-more-done : {catalogue : List ℕ} {short : Bool} {plan : List ℕ} {bindings : Bindings} {scope : Scope} {p n : ℕ} → bindings ≡ noMore → ScopeFits scope → BindingsDone catalogue short plan bindings scope p n plan (record { count = n; scope = scope })
-unfolding translateBindings scopeOfBindings
+unfolding translateBindings scopeOfBindings withBindings
 no-more-done {catalogue} {short} {plan} {bindings} {scope} {p} {n} e fits =
-    subst (λ bindings. BindingsDone catalogue short plan bindings scope p n plan (record { count = n; scope = scope })) (sym e) (record { written = written-nothing plan n; fits = fits; stands = refl })
+    subst (λ bindings. BindingsDone catalogue short plan bindings scope p n plan (record { count = n; scope = scope })) (sym e) (record { written = written-nothing plan n; is = refl; fits = fits; stands = refl })

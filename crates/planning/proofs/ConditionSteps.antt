@@ -13,11 +13,11 @@ use Rattle.calculus.specs.Form.{GoodCondition}
 use Rattle.calculus.specs.ShortRules.{selectNode, shortRule3Fits, shortRule6Fits, shortRule6Nodes}
 use Rattle.calculus.specs.Translation.{itself, itsOpposite, translateMaybe, translateCondition}
 use Rattle.calculus.proofs.SizeTheorem.{condition-size}
-use Rattle.question.specs.Nodes.{nodeAt}
+use Rattle.nodes.specs.Nodes.{nodeAt}
 use Rattle.catalogue.specs.Stored.{relationsOf, columnsOf}
 use Rattle.question.specs.Trees.{atomOf}
-use Rattle.question.specs.declared.node.Node.the-variants.{Atom as AtomNode, And, Or, Not, Some, Every}
-use Rattle.question.specs.declared.node.Atom as question-atom
+use Rattle.nodes.specs.declared.node.Node.the-variants.{Atom as AtomNode, And, Or, Not, Some, Every}
+use Rattle.nodes.specs.declared.node.Atom as question-atom
 use Rattle.conditions.specs.Readings.{Names, rangeAt, restrictionAt, conditionAt}
 use Rattle.conditions.specs.Scopes.{scopeOf}
 use Rattle.conditions.specs.Atoms.{AtomNarrow}

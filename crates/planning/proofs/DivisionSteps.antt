@@ -21,8 +21,8 @@ use Rattle.calculus.specs.Translation.{divisionBy, translateRange, translateCon
 use Rattle.calculus.proofs.ScopeLaws.{columns-extend}
 use Rattle.calculus.proofs.SizeTheorem.{filter-size}
 use Rattle.catalogue.specs.Stored.{relationsOf, columnsOf}
-use Rattle.question.specs.Nodes.{nodeAt}
-use Rattle.question.specs.declared.node.Node.the-variants.{Some}
+use Rattle.nodes.specs.Nodes.{nodeAt}
+use Rattle.nodes.specs.declared.node.Node.the-variants.{Some}
 use Rattle.conditions.specs.Leaves.{atomsOf, LeavesOf}
 use Rattle.conditions.specs.Readings.{Names, rangeAt, conditionAt}
 use Rattle.short_rules.specs.Rules.{selectsBehind, dividendBehind, divisionBehind, DividendFits}

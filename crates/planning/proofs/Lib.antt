@@ -7,3 +7,5 @@ pub mod AlphaSteps
 pub mod ConditionSteps
 pub mod QuantifierSteps
 pub mod DivisionSteps
+-- One outcome
+pub mod Outcomes

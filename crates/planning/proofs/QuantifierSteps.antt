@@ -18,20 +18,23 @@ use Rattle.calculus.specs.Translation.{itself, itsOpposite, divisionBy, transla
 use Rattle.calculus.proofs.LegalColumns.{few, few-opposite}
 use Rattle.calculus.proofs.SizeTheorem.{filter-size, leaves-size, range-size, condition-size}
 use Rattle.catalogue.specs.Stored.{relationsOf, columnsOf}
-use Rattle.question.specs.Accepted.{HasColumns}
+use Rattle.judgements.specs.Accepted.{HasColumns}
 use Rattle.conditions.specs.Leaves.{atomsOf, LeavesFit, LeavesOf, opposites}
-use Rattle.emission.specs.Listings.{listing, Longer, numbersOf}
+use Rattle.emission.specs.NodeLists.{nodeList, grownBy, numbersOf, attributesIn, ListsAttributes}
 use Rattle.conditions.specs.Readings.{conditionAt, restrictionAt}
 use Rattle.short_rules.specs.Rules.{selectsBehind, semijoinBehind, antijoinBehind, RuleFits}
 use Rattle.conditions.specs.Scopes.{scopeOf, ScopeFits, Extended}
 use Rattle.planning.specs.Translating.{RangeReady, RangeDone, ConditionReady, InsideReady, DivisionReady}
 use Rattle.emission.specs.Written.{Room, Written}
-use Rattle.emission.specs.declared.listing.Listing.{Listing}
+use Rattle.emission.specs.declared.node_list.NodeList.{NodeList}
 use Rattle.conditions.specs.declared.leaves.Leaves.{Leaves}
 use Rattle.conditions.specs.declared.scope.Scope.{Scope}
 use Rattle.planning.specs.declared.translate.Made.{Made}
 use Rattle.conditions.proofs.LeafLaws.{opposite-atoms}
 use Rattle.conditions.proofs.OtherNodes.{restriction-good}
+use Rattle.emission.proofs.NodeListLaws.{grown-list, names-attributes, lists-attributes}
+use Rattle.relations.specs.Columns.{Attribute}
+use Rattle.calculus.proofs.ScopeLaws.{columns-length}
 use Rattle.emission.proofs.WrittenLaws.{written-then, room-after, room-less, pred-is, written-as}
 use Rattle.planning.proofs.RangeSteps.{range-wide}
 use Rattle.planning.proofs.ConditionSteps.{chosen, passed-over}
@@ -40,12 +43,21 @@ pub inside-restricts : (words : List ℕ) (reference : ℕ) {catalogue plan : Li
 inside-restricts words reference {catalogue} {x = x} {width = width} {scope = scope} r = restriction-good (columnsOf catalogue) (relationsOf catalogue) (calculus.extend (scopeOf scope) x width) words reference (r .good)
 
 -- P's columns, which are those of the scope, listed for a project
-module _ {scope : Scope} (fits : ScopeFits scope) {list : Listing} (empty : list ≡ listing []) where
+module _ {scope : Scope} (fits : ScopeFits scope) {list : NodeList} (empty : list ≡ nodeList []) where
   pub columns-room : (list .used + scope .columns ≤ listWords) × (1 ≤ columnLimit + columnLimit)
-  columns-room = (omega (arith, ap (λ (l : Listing). l .used) empty, fits .narrow), omega arith)
+  columns-room = (omega (arith, ap (λ (l : NodeList). l .used) empty, fits .narrow), omega arith)
 
-  pub columns-listed : {columns : Listing} → Longer list (numbersOf (columnsFrom (scope .columns) 1)) columns → columns ≡ listing (numbersOf (allColumns (columnsIn (scopeOf scope))))
-  columns-listed longer = longer .holds [] empty ∙ ap (λ (k : ℕ). listing (numbersOf (columnsFrom k 1))) (fits .counted)
+  module _ {columns : NodeList} (grows : columns ≡ grownBy list (numbersOf (columnsFrom (scope .columns) 1))) where
+    columns-listed : columns ≡ nodeList (numbersOf (allColumns (columnsIn (scopeOf scope))))
+    columns-listed =
+        grown-list _ empty grows (omega (arith, length-map (columnsFrom (scope .columns) 1) (λ (a : Attribute). a .number), columns-length (scope .columns) 1, fits .narrow))
+        ∙ ap (λ (k : ℕ). nodeList (numbersOf (columnsFrom k 1))) (fits .counted)
+
+    pub columns-lists : ListsAttributes columns
+    columns-lists = lists-attributes (allColumns (columnsIn (scopeOf scope))) columns-listed
+
+    pub columns-project : {before after : List ℕ} {n p count : ℕ} → Written before n (project p (attributesIn columns) ∷ []) after count → Written before n (project p (allColumns (columnsIn (scopeOf scope))) ∷ []) after count
+    columns-project {p = p} w = written-as (ap (λ (l : List Attribute). project p l ∷ []) (sym (names-attributes (allColumns (columnsIn (scopeOf scope))) columns-listed))) w
 
 module _ (catalogue : List ℕ) where
   -- "some x" and "every x" ask for the same of a range and a condition on x; `s` is the scope that they stand in, which has P's columns and, for S5, y's

@@ -15,12 +15,12 @@ use Rattle.calculus.proofs.LegalColumns.{targets-columns}
 use Rattle.calculus.proofs.RuleNodes.{plainSides}
 use Rattle.calculus.proofs.ScopeLaws.{targets-width}
 use Rattle.calculus.proofs.SizeTheorem.{range-size}
-use Rattle.question.specs.Accepted.{HasColumns}
+use Rattle.judgements.specs.Accepted.{HasColumns}
 use Rattle.catalogue.specs.Stored.{relationsOf, columnsOf}
-use Rattle.question.specs.Nodes.{isTarget, isBinding, isRange, isCondition, kindNamed, nodeAt}
+use Rattle.nodes.specs.Nodes.{isTarget, isBinding, isRange, isCondition, kindNamed, nodeAt}
 use Rattle.question.specs.Trees.{alphaOf}
-use Rattle.question.specs.declared.node.Node.the-variants.{Alpha, RangeOr, RangeAnd, RangeAndNot}
-use Rattle.question.proofs.Forms.{lower, second-of, references-lower}
+use Rattle.nodes.specs.declared.node.Node.the-variants.{Alpha, RangeOr, RangeAnd, RangeAndNot}
+use Rattle.nodes.proofs.Forms.{lower, second-of, references-lower}
 use Rattle.conditions.specs.Readings.{Inside, Names, rangeAt, targetsAt, bindingsAt, restrictionAt}
 use Rattle.planning.specs.Translating.{RangeReady, RangeDone}
 use Rattle.emission.specs.Written.{Room, Written}

@@ -1,5 +1,5 @@
 -- The columns of targets. Assumes nothing.
-use Rattle.emission.proofs.ListingLaws.{numbers-append}
+use Rattle.emission.proofs.NodeListLaws.{numbers-append}
 use Prim.Native.Nat.{ℕ, zero, suc}
 use mathlib.Core.Path.{_≡_, refl, ap}
 use mathlib.Core.List.{List, [], _∷_, _++_}
@@ -8,7 +8,7 @@ use Rattle.relations.specs.Columns.{attribute}
 use Rattle.calculus.specs.Question.{Target, wholeRow, oneAttribute}
 use Rattle.calculus.specs.Scope.{Scope, targetColumns}
 use Rattle.question.specs.Trees.{targetOf}
-use Rattle.emission.specs.Listings.{numbersOf}
+use Rattle.emission.specs.NodeLists.{numbersOf}
 
 pub whole-target : (variable : ℕ) {number : ℕ} → number ≡ 0 → targetOf variable number ≡ wholeRow variable
 whole-target variable e = ap (targetOf variable) e

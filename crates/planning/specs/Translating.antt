@@ -4,13 +4,13 @@ use mathlib.Core.Path.{_≡_}
 use mathlib.Core.Bool.{Bool}
 use mathlib.Core.List.{List}
 use Rattle.relations.specs.Limits.{columnLimit}
-use Rattle.calculus.specs.Question.{Range, Bindings, MaybeCondition, Condition, rangeNodes, bindingNodes, maybeNodes, conditionNodes}
+use Rattle.calculus.specs.Question.{Range, Bindings, noMore, bind, MaybeCondition, Condition, rangeNodes, bindingNodes, maybeNodes, conditionNodes}
 use Rattle.calculus.specs.Scope.{extend}
 use Rattle.calculus.specs.Form.{widthOfRange, scopeOfBindings, GoodRange, GoodBindings, GoodMaybe, GoodCondition}
 use Rattle.calculus.specs.Translation.{translateRange, translateBindings}
 use Rattle.catalogue.specs.Stored.{relationsOf, columnsOf}
-use Rattle.question.specs.Accepted.{HasColumns}
-use Rattle.conditions.specs.Scopes.{scopeOf, ScopeFits}
+use Rattle.judgements.specs.Accepted.{HasColumns}
+use Rattle.conditions.specs.Scopes.{scopeOf, ScopeFits, withVariable}
 use Rattle.emission.specs.Written.{Room, Written}
 use Rattle.conditions.specs.declared.scope.Scope.{Scope}
 use Rattle.planning.specs.declared.translate.Made.{Made}
@@ -35,8 +35,14 @@ module _ (catalogue : List ℕ) where
     pub some-nodes : 1 ≤ n
     pub room : Room plan n (4 * bindingNodes bindings)
 
+  -- the scope that bindings make of the one before them, as the code carries it
+  unfoldable pub withBindings : Bindings → Scope → Scope
+  withBindings noMore scope = scope
+  withBindings (bind variable range bindings) scope = withBindings bindings (withVariable scope variable (widthOfRange (columnsOf catalogue) range))
+
   pub record BindingsDone (short : Bool) (before : List ℕ) (bindings : Bindings) (scope : Scope) (p n : ℕ) (after : List ℕ) (bound : Bound) : Type 0 where
     pub written : Written before n (translateBindings (columnsOf catalogue) short bindings p n) after (bound .count)
+    pub is : bound .scope ≡ withBindings bindings scope
     pub fits : ScopeFits (bound .scope)
     pub stands : scopeOf (bound .scope) ≡ scopeOfBindings (columnsOf catalogue) bindings (scopeOf scope)
 

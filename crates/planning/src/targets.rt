@@ -1,4 +1,5 @@
 // The columns that an alpha keeps: those of its targets, listed for a project.
+ghost use mathlib.Core.Path.{_≡_};
 ghost use Prim.Native.Nat.{_+_, _≤_};
 ghost use lib.ListN.{length};
 ghost use Rattle.relations.specs.Limits.{listWords};
@@ -8,20 +9,20 @@ ghost use Rattle.calculus.specs.Form.{GoodTarget};
 ghost use Rattle.question.specs.Trees.{targetOf};
 ghost use Rattle.conditions.specs.Readings.{Inside, targetsAt};
 ghost use Rattle.conditions.specs.Scopes.{scopeOf, ScopeFits};
-ghost use Rattle.emission.specs.Listings.{Longer, numbersOf};
+ghost use Rattle.emission.specs.NodeLists.{grownBy, numbersOf};
 use conditions::scope::Scope;
 use conditions::scope::column_number;
 use conditions::scope::width_in;
-use emission::listing::Listing;
-use emission::listing::with_columns;
-use emission::listing::with_word;
-use question::node::Node;
-use question::node::decode;
+use emission::node_list::NodeList;
+use emission::node_list::with_columns;
+use emission::node_list::with_word;
+use nodes::node::Node;
+use nodes::node::decode;
 
 // A target's columns behind those of the list; attribute 0 is the whole row.
-fn with_target(scope: Scope, variable: u32, attribute: u32, list: Listing) -> Listing
+fn with_target(scope: Scope, variable: u32, attribute: u32, list: NodeList) -> NodeList
     requires { ⌜ ScopeFits scope × GoodTarget (scopeOf scope) (targetOf variable attribute) × (list .used + length (targetColumns (scopeOf scope) (targetOf variable attribute)) ≤ listWords) ⌝ }
-    ensures { λ r. ⌜ Longer list (numbersOf (targetColumns (scopeOf scope) (targetOf variable attribute))) r ⌝ }
+    ensures { λ r. ⌜ r ≡ grownBy list (numbersOf (targetColumns (scopeOf scope) (targetOf variable attribute))) ⌝ }
 {
     if attribute == 0 {
         return with_columns(
@@ -33,9 +34,9 @@ fn with_target(scope: Scope, variable: u32, attribute: u32, list: Listing) -> Li
     with_word(list, column_number(scope, variable, attribute))
 }
 
-pub fn with_targets(words: &[u32], reference: u32, scope: Scope, list: Listing) -> Listing
+pub fn with_targets(words: &[u32], reference: u32, scope: Scope, list: NodeList) -> NodeList
     requires { ⌜ Inside (now words) reference × ScopeFits scope × All (GoodTarget (scopeOf scope)) (targetsAt (now words) reference) × (list .used + length (flat (targetColumns (scopeOf scope)) (targetsAt (now words) reference)) ≤ listWords) ⌝ }
-    ensures { λ r. ⌜ Longer list (numbersOf (flat (targetColumns (scopeOf scope)) (targetsAt (now (words .entry)) reference))) r ⌝ }
+    ensures { λ r. ⌜ r ≡ grownBy list (numbersOf (flat (targetColumns (scopeOf scope)) (targetsAt (now (words .entry)) reference))) ⌝ }
 {
     if reference == 0 {
         return list;

@@ -1,4 +1,5 @@
-// Translation: a range, the parts of an alpha and a condition call each other, and the node number falls at each call.
+// Translation: a range, the parts of an alpha and a condition call each other. Each function has a number of its own that falls at each call:
+// three times the greatest reference that it is handed, and one or two more where it hands that reference on.
 ghost use mathlib.Core.Path.{_≡_};
 ghost use mathlib.Core.Bool.{true, _||_};
 ghost use mathlib.Core.List.{[], _∷_};
@@ -26,10 +27,10 @@ use emission::emit::product;
 use emission::emit::project;
 use emission::emit::subtract;
 use emission::emit::unite;
-use emission::listing::no_list;
-use emission::listing::with_columns;
-use question::node::Node;
-use question::node::decode;
+use emission::node_list::no_list;
+use emission::node_list::with_columns;
+use nodes::node::Node;
+use nodes::node::decode;
 use short_rules::fits::division_fits;
 use short_rules::fits::opposite_fits;
 use short_rules::fits::short_rule_2_fits;

@@ -19,11 +19,13 @@ use Rattle.relations.specs.PlanWords.{readNode}
 use Rattle.relations.proofs.BoolLaws.{and-right}
 use Rattle.catalogue.specs.Stored.{relationsOf, columnsOf}
 use Rattle.plans.specs.Decoding.{planNode, decoded}
-use Rattle.plans.specs.Judging.{legalRead, judgedNode, onward, judgeNodes, judgement, widthOf, joinFits}
+use Rattle.plans.specs.Judging.{legalRead, judgedNode, onward, judgePlanNodes, planJudgement, PlanNumbers, planNumbers, judgedPlan}
+use Rattle.plans.specs.Steps.{widthOf, joinFits}
 use Rattle.plans.specs.declared.nodes.PlanNode.{PlanNode}
 use Rattle.plans.specs.declared.nodes.Decoded.the-variants.{Node, Illegal as NoNode}
 use Rattle.plans.specs.declared.judging.Width.the-variants.{Of, Illegal as NoWidth}
-use Rattle.plans.specs.declared.judging.Judgement.the-variants.{Legal, Illegal}
+use Rattle.plans.specs.declared.judging.PlanJudgement.{PlanJudgement}
+use Rattle.plans.specs.declared.judging.PlanJudgement.the-variants.{Legal, Illegal}
 use Rattle.plans.proofs.DecodeLaws.{Stands}
 
 -- One node.
@@ -82,27 +84,38 @@ module _ (catalogue made words : List ℕ) where
 -- A plan.
 
 judge-step : (catalogue : List ℕ) (left : ℕ) (made words : List ℕ) → 0 < left
-    → judgeNodes catalogue left made words ≡ onward (judgedNode catalogue made (readNode (take planNodeWords words))) (length made) (λ width. judgeNodes catalogue (left - 1) (made ++ (width ∷ [])) (drop planNodeWords words))
-unfolding judgeNodes
+    → judgePlanNodes catalogue left made words ≡ onward (judgedNode catalogue made (readNode (take planNodeWords words))) (length made) (λ width. judgePlanNodes catalogue (left - 1) (made ++ (width ∷ [])) (drop planNodeWords words))
+unfolding judgePlanNodes
 judge-step catalogue zero made words h = absurd (omega arith)
 judge-step catalogue (suc left) made words h = let less : suc left - 1 ≡ left = omega arith in rw less
 
 -- the widths before `place` are the front of a table
 module _ (catalogue widths : List ℕ) (place : ℕ) (plan : List ℕ) (at left : ℕ) where
   pub judge-onward : (width : ℕ) → 0 < left → place < length widths → judgedNode catalogue (take place widths) (readNode (take planNodeWords (drop at plan))) ≡ Of width
-      → judgeNodes catalogue left (take place widths) (drop at plan) ≡ judgeNodes catalogue (left - 1) (take (place + 1) (set widths place width)) (drop (at + planNodeWords) plan)
+      → judgePlanNodes catalogue left (take place widths) (drop at plan) ≡ judgePlanNodes catalogue (left - 1) (take (place + 1) (set widths place width)) (drop (at + planNodeWords) plan)
   judge-onward width more room judged =
       judge-step catalogue left (take place widths) (drop at plan) more
       ∙ rw (judged, add-one place, take-suc-set widths place width room, drop-drop planNodeWords at plan)
 
   pub judge-stopped : 0 < left → place ≤ length widths → judgedNode catalogue (take place widths) (readNode (take planNodeWords (drop at plan))) ≡ NoWidth
-      → judgeNodes catalogue left (take place widths) (drop at plan) ≡ Illegal place
+      → judgePlanNodes catalogue left (take place widths) (drop at plan) ≡ Illegal place
   judge-stopped more room judged = judge-step catalogue left (take place widths) (drop at plan) more ∙ rw (judged, length-take-le place widths room)
 
-  pub judge-ended : left ≤ 0 → place ≤ length widths → judgeNodes catalogue left (take place widths) (drop at plan) ≡ Legal place
-  unfolding judgeNodes
+  pub judge-ended : left ≤ 0 → place ≤ length widths → judgePlanNodes catalogue left (take place widths) (drop at plan) ≡ Legal place
+  unfolding judgePlanNodes
   judge-ended done room = let empty : left ≡ 0 = omega arith in rw (empty, length-take-le place widths room)
 
 pub judge-sized : (catalogue plan : List ℕ) → length plan % planNodeWords ≡ 0 → 1 ≤ length plan / planNodeWords → length plan / planNodeWords ≤ planNodeLimit
-    → judgement catalogue plan ≡ judgeNodes catalogue (length plan / planNodeWords) [] plan
+    → planJudgement catalogue plan ≡ judgePlanNodes catalogue (length plan / planNodeWords) [] plan
 judge-sized catalogue plan whole least few = rw (eq-eqb (length plan % planNodeWords) 0 whole, le-leb 1 (length plan / planNodeWords) least, le-leb (length plan / planNodeWords) planNodeLimit few)
+
+-- The numbers of an answer name it: `judge_plan` promises one answer.
+pub one-plan-judgement : (one other : PlanJudgement) → planNumbers one ≡ planNumbers other → one ≡ other
+one-plan-judgement (Legal nodes) (Legal others) e = ap Legal (ap (λ (n : PlanNumbers). n .nodes) e)
+one-plan-judgement (Legal nodes) (Illegal place) e = let never : _≡_ {A = ℕ} 0 9 = ap (λ (n : PlanNumbers). n .status) e in absurd (omega arith)
+one-plan-judgement (Illegal place) (Legal nodes) e = let never : _≡_ {A = ℕ} 9 0 = ap (λ (n : PlanNumbers). n .status) e in absurd (omega arith)
+one-plan-judgement (Illegal place) (Illegal other) e = ap Illegal (ap (λ (n : PlanNumbers). n .place) e)
+
+-- for a caller that met one of the cases
+pub plan-judged : (catalogue plan : List ℕ) {answer found : PlanJudgement} → planNumbers answer ≡ judgedPlan catalogue plan → answer ≡ found → planJudgement catalogue plan ≡ found
+plan-judged catalogue plan {answer} judged is = sym (one-plan-judgement answer (planJudgement catalogue plan) judged) ∙ is

@@ -19,7 +19,8 @@ use Rattle.relations.specs.Plan.{widthAt}
 use Rattle.relations.specs.Legality.{between, lower, legalTriples, legalSides}
 use Rattle.relations.specs.PlanWords.{shapeOf, readTriples, readParts, readNode}
 use Rattle.plans.specs.Decoding.{spaced, operationIn, fits}
-use Rattle.plans.specs.Judging.{legalRead, triplesLegal, pairsLegal}
+use Rattle.plans.specs.Judging.{legalRead}
+use Rattle.plans.specs.Steps.{triplesLegal, pairsLegal}
 use Rattle.plans.specs.declared.nodes.Operation.{Operation}
 use Rattle.plans.specs.declared.nodes.Operation.the-variants.{Load, Project, SelectConstant, SelectAttribute, Join, Semijoin, Antijoin, Divide, Unite, Intersect, Subtract}
 use Rattle.plans.specs.declared.nodes.PlanNode.{PlanNode}

@@ -5,15 +5,16 @@ use mathlib.Core.Bool.{Bool, true, false, cond, _&&_, So}
 use mathlib.Core.List.{List, [], _∷_, _++_}
 use mathlib.Core.Option.{Option, some, none}
 use native.Mathlib.Omega.{arith}
-use native.Mathlib.Nat.{suc-mul, div-add-mod', zero-add, add-zero}
+use native.Mathlib.Nat.{add-comm, suc-mul, div-add-mod', zero-add, add-zero}
 use lib.Dec.{eqb}
 use lib.ListN.{length, take, drop, length-append, length-drop, take-append-drop}
-use lib.Seq.{length-take-le, take-at, drop-at}
+use lib.Seq.{length-take-le, take-at, drop-at, drop-drop}
 use borrow.Author.Tests.{eqb-true, eq-eqb}
 use Rattle.relations.specs.Limits.{planNodeLimit, planNodeWords}
 use Rattle.relations.specs.Lists.{flat}
 use Rattle.relations.specs.Nodes as nodes
 use Rattle.relations.specs.Nodes.{load, project, selectConstant, selectAttribute, join, semijoin, antijoin, divide, unite, intersect, subtract}
+use Rattle.relations.specs.Machine.{run}
 use Rattle.relations.specs.Plan.{widthOfNode}
 use Rattle.relations.specs.Legality.{between, legalNode, legalNodes, legalPlan}
 use Rattle.relations.specs.PlanWords.{nodeWords, countFits, readNode}
@@ -21,10 +22,16 @@ use Rattle.relations.proofs.BoolLaws.{and-left, and-right, and-both}
 use Rattle.relations.proofs.LegalityLaws.{legal-count}
 use Rattle.relations.proofs.PlanWordsOnly.{words-and-back}
 use Rattle.catalogue.specs.Stored.{relationsOf, columnsOf}
-use Rattle.plans.specs.Judging.{judgedNode, onward, judgeNodes, judgement, nodesIn, nodesOf, JudgedExactly}
+use Rattle.plans.specs.Judging.{legalRead, judgedNode, onward, judgePlanNodes, sizeOk, planJudgement, nodesIn, nodesOfPlan, nodeWordsAt, LowestIllegal, JudgedExactly}
 use Rattle.plans.specs.declared.judging.Width.the-variants.{Of, Illegal as NoWidth}
-use Rattle.plans.specs.declared.judging.Judgement.{Judgement}
-use Rattle.plans.specs.declared.judging.Judgement.the-variants.{Legal, Illegal}
+use Rattle.plans.specs.declared.judging.PlanJudgement.{PlanJudgement}
+use Rattle.plans.specs.declared.judging.PlanJudgement.the-variants.{Legal, Illegal}
+
+illegal-place : {at place : ℕ} → Illegal at ≡ Illegal place → at ≡ place
+illegal-place e = cc
+
+legal-illegal {ℓ} : {C : Type ℓ} {place count : ℕ} → Legal count ≡ Illegal place → C
+legal-illegal e = let z : _≡_ {A = ℕ} 0 1 = cc in absurd (omega arith)
 
 illegal-legal {ℓ} : {C : Type ℓ} {place count : ℕ} → Illegal place ≡ Legal count → C
 illegal-legal e = let z : _≡_ {A = ℕ} 0 1 = cc in absurd (omega arith)
@@ -35,14 +42,14 @@ module _ (catalogue : List ℕ) where
     pub node : nodes.Node
     pub read : readNode (take planNodeWords words) ≡ some node
     pub legal : So (legalNode (relationsOf catalogue) made node)
-    pub others : judgeNodes catalogue count (made ++ (widthOfNode (columnsOf catalogue) made node ∷ [])) (drop planNodeWords words) ≡ Legal total
+    pub others : judgePlanNodes catalogue count (made ++ (widthOfNode (columnsOf catalogue) made node ∷ [])) (drop planNodeWords words) ≡ Legal total
 
-  pub legal-first : (count : ℕ) (made words : List ℕ) (total : ℕ) → judgeNodes catalogue (suc count) made words ≡ Legal total → LegalFirst count made words total
-  unfolding judgeNodes
+  pub legal-first : (count : ℕ) (made words : List ℕ) (total : ℕ) → judgePlanNodes catalogue (suc count) made words ≡ Legal total → LegalFirst count made words total
+  unfolding judgePlanNodes
   legal-first count made words total e = go (readNode (take planNodeWords words)) refl e
     where
-      next : ℕ → Judgement
-      next = λ width. judgeNodes catalogue count (made ++ (width ∷ [])) (drop planNodeWords words)
+      next : ℕ → PlanJudgement
+      next = λ width. judgePlanNodes catalogue count (made ++ (width ∷ [])) (drop planNodeWords words)
 
       go : (read : Option nodes.Node) → readNode (take planNodeWords words) ≡ read → onward (judgedNode catalogue made read) (length made) next ≡ Legal total → LegalFirst count made words total
       go none read e = illegal-legal e
@@ -58,8 +65,8 @@ module _ (catalogue : List ℕ) where
     many : length (nodesIn count words) ≡ count
     counted : total ≡ length made + count
 
-  sound-nodes : (count : ℕ) (made words : List ℕ) (total : ℕ) → length words ≡ count * planNodeWords → judgeNodes catalogue count made words ≡ Legal total → Sound count made words total
-  unfolding judgeNodes nodesIn legalNodes
+  sound-nodes : (count : ℕ) (made words : List ℕ) (total : ℕ) → length words ≡ count * planNodeWords → judgePlanNodes catalogue count made words ≡ Legal total → Sound count made words total
+  unfolding judgePlanNodes nodesIn legalNodes
   sound-nodes zero made [] total size e = let is : length made ≡ total = cc in record { legal = refl; written = refl; many = refl; counted = omega arith }
   sound-nodes zero made (word ∷ words) total size e = absurd (omega arith)
   sound-nodes (suc count) made words total size e =
@@ -79,12 +86,12 @@ module _ (catalogue : List ℕ) where
       }
 
   record Complete (made : List ℕ) (plan : List nodes.Node) : Type 0 where
-    judged : judgeNodes catalogue (length plan) made (flat nodeWords plan) ≡ Legal (length made + length plan)
+    judged : judgePlanNodes catalogue (length plan) made (flat nodeWords plan) ≡ Legal (length made + length plan)
     back : nodesIn (length plan) (flat nodeWords plan) ≡ plan
     size : length (flat nodeWords plan) ≡ length plan * planNodeWords
 
   complete-nodes : (made : List ℕ) (plan : List nodes.Node) → So (legalNodes (columnsOf catalogue) (relationsOf catalogue) made plan) → Complete made plan
-  unfolding judgeNodes nodesIn legalNodes
+  unfolding judgePlanNodes nodesIn legalNodes
   complete-nodes made [] h = record { judged = ap Legal (sym (add-zero (length made))); back = refl; size = refl }
   complete-nodes made (node ∷ plan) h =
       let width : ℕ = widthOfNode (columnsOf catalogue) made node in
@@ -102,29 +109,79 @@ module _ (catalogue : List ℕ) where
         size = length-append (nodeWords node) (flat nodeWords plan) ∙ omega (arith, own, rest .size, suc-mul (length plan) planNodeWords);
       }
 
+  -- the first illegal node, so many nodes behind those whose widths are made
+  record Behind (made words : List ℕ) (place : ℕ) : Type 0 where
+    nodes-before : ℕ
+    placed : place ≡ length made + nodes-before
+    legal : So (legalNodes (columnsOf catalogue) (relationsOf catalogue) made (nodesIn nodes-before words))
+    many : length (nodesIn nodes-before words) ≡ nodes-before
+    illegal : legalRead (relationsOf catalogue) (run (widthOfNode (columnsOf catalogue)) made (nodesIn nodes-before words)) (readNode (nodeWordsAt words nodes-before)) ≡ false
+
+  first-illegal : (count : ℕ) (made words : List ℕ) (place : ℕ) → judgePlanNodes catalogue count made words ≡ Illegal place → Behind made words place
+  unfolding judgePlanNodes nodesIn legalNodes run
+  first-illegal zero made words place e = legal-illegal e
+  first-illegal (suc count) made words place e =
+      go (readNode (take planNodeWords words)) refl (λ width e. first-illegal count (made ++ (width ∷ [])) (drop planNodeWords words) place e) e
+    where
+      next : ℕ → PlanJudgement
+      next = λ width. judgePlanNodes catalogue count (made ++ (width ∷ [])) (drop planNodeWords words)
+
+      here : legalRead (relationsOf catalogue) made (readNode (take planNodeWords words)) ≡ false → Illegal (length made) ≡ Illegal place → Behind made words place
+      here bad e =
+          let at : length made ≡ place = illegal-place e in
+          record { nodes-before = 0; placed = omega arith; legal = refl; many = refl; illegal = bad }
+
+      go : (read : Option nodes.Node) → readNode (take planNodeWords words) ≡ read → ((width : ℕ) → next width ≡ Illegal place → Behind (made ++ (width ∷ [])) (drop planNodeWords words) place)
+          → onward (judgedNode catalogue made read) (length made) next ≡ Illegal place → Behind made words place
+      go none read deeper e = here (rw read) e
+      go (some node) read deeper e = judged (legalNode (relationsOf catalogue) made node) refl e
+        where
+          judged : (legal : Bool) → legalNode (relationsOf catalogue) made node ≡ legal → onward (cond legal (Of (widthOfNode (columnsOf catalogue) made node)) NoWidth) (length made) next ≡ Illegal place → Behind made words place
+          judged false legal e = here (rw (read, legal)) e
+          judged true legal e =
+              let width : ℕ = widthOfNode (columnsOf catalogue) made node in
+              let rest : Behind (made ++ (width ∷ [])) (drop planNodeWords words) place = deeper width e in
+              let further : suc (rest .nodes-before) * planNodeWords ≡ planNodeWords + rest .nodes-before * planNodeWords = suc-mul (rest .nodes-before) planNodeWords ∙ add-comm (rest .nodes-before * planNodeWords) planNodeWords in
+              let behind : nodeWordsAt words (suc (rest .nodes-before)) ≡ nodeWordsAt (drop planNodeWords words) (rest .nodes-before) =
+              ap (take planNodeWords) (ap (λ (n : ℕ). drop n words) further ∙ sym (drop-drop (rest .nodes-before * planNodeWords) planNodeWords words))
+              in
+              record {
+                nodes-before = suc (rest .nodes-before);
+                placed = omega (arith, rest .placed, length-append made (width ∷ []));
+                legal = rw read (and-both (legalNode (relationsOf catalogue) made node) (legalNodes (columnsOf catalogue) (relationsOf catalogue) (made ++ (width ∷ [])) (nodesIn (rest .nodes-before) (drop planNodeWords words))) legal (rest .legal));
+                many = rw read (ap suc (rest .many));
+                illegal = rw (read, behind) (rest .illegal);
+              }
+
   pub judged-exactly : JudgedExactly catalogue
-  judged-exactly = record { sound = λ words count e. by-size words count (eqb (length words % planNodeWords) 0 && between 1 planNodeLimit (length words / planNodeWords)) refl e; complete = complete }
+  judged-exactly = record { sound = λ words count e. by-size words count (eqb (length words % planNodeWords) 0 && between 1 planNodeLimit (length words / planNodeWords)) refl e; complete = complete; lowest = lowest }
     where
       by-size : (words : List ℕ) (count : ℕ) (good : Bool) → (eqb (length words % planNodeWords) 0 && between 1 planNodeLimit (length words / planNodeWords)) ≡ good
-          → cond good (judgeNodes catalogue (length words / planNodeWords) [] words) (Illegal 0) ≡ Legal count
-          → So (legalPlan (columnsOf catalogue) (relationsOf catalogue) (nodesOf words)) × (flat nodeWords (nodesOf words) ≡ words) × (length (nodesOf words) ≡ count)
+          → cond good (judgePlanNodes catalogue (length words / planNodeWords) [] words) (Illegal 0) ≡ Legal count
+          → So (legalPlan (columnsOf catalogue) (relationsOf catalogue) (nodesOfPlan words)) × (flat nodeWords (nodesOfPlan words) ≡ words) × (length (nodesOfPlan words) ≡ count)
       by-size words count false good e = illegal-legal e
       by-size words count true good e =
           let n : ℕ = length words / planNodeWords in
           let whole : length words % planNodeWords ≡ 0 = eqb-true (length words % planNodeWords) 0 (and-left (eqb (length words % planNodeWords) 0) (between 1 planNodeLimit n) good) in
           let size : length words ≡ n * planNodeWords = sym (div-add-mod' (length words) planNodeWords) ∙ omega arith in
           let found : Sound n [] words count = sound-nodes n [] words count size e in (
-            and-both (between 1 planNodeLimit (length (nodesOf words))) (legalNodes (columnsOf catalogue) (relationsOf catalogue) [] (nodesOf words))
+            and-both (between 1 planNodeLimit (length (nodesOfPlan words))) (legalNodes (columnsOf catalogue) (relationsOf catalogue) [] (nodesOfPlan words))
                 (subst (λ (k : ℕ). So (between 1 planNodeLimit k)) (sym (found .many)) (and-right (eqb (length words % planNodeWords) 0) (between 1 planNodeLimit n) good))
                 (found .legal),
             found .written,
             omega (arith, found .many, found .counted),
           )
 
-      complete : (plan : List nodes.Node) → So (legalPlan (columnsOf catalogue) (relationsOf catalogue) plan) → (judgement catalogue (flat nodeWords plan) ≡ Legal (length plan)) × (nodesOf (flat nodeWords plan) ≡ plan)
+      complete : (plan : List nodes.Node) → So (legalPlan (columnsOf catalogue) (relationsOf catalogue) plan) → (planJudgement catalogue (flat nodeWords plan) ≡ Legal (length plan)) × (nodesOfPlan (flat nodeWords plan) ≡ plan)
       complete plan h =
           let few : So (between 1 planNodeLimit (length plan)) = and-left (between 1 planNodeLimit (length plan)) (legalNodes (columnsOf catalogue) (relationsOf catalogue) [] plan) h in
           let found : Complete [] plan = complete-nodes [] plan (and-right (between 1 planNodeLimit (length plan)) (legalNodes (columnsOf catalogue) (relationsOf catalogue) [] plan) h) in
           let many : length (flat nodeWords plan) / planNodeWords ≡ length plan = omega (arith, found .size) in
           let whole : eqb (length (flat nodeWords plan) % planNodeWords) 0 ≡ true = eq-eqb (length (flat nodeWords plan) % planNodeWords) 0 (omega (arith, found .size)) in
           (rw (whole, many, few) (found .judged ∙ ap Legal (zero-add (length plan))), rw many (found .back))
+
+      lowest : (words : List ℕ) (place : ℕ) → sizeOk words ≡ true → planJudgement catalogue words ≡ Illegal place → LowestIllegal catalogue words place
+      lowest words place good e =
+          let found : Behind [] words place = first-illegal (length words / planNodeWords) [] words place (rw good at e) in
+          let at : found .nodes-before ≡ place = omega (arith, found .placed) in
+          subst (LowestIllegal catalogue words) at (record { before = found .legal; all-read = found .many; illegal = found .illegal })

@@ -3,7 +3,7 @@ ghost use mathlib.Core.Path.{_≡_};
 ghost use lib.ListN.{length};
 ghost use Rattle.relations.specs.Limits.{planNodeWords};
 ghost use Rattle.relations.specs.PlanWords.{readNode};
-ghost use Rattle.plans.specs.Judging.{judgedNode, judgement};
+ghost use Rattle.plans.specs.Judging.{judgedNode, planNumbers, judgedPlan};
 use crate::legal::legal_node;
 use crate::legal::width_of;
 use crate::limits::NODE_WORDS;
@@ -18,7 +18,7 @@ pub enum Width {
 }
 
 // A legal plan has so many nodes; an illegal one is refused at that place.
-pub enum Judgement {
+pub enum PlanJudgement {
     Legal(usize),
     Illegal(usize),
 }
@@ -38,18 +38,18 @@ fn judge_node(catalogue: &[u32], widths: &[usize], words: &[u32]) -> Width
     }
 }
 
-pub fn judge_plan(catalogue: &[u32], plan: &[u32]) -> Judgement
-    ensures { λ r. ⌜ r ≡ judgement (now (catalogue .entry)) (now (plan .entry)) ⌝ }
+pub fn judge_plan(catalogue: &[u32], plan: &[u32]) -> PlanJudgement
+    ensures { λ r. ⌜ planNumbers r ≡ judgedPlan (now (catalogue .entry)) (now (plan .entry)) ⌝ }
 {
     let nodes = plan.len() / NODE_WORDS;
     if plan.len() % NODE_WORDS != 0 {
-        return Judgement::Illegal(0);
+        return PlanJudgement::Illegal(0);
     }
     if nodes < 1 {
-        return Judgement::Illegal(0);
+        return PlanJudgement::Illegal(0);
     }
     if NODES < nodes {
-        return Judgement::Illegal(0);
+        return PlanJudgement::Illegal(0);
     }
     let mut widths = [0usize; NODES];
     let mut place = 0;
@@ -61,11 +61,11 @@ pub fn judge_plan(catalogue: &[u32], plan: &[u32]) -> Judgement
                 widths[place] = width;
             }
             Width::Illegal => {
-                return Judgement::Illegal(place);
+                return PlanJudgement::Illegal(place);
             }
         }
         place += 1;
         at = next;
     }
-    Judgement::Legal(nodes)
+    PlanJudgement::Legal(nodes)
 }

@@ -9,11 +9,11 @@ use lib.Dec.{leb, eqb}
 use lib.ListN.{length}
 use borrow.Author.Tests.{leb-true, eqb-true, ne-eqb, eq-eqb}
 use Rattle.relations.specs.Limits.{questionNodeLimit, questionNodeWords}
-use Rattle.question.specs.Nodes.{nodeCount, nodeAt}
-use Rattle.question.specs.References.{references, referenceList, referencesTo, hit, seen, firstFrom, lowest, notOnce}
+use Rattle.nodes.specs.Nodes.{nodeCount, nodeAt}
+use Rattle.nodes.specs.References.{references, referenceList, referencesTo, hit, seen, firstFrom, lowest, notOnce}
 use Rattle.question.specs.Judgement.{countOk, lastNode, lowestNotOnce}
-use Rattle.question.proofs.Bits.{seen-append}
-use Rattle.question.proofs.Forms.{node-lower, first-of, second-of, third-of}
+use Rattle.nodes.proofs.Bits.{seen-append}
+use Rattle.nodes.proofs.Forms.{node-lower, first-of, second-of, third-of}
 
 pub record Counted (words : List ℕ) : Type 0 where
   pub whole : nodeCount words * questionNodeWords ≡ length words

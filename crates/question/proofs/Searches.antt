@@ -4,7 +4,7 @@ use mathlib.Core.Bool.{Bool, true, false}
 use Prim.Native.Nat.{ℕ, zero, suc, _+_, _-_, _≤_, _<_}
 use native.Mathlib.Omega.{arith}
 use native.Mathlib.Numerals.{add-one}
-use Rattle.question.specs.References.{firstFrom, lowest}
+use Rattle.nodes.specs.References.{firstFrom, lowest}
 
 pub search-start : (test : ℕ → Bool) (n : ℕ) → lowest test n ≡ firstFrom test (n - 0) 0
 search-start test n =

@@ -7,10 +7,10 @@ use native.Mathlib.Nat.{eq-or-lt-of-le}
 use native.Mathlib.Omega.{arith}
 use lib.ListN.{length, getD, length-append, List·getD-append}
 use lib.Seq.{getD-at}
-use Rattle.question.specs.Nodes.{nodeAt}
-use Rattle.question.specs.References.{references}
+use Rattle.nodes.specs.Nodes.{nodeAt}
+use Rattle.nodes.specs.References.{references}
 use Rattle.question.specs.Trees.{Tree, nothing, branch, named, grown, treesBelow, treeOf}
-use Rattle.question.proofs.Forms.{node-lower}
+use Rattle.nodes.proofs.Forms.{node-lower}
 
 module _ (words : List ℕ) where
   trees-length : (n : ℕ) → length (treesBelow words n) ≡ n

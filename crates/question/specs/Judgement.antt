@@ -1,18 +1,15 @@
--- Document 01, "Refusal numbers" 1 to 6, in their order. Assumes nothing.
+-- Document 01, "Refusal numbers" 1 to 4; specs/Faults has 5 and 6, and all in their order. Assumes nothing.
 use Prim.Native.Nat.{ℕ, _-_, _%_}
 use mathlib.Core.List.{List}
 use mathlib.Core.Bool.{Bool, true, false, cond, _&&_}
-use lib.Dec.{ltb, leb, eqb}
+use lib.Dec.{leb, eqb}
 use lib.ListN.{length}
 use Rattle.relations.specs.Limits.{questionNodeLimit, questionNodeWords}
-use Rattle.question.specs.Nodes.{nodeCount, nodeAt, isIllFormed}
-use Rattle.question.specs.References.{referencesTo, lowest, notOnce}
-use Rattle.catalogue.specs.Stored.{relationsOf, columnsOf}
-use Rattle.question.specs.Roles.{Role, stored, alpha, takes, binds, sides, compares, joins, roleOf}
-use Rattle.question.specs.Trees.{questionTree}
-use Rattle.question.specs.Scopes.{emptyScope, walk}
-use Rattle.question.specs.declared.node.Node.{Node}
-use Rattle.question.specs.declared.scope.Found.{Found}
+use Rattle.nodes.specs.Nodes.{nodeCount, nodeAt, isIllFormed}
+use Rattle.nodes.specs.References.{referencesTo, lowest, notOnce}
+use Rattle.catalogue.specs.Stored.{relationsOf}
+use Rattle.nodes.specs.Roles.{Role, stored, alpha, takes, binds, sides, compares, joins, roleOf}
+use Rattle.nodes.specs.declared.node.Node.{Node}
 use Rattle.question.specs.declared.judgement.Judgement.{Judgement}
 use Rattle.question.specs.declared.judgement.Judgement.the-variants.{Accepted, Refused}
 
@@ -63,26 +60,3 @@ module _ (catalogue words : List ℕ) where
   -- 4: "unknown relation": "lowest table node"
   abbrev pub lowestUnknown : ℕ
   lowestUnknown = lowest (λ i. isUnknown (relationsOf catalogue) (nodeAt words i)) (nodeCount words)
-
-  -- 5 and 6: the lowest node over all causes, over the whole tree
-  abbrev pub faultsFound : Found
-  faultsFound = walk (columnsOf catalogue) (questionTree words) emptyScope
-
-  -- each refusal is looked for over the whole table before the next: 4, 5, 6 of a table that is a tree
-  unfoldable pub judgeTree : Judgement
-  judgeTree =
-      cond (ltb lowestUnknown (nodeCount words)) (Refused 4 lowestUnknown)
-      (cond (ltb (faultsFound .unbound) questionNodeLimit) (Refused 5 (faultsFound .unbound))
-      (cond (ltb (faultsFound .unfit) questionNodeLimit) (Refused 6 (faultsFound .unfit))
-      Accepted))
-
-  -- 2 and 3 before them
-  unfoldable pub judgeNodes : Judgement
-  judgeNodes =
-      cond (ltb (lowestIllFormed words) (nodeCount words)) (Refused 2 (lowestIllFormed words))
-      (cond (ltb (lowestNotOnce words) (lastNode words)) (Refused 3 (lowestNotOnce words))
-      (cond (isAlpha (nodeAt words (lastNode words))) judgeTree (Refused 3 (lastNode words))))
-
-  -- and 1 before all
-  unfoldable pub judged : Judgement
-  judged = cond (countOk words) judgeNodes (Refused 1 0)

@@ -1,11 +1,5 @@
-pub mod Limits
-pub mod Roles
-pub mod Nodes
-pub mod References
+-- In reading order. Refusals 5 and 6, and all six in their order, are in `judgements`.
 pub mod Trees
-pub mod Scopes
 pub mod Judgement
-pub mod Faults
-pub mod Accepted
 -- What the code keeps instead
-pub mod Marks
+pub mod Walk

@@ -9,13 +9,13 @@ use lib.ListN.{getD}
 use Rattle.relations.specs.Comparison.{Operator, equal, operatorOf}
 use Rattle.relations.specs.Columns.{attribute, constant}
 use Rattle.calculus.specs.Question as calculus
-use Rattle.question.specs.Nodes.{nodeAt, nodeCount}
-use Rattle.question.specs.References.{references}
-use Rattle.question.specs.declared.node.Operand.{Operand}
-use Rattle.question.specs.declared.node.Operand.the-variants.{Of, Fixed}
-use Rattle.question.specs.declared.node.Atom.{Atom}
-use Rattle.question.specs.declared.node.Node.{Node}
-use Rattle.question.specs.declared.node.Node.the-variants.{Table, Alpha, Target, Binding, RangeOr, RangeAnd, RangeAndNot, Atom as AtomNode, And, Or, Not, Some, Every, IllFormed}
+use Rattle.nodes.specs.Nodes.{nodeAt, nodeCount}
+use Rattle.nodes.specs.References.{references}
+use Rattle.nodes.specs.declared.node.Operand.{Operand}
+use Rattle.nodes.specs.declared.node.Operand.the-variants.{Of, Fixed}
+use Rattle.nodes.specs.declared.node.Atom.{Atom}
+use Rattle.nodes.specs.declared.node.Node.{Node}
+use Rattle.nodes.specs.declared.node.Node.the-variants.{Table, Alpha, Target, Binding, RangeOr, RangeAnd, RangeAndNot, Atom as AtomNode, And, Or, Not, Some, Every, IllFormed}
 
 -- a node with its number, and the trees of its three references
 pub data Tree : Type 0 where

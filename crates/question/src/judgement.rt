@@ -4,16 +4,17 @@ ghost use mathlib.Core.Bool.{true};
 ghost use Prim.Native.Nat.{_+_, _*_, _≤_, _/_};
 ghost use lib.ListN.{length};
 ghost use Rattle.question.specs.declared.judgement.Judgement.the-variants.{Refused};
-ghost use Rattle.question.specs.Nodes.{nodeCount, nodeAt, isIllFormed};
-ghost use Rattle.question.specs.References.{lowest};
-ghost use Rattle.question.specs.Judgement.{countOk, judgeCount, isAlpha, isUnknown, judgeTree, judgeNodes, judged};
-use crate::limits::NODE_WORDS;
-use crate::limits::NODES;
-use crate::node::Node;
-use crate::node::decode;
-use crate::references::lowest_not_once;
+ghost use Rattle.nodes.specs.Nodes.{nodeCount, nodeAt, isIllFormed};
+ghost use Rattle.nodes.specs.References.{lowest};
+ghost use Rattle.question.specs.Judgement.{countOk, judgeCount, isAlpha, isUnknown};
+ghost use Rattle.question.specs.Walk.{judgeTree, judgeNodes, judgedByWalk};
 use crate::scope::empty;
 use crate::scope::walk;
+use nodes::limits::NODE_WORDS;
+use nodes::limits::NODES;
+use nodes::node::Node;
+use nodes::node::decode;
+use nodes::references::lowest_not_once;
 
 pub enum Judgement {
     Accepted,
@@ -238,7 +239,7 @@ fn judge_nodes(catalogue: &[u32], words: &[u32]) -> Judgement
 
 // All that a question can be refused for, over a catalogue.
 pub fn judge(catalogue: &[u32], words: &[u32]) -> Judgement
-    ensures { λ r. ⌜ r ≡ judged (now (catalogue .entry)) (now (words .entry)) ⌝ }
+    ensures { λ r. ⌜ r ≡ judgedByWalk (now (catalogue .entry)) (now (words .entry)) ⌝ }
 {
     if count_ok(words) {
         return judge_nodes(catalogue, words);

@@ -1,6 +1,3 @@
-// A question's node words: decoded, judged (refusals 1 to 6 with their places), and no more.
+// A question judged: refusals 1 to 6 with their places, over the trees of its nodes.
 pub mod judgement;
-pub mod limits;
-pub mod node;
-pub mod references;
 pub mod scope;

@@ -2,21 +2,21 @@
 ghost use mathlib.Core.Path.{_≡_};
 ghost use Prim.Native.Nat.{_*_, _≤_, _<_, min};
 ghost use lib.ListN.{length};
-ghost use Rattle.question.specs.Limits.{variableCount};
-ghost use Rattle.question.specs.Nodes.{VariableFits, OperandVariableFits};
+ghost use Rattle.nodes.specs.Limits.{variableCount};
+ghost use Rattle.nodes.specs.Nodes.{VariableFits, OperandVariableFits};
 ghost use Rattle.catalogue.specs.Stored.{columnsOf};
 ghost use Rattle.question.specs.Trees.{treeOf};
-ghost use Rattle.question.specs.Scopes.{widthIn, addWidths, emptyScope, boundWidth, bind, opening, inside, operandUnbound, unboundAt, operandUnfit, unfitAt, targetWidth, widthOf, lowestOf, walk};
-use crate::limits::COLUMNS;
-use crate::limits::NODES;
-use crate::node::Node;
-use crate::node::Operand;
-use crate::node::decode;
-use crate::references::references_of;
+ghost use Rattle.question.specs.Walk.{widthKept, addWidths, noWidths, boundWidth, bind, opening, inside, operandUnboundAt, unboundAt, operandUnfitAt, unfitAt, targetWidthKept, widthFound, lowestOf, walk};
 use catalogue::stored::columns_of;
+use nodes::limits::COLUMNS;
+use nodes::limits::NODES;
+use nodes::node::Node;
+use nodes::node::Operand;
+use nodes::node::decode;
+use nodes::references::references_of;
 
 // For each variable the width of its rows, 0 where it is not in scope; and all columns in scope.
-pub struct Scope {
+pub struct ScopeWidths {
     pub widths: [u32; 26],
     pub columns: u32,
 }
@@ -27,7 +27,7 @@ pub struct Found {
     pub unbound: u32,
     pub unfit: u32,
     pub width: u32,
-    pub scope: Scope,
+    pub scope: ScopeWidths,
 }
 
 // Widths are counted up to 33: over 32 all are too wide.
@@ -46,17 +46,17 @@ fn add_widths(a: u32, b: u32) -> u32
     a + b
 }
 
-fn width_in(scope: Scope, variable: u32) -> u32
+fn width_in(scope: ScopeWidths, variable: u32) -> u32
     requires { ⌜ variable < variableCount ⌝ }
-    ensures { λ r. ⌜ r ≡ widthIn scope variable ⌝ }
+    ensures { λ r. ⌜ r ≡ widthKept scope variable ⌝ }
 {
     scope.widths[variable as usize]
 }
 
-pub fn empty() -> Scope
-    ensures { λ r. ⌜ r ≡ emptyScope ⌝ }
+pub fn empty() -> ScopeWidths
+    ensures { λ r. ⌜ r ≡ noWidths ⌝ }
 {
-    Scope {
+    ScopeWidths {
         widths: [0u32; 26],
         columns: 0,
     }
@@ -72,7 +72,7 @@ fn bound_width(width: u32) -> u32
     width
 }
 
-fn bind(scope: Scope, variable: u32, width: u32) -> Scope
+fn bind(scope: ScopeWidths, variable: u32, width: u32) -> ScopeWidths
     requires { ⌜ variable < variableCount ⌝ }
     ensures { λ r. ⌜ r ≡ bind scope variable width ⌝ }
 {
@@ -82,7 +82,7 @@ fn bind(scope: Scope, variable: u32, width: u32) -> Scope
     bound
 }
 
-fn opening(node: Node, scope: Scope) -> Scope
+fn opening(node: Node, scope: ScopeWidths) -> ScopeWidths
     ensures { λ r. ⌜ r ≡ opening node scope ⌝ }
 {
     match node {
@@ -124,7 +124,7 @@ fn opening(node: Node, scope: Scope) -> Scope
 }
 
 // The scope of what stands behind a node's first reference.
-fn inside(node: Node, scope: Scope, first: Found) -> Scope
+fn inside(node: Node, scope: ScopeWidths, first: Found) -> ScopeWidths
     requires { ⌜ VariableFits node ⌝ }
     ensures { λ r. ⌜ r ≡ inside node scope first ⌝ }
 {
@@ -166,9 +166,9 @@ fn inside(node: Node, scope: Scope, first: Found) -> Scope
     }
 }
 
-fn operand_unbound(scope: Scope, operand: Operand) -> bool
+fn operand_unbound(scope: ScopeWidths, operand: Operand) -> bool
     requires { ⌜ OperandVariableFits operand ⌝ }
-    ensures { λ r. ⌜ r ≡ operandUnbound scope operand ⌝ }
+    ensures { λ r. ⌜ r ≡ operandUnboundAt scope operand ⌝ }
 {
     match operand {
         Operand::Of {
@@ -180,7 +180,7 @@ fn operand_unbound(scope: Scope, operand: Operand) -> bool
 }
 
 // Refusal 5 at a node: a variable that is not in scope, or bound while in scope.
-fn unbound_at(node: Node, scope: Scope) -> bool
+fn unbound_at(node: Node, scope: ScopeWidths) -> bool
     requires { ⌜ VariableFits node ⌝ }
     ensures { λ r. ⌜ r ≡ unboundAt node scope ⌝ }
 {
@@ -225,9 +225,9 @@ fn unbound_at(node: Node, scope: Scope) -> bool
     }
 }
 
-fn operand_unfit(scope: Scope, operand: Operand) -> bool
+fn operand_unfit(scope: ScopeWidths, operand: Operand) -> bool
     requires { ⌜ OperandVariableFits operand ⌝ }
-    ensures { λ r. ⌜ r ≡ operandUnfit scope operand ⌝ }
+    ensures { λ r. ⌜ r ≡ operandUnfitAt scope operand ⌝ }
 {
     match operand {
         Operand::Of {
@@ -239,7 +239,7 @@ fn operand_unfit(scope: Scope, operand: Operand) -> bool
 }
 
 // Refusal 6 at a node; `first` and `second` are the widths of its first two references.
-fn unfit_at(node: Node, scope: Scope, first: u32, second: u32) -> bool
+fn unfit_at(node: Node, scope: ScopeWidths, first: u32, second: u32) -> bool
     requires { ⌜ VariableFits node ⌝ }
     ensures { λ r. ⌜ r ≡ unfitAt node scope first second ⌝ }
 {
@@ -284,9 +284,9 @@ fn unfit_at(node: Node, scope: Scope, first: u32, second: u32) -> bool
     }
 }
 
-fn target_width(scope: Scope, variable: u32, attribute: u32) -> u32
+fn target_width(scope: ScopeWidths, variable: u32, attribute: u32) -> u32
     requires { ⌜ variable < variableCount ⌝ }
-    ensures { λ r. ⌜ r ≡ targetWidth scope variable attribute ⌝ }
+    ensures { λ r. ⌜ r ≡ targetWidthKept scope variable attribute ⌝ }
 {
     if attribute == 0 {
         return width_in(scope, variable);
@@ -294,9 +294,9 @@ fn target_width(scope: Scope, variable: u32, attribute: u32) -> u32
     1
 }
 
-fn width_of(catalogue: &[u32], node: Node, scope: Scope, first: u32, second: u32) -> u32
+fn width_of(catalogue: &[u32], node: Node, scope: ScopeWidths, first: u32, second: u32) -> u32
     requires { ⌜ VariableFits node ⌝ }
-    ensures { λ r. ⌜ r ≡ widthOf (columnsOf (now (catalogue .entry))) node scope first second ⌝ }
+    ensures { λ r. ⌜ r ≡ widthFound (columnsOf (now (catalogue .entry))) node scope first second ⌝ }
 {
     match node {
         Node::Table { relation } => columns_of(catalogue, relation as usize),
@@ -357,7 +357,7 @@ fn lowest_of(fault: bool, i: u32, first: u32, second: u32, third: u32) -> u32
 }
 
 // What the tree that a reference names has, in a scope. The reference falls at each call.
-pub fn walk(catalogue: &[u32], words: &[u32], reference: u32, scope: Scope) -> Found
+pub fn walk(catalogue: &[u32], words: &[u32], reference: u32, scope: ScopeWidths) -> Found
     requires { ⌜ reference * 6 ≤ length (now words) ⌝ }
     ensures { λ r. ⌜ r ≡ walk (columnsOf (now (catalogue .entry))) (treeOf (now (words .entry)) reference) scope ⌝ }
 {

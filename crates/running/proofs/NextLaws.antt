@@ -18,28 +18,28 @@ use Rattle.relations.specs.PlanWords.{readNode}
 use Rattle.relations.proofs.MachineLaws.{run-keeps}
 use Rattle.relations.proofs.ValueLaws.{all-members, member-has, member-canonical}
 use Rattle.catalogue.specs.Stored.{relationsOf, columnsOf}
-use Rattle.plans.specs.Judging.{judgedNode, onward, judgeNodes, judgement, nodesIn}
-use Rattle.plans.specs.declared.judging.Judgement.{Judgement}
-use Rattle.plans.specs.declared.judging.Judgement.the-variants.{Legal, Illegal}
+use Rattle.plans.specs.Judging.{judgedNode, onward, judgePlanNodes, planJudgement, nodesIn}
+use Rattle.plans.specs.declared.judging.PlanJudgement.{PlanJudgement}
+use Rattle.plans.specs.declared.judging.PlanJudgement.the-variants.{Legal, Illegal}
 
 pub record Next (catalogue : List ℕ) (left : ℕ) (made words : List ℕ) (count : ℕ) : Type 0 where
   pub node : Node
   pub read : readNode (take planNodeWords words) ≡ some node
   pub legal : legalNode (relationsOf catalogue) made node ≡ true
-  pub onward : judgeNodes catalogue (left - 1) (made ++ (widthOfNode (columnsOf catalogue) made node ∷ [])) (drop planNodeWords words) ≡ Legal count
+  pub onward : judgePlanNodes catalogue (left - 1) (made ++ (widthOfNode (columnsOf catalogue) made node ∷ [])) (drop planNodeWords words) ≡ Legal count
   pub todo : nodesIn left words ≡ node ∷ nodesIn (left - 1) (drop planNodeWords words)
 
 illegal-legal {ℓ} : {C : Type ℓ} {place count : ℕ} → Illegal place ≡ Legal count → C
 illegal-legal e = let z : _≡_ {A = ℕ} 0 1 = cc in absurd (omega arith)
 
 -- a plan that is judged legal with a node to come has a legal node there
-pub next-node : (catalogue : List ℕ) (left : ℕ) (made words : List ℕ) (count : ℕ) → 0 < left → judgeNodes catalogue left made words ≡ Legal count → Next catalogue left made words count
-unfolding judgeNodes nodesIn
+pub next-node : (catalogue : List ℕ) (left : ℕ) (made words : List ℕ) (count : ℕ) → 0 < left → judgePlanNodes catalogue left made words ≡ Legal count → Next catalogue left made words count
+unfolding judgePlanNodes nodesIn
 next-node catalogue zero made words count h e = absurd (omega arith)
 next-node catalogue (suc left) made words count h e = go (readNode (take planNodeWords words)) refl e
   where
-    rest : ℕ → Judgement
-    rest width = judgeNodes catalogue left (made ++ (width ∷ [])) (drop planNodeWords words)
+    rest : ℕ → PlanJudgement
+    rest width = judgePlanNodes catalogue left (made ++ (width ∷ [])) (drop planNodeWords words)
 
     less : suc left - 1 ≡ left
     less = omega arith
@@ -65,8 +65,8 @@ pub wide-candidates : (width : ℕ) (rows : Rows) → Wide width (canonical rows
 wide-candidates width rows h = all-members (λ row. length row ≡ width) rows (λ row m. member-has (λ r. length r ≡ width) row (canonical rows) h (rw (member-canonical row rows) m))
 
 -- a judged plan has as many nodes as the words say
-judged-count : (catalogue : List ℕ) (left : ℕ) (made words : List ℕ) (count : ℕ) → judgeNodes catalogue left made words ≡ Legal count → count ≡ length made + left
-unfolding judgeNodes
+judged-count : (catalogue : List ℕ) (left : ℕ) (made words : List ℕ) (count : ℕ) → judgePlanNodes catalogue left made words ≡ Legal count → count ≡ length made + left
+unfolding judgePlanNodes
 judged-count catalogue zero made words count e = let is : length made ≡ count = cc in omega arith
 judged-count catalogue (suc left) made words count e =
     let next : Next catalogue (suc left) made words count = next-node catalogue (suc left) made words count (omega arith) e in
@@ -76,12 +76,12 @@ judged-count catalogue (suc left) made words count e =
 
 pub record Sized (catalogue plan : List ℕ) (nodes : ℕ) : Type 0 where
   pub many : length plan / planNodeWords ≡ nodes
-  pub judged : judgeNodes catalogue nodes [] plan ≡ Legal nodes
+  pub judged : judgePlanNodes catalogue nodes [] plan ≡ Legal nodes
 
-pub judged-sized : (catalogue plan : List ℕ) (nodes : ℕ) → judgement catalogue plan ≡ Legal nodes → Sized catalogue plan nodes
+pub judged-sized : (catalogue plan : List ℕ) (nodes : ℕ) → planJudgement catalogue plan ≡ Legal nodes → Sized catalogue plan nodes
 judged-sized catalogue plan nodes e = go (eqb (length plan % planNodeWords) 0 && between 1 planNodeLimit (length plan / planNodeWords)) e
   where
-    go : (good : Bool) → cond good (judgeNodes catalogue (length plan / planNodeWords) [] plan) (Illegal 0) ≡ Legal nodes → Sized catalogue plan nodes
+    go : (good : Bool) → cond good (judgePlanNodes catalogue (length plan / planNodeWords) [] plan) (Illegal 0) ≡ Legal nodes → Sized catalogue plan nodes
     go false e = illegal-legal e
     go true e =
         let is : length plan / planNodeWords ≡ nodes = omega (arith, judged-count catalogue (length plan / planNodeWords) [] plan nodes e) in

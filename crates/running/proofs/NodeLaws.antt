@@ -29,7 +29,8 @@ use Rattle.operations.specs.Lists.{operatorNamed, triplesIn}
 use Rattle.operations.proofs.ListLaws.{operator-named, triples-read}
 use Rattle.catalogue.specs.Stored.{relationsOf, columnsOf, storedTables}
 use Rattle.plans.specs.Decoding.{operationIn, operationCode, decoded}
-use Rattle.plans.specs.Judging.{legalRead, widthOf}
+use Rattle.plans.specs.Judging.{legalRead}
+use Rattle.plans.specs.Steps.{widthOf}
 use Rattle.plans.specs.declared.nodes.Operation.{Operation}
 use Rattle.plans.specs.declared.nodes.Operation.the-variants.{Load, Project, SelectConstant, SelectAttribute, Join, Semijoin, Antijoin, Divide, Unite, Intersect, Subtract}
 use Rattle.plans.specs.declared.nodes.PlanNode.{PlanNode}

@@ -5,7 +5,7 @@ use mathlib.Core.List.{List, [], _∷_, _++_}
 use Prim.Native.Nat.{ℕ, _+_, _-_, _*_, _≤_, _<_, min}
 use native.Mathlib.Omega.{arith}
 use lib.Dec.{ltb}
-use lib.ListN.{length, take, drop, replicate}
+use lib.ListN.{length, take, drop, replicate, length-replicate}
 use lib.Seq.{sets, length-take-le}
 use borrow.Author.Tests.{lt-ltb, le-ltb}
 use Rattle.relations.specs.Limits.{wordLimit}
@@ -13,14 +13,21 @@ use Rattle.relations.specs.Nodes.{Node}
 use Rattle.relations.specs.Plan.{valueWords}
 use Rattle.catalogue.specs.Judging.{tablesOk}
 use Rattle.values.specs.Words.{rowIn, rowsOf, wordsOf}
+use Rattle.values.specs.Building.{clearedFrom, Blank}
 use Rattle.values.specs.declared.rows.Value.{Value}
 use Rattle.values.proofs.RowsLaws.{row-inside, length-rowsAt, words-rowsAt}
-use Rattle.plans.specs.Judging.{judgement, nodesOf}
-use Rattle.plans.specs.declared.judging.Judgement.the-variants.{Legal, Illegal}
+use Rattle.plans.specs.Judging.{planJudgement, nodesOfPlan}
+use Rattle.plans.specs.declared.judging.PlanJudgement.the-variants.{Legal, Illegal}
 use Rattle.running.specs.RunCall.{RunNumbers, runRefusal, RunOutcome, capacityOf, cleared, Fit, fits, passesAt, answerRows, answerWidth, fitWithin, ranOutcome, refused, runOutcome}
 use Rattle.running.specs.PlanRun.{Answered, PlanRun}
 use Rattle.running.specs.declared.Worked.{Worked}
 use Rattle.running.specs.declared.Worked.the-variants.{Answer, NoRoom}
+
+-- a work area that was cleared is blank
+pub cleared-blank : {words : List ℕ} (work : List ℕ) → words ≡ clearedFrom 0 work → Blank 0 words
+cleared-blank {words} work e =
+    let size : length words - 0 ≡ length work - 0 = omega (arith, ap length e, length-replicate {A = ℕ} (length work - 0) 0) in
+    e ∙ ap (λ (n : ℕ). replicate n 0) (sym size)
 
 -- After running: the answer handed out, or a refusal.
 module _ (catalogue tables : List ℕ) (plan : List Node) (work after : List ℕ) {worked : Worked} (same : length after ≡ length work) (ran : PlanRun catalogue tables plan after worked) where
@@ -64,13 +71,13 @@ module _ (catalogue tables plan work output : List ℕ) where
   unfolding runOutcome
   outcome-tables h = rw h
 
-  pub outcome-illegal : tablesOk catalogue tables ≡ true → {place : ℕ} → judgement catalogue plan ≡ Illegal place → refused catalogue tables plan work output 9 place ≡ runOutcome catalogue tables plan work output
+  pub outcome-illegal : tablesOk catalogue tables ≡ true → {place : ℕ} → planJudgement catalogue plan ≡ Illegal place → refused catalogue tables plan work output 9 place ≡ runOutcome catalogue tables plan work output
   unfolding runOutcome
   outcome-illegal h e = rw (h, e)
 
   -- the part within capacity was run, and what is behind it is as it was
-  pub outcome-ran : tablesOk catalogue tables ≡ true → {nodes : ℕ} → judgement catalogue plan ≡ Legal nodes → {capacity : ℕ} → capacity ≡ capacityOf work → {outcome : RunOutcome}
-      → outcome ≡ ranOutcome catalogue tables (nodesOf plan) (replicate (length (take capacity work)) 0 ++ drop capacity work) output (fitWithin catalogue tables (nodesOf plan) (length (take capacity work)))
+  pub outcome-ran : tablesOk catalogue tables ≡ true → {nodes : ℕ} → planJudgement catalogue plan ≡ Legal nodes → {capacity : ℕ} → capacity ≡ capacityOf work → {outcome : RunOutcome}
+      → outcome ≡ ranOutcome catalogue tables (nodesOfPlan plan) (replicate (length (take capacity work)) 0 ++ drop capacity work) output (fitWithin catalogue tables (nodesOfPlan plan) (length (take capacity work)))
       → outcome ≡ runOutcome catalogue tables plan work output
   unfolding runOutcome
   outcome-ran h {nodes} e {capacity} c ran =

@@ -18,11 +18,11 @@ use Rattle.relations.proofs.LegalityLaws.{so-between}
 use Rattle.relations.proofs.MachineLaws.{run-length}
 use Rattle.catalogue.specs.Judging.{tablesOk}
 use Rattle.catalogue.specs.Stored.{columnsOf, storedTables}
-use Rattle.plans.specs.Judging.{judgedNode, onward, judgeNodes, judgement, nodesOf}
+use Rattle.plans.specs.Judging.{judgedNode, onward, judgePlanNodes, planJudgement, nodesOfPlan}
 use Rattle.plans.specs.declared.judging.Width.{Width}
 use Rattle.plans.specs.declared.judging.Width.the-variants.{Of, Illegal as NoWidth}
-use Rattle.plans.specs.declared.judging.Judgement.{Judgement}
-use Rattle.plans.specs.declared.judging.Judgement.the-variants.{Legal, Illegal}
+use Rattle.plans.specs.declared.judging.PlanJudgement.{PlanJudgement}
+use Rattle.plans.specs.declared.judging.PlanJudgement.the-variants.{Legal, Illegal}
 use Rattle.running.specs.RunCall.{runRefusal, sizesOf, Fit, fits, passesAt, fitOf, capacityOf, cleared, answerRows, answerWidth, lastPlace, planRoom, fitWithin, stopped, answered, ranOutcome, refused, judgedOutcome, runOutcome}
 use Rattle.running.specs.RunBounds.{Bounded}
 use Rattle.running.proofs.SizeLaws.{total, room-total}
@@ -33,24 +33,24 @@ refusal-bounded status place h = record { place = h; nodes = omega arith; heavy 
 
 -- 9: the place is a node of the words
 
-illegal-inside : (catalogue : List ℕ) (count : ℕ) (made words : List ℕ) (place : ℕ) → judgeNodes catalogue count made words ≡ Illegal place → place ≤ length made + count
-unfolding judgeNodes
+illegal-inside : (catalogue : List ℕ) (count : ℕ) (made words : List ℕ) (place : ℕ) → judgePlanNodes catalogue count made words ≡ Illegal place → place ≤ length made + count
+unfolding judgePlanNodes
 illegal-inside catalogue zero made words place e = let never : _≡_ {A = ℕ} 0 1 = cc in absurd (omega arith)
 illegal-inside catalogue (suc count) made words place e =
     go (judgedNode catalogue made (readNode (take planNodeWords words))) e (λ width later. illegal-inside catalogue count (made ++ (width ∷ [])) (drop planNodeWords words) place later)
   where
-    rest : ℕ → Judgement
-    rest width = judgeNodes catalogue count (made ++ (width ∷ [])) (drop planNodeWords words)
+    rest : ℕ → PlanJudgement
+    rest width = judgePlanNodes catalogue count (made ++ (width ∷ [])) (drop planNodeWords words)
 
     go : (width : Width) → onward width (length made) rest ≡ Illegal place → ((w : ℕ) → rest w ≡ Illegal place → place ≤ length (made ++ (w ∷ [])) + count) → place ≤ length made + suc count
     go (Of width) e later = omega (arith, later width e, length-append made (width ∷ []))
     go NoWidth e later = let is : length made ≡ place = cc in omega arith
 
-illegal-bounded : (catalogue plan : List ℕ) (place : ℕ) → judgement catalogue plan ≡ Illegal place → place ≤ planNodeLimit
+illegal-bounded : (catalogue plan : List ℕ) (place : ℕ) → planJudgement catalogue plan ≡ Illegal place → place ≤ planNodeLimit
 illegal-bounded catalogue plan place e = go (eqb (length plan % planNodeWords) 0 && between 1 planNodeLimit (length plan / planNodeWords)) refl e
   where
     go : (whole : Bool) → (eqb (length plan % planNodeWords) 0 && between 1 planNodeLimit (length plan / planNodeWords)) ≡ whole
-        → cond whole (judgeNodes catalogue (length plan / planNodeWords) [] plan) (Illegal 0) ≡ Illegal place → place ≤ planNodeLimit
+        → cond whole (judgePlanNodes catalogue (length plan / planNodeWords) [] plan) (Illegal 0) ≡ Illegal place → place ≤ planNodeLimit
     go true whole e =
         let few : length plan / planNodeWords ≤ planNodeLimit = so-between 1 planNodeLimit (length plan / planNodeWords) (and-right (eqb (length plan % planNodeWords) 0) (between 1 planNodeLimit (length plan / planNodeWords)) whole) .1 in
         omega (arith, few, illegal-inside catalogue (length plan / planNodeWords) [] plan place e)
@@ -95,9 +95,9 @@ rows-words : (rows width : ℕ) → 1 ≤ width → rows ≤ rows * width
 rows-words rows zero h = absurd (omega arith)
 rows-words rows (suc width) h = omega arith
 
-module _ (catalogue tables plan : List ℕ) (nodes : ℕ) (ok : tablesOk catalogue tables ≡ true) (judged : judgement catalogue plan ≡ Legal nodes) where
+module _ (catalogue tables plan : List ℕ) (nodes : ℕ) (ok : tablesOk catalogue tables ≡ true) (judged : planJudgement catalogue plan ≡ Legal nodes) where
   abbrev whole : List Node
-  whole = nodesOf plan
+  whole = nodesOfPlan plan
 
   abbrev allWidths : List ℕ
   allWidths = widths (columnsOf catalogue) whole
@@ -153,14 +153,14 @@ module _ (catalogue tables plan : List ℕ) (nodes : ℕ) (ok : tablesOk catalog
         go false = answered-bounded (omega (arith, small, room-bounded capacity e))
 
 module _ (catalogue tables plan work output : List ℕ) where
-  judged-bounded : tablesOk catalogue tables ≡ true → (judged : Judgement) → judgement catalogue plan ≡ judged → Bounded (judgedOutcome catalogue tables plan work output judged .numbers)
+  judged-bounded : tablesOk catalogue tables ≡ true → (judged : PlanJudgement) → planJudgement catalogue plan ≡ judged → Bounded (judgedOutcome catalogue tables plan work output judged .numbers)
   judged-bounded ok (Illegal place) e = refusal-bounded 9 place (illegal-bounded catalogue plan place e)
-  judged-bounded ok (Legal nodes) e = ran-bounded catalogue tables plan nodes ok e (cleared work) output (capacityOf work) (omega arith) (fitWithin catalogue tables (nodesOf plan) (capacityOf work)) refl
+  judged-bounded ok (Legal nodes) e = ran-bounded catalogue tables plan nodes ok e (cleared work) output (capacityOf work) (omega arith) (fitWithin catalogue tables (nodesOfPlan plan) (capacityOf work)) refl
 
   pub run-bounded : Bounded (runOutcome catalogue tables plan work output .numbers)
   unfolding runOutcome
   run-bounded = go (tablesOk catalogue tables) refl
     where
-      go : (ok : Bool) → tablesOk catalogue tables ≡ ok → Bounded (cond (not ok) (refused catalogue tables plan work output 7 0) (judgedOutcome catalogue tables plan work output (judgement catalogue plan)) .numbers)
-      go true ok = judged-bounded ok (judgement catalogue plan) refl
+      go : (ok : Bool) → tablesOk catalogue tables ≡ ok → Bounded (cond (not ok) (refused catalogue tables plan work output 7 0) (judgedOutcome catalogue tables plan work output (planJudgement catalogue plan)) .numbers)
+      go true ok = judged-bounded ok (planJudgement catalogue plan) refl
       go false ok = refusal-bounded 7 0 (omega arith)

@@ -27,13 +27,13 @@ use Rattle.relations.proofs.PlanWidths.{widths-kept}
 use Rattle.relations.proofs.ValueLaws.{ascending-canonical}
 use Rattle.catalogue.specs.Judging.{tablesOk}
 use Rattle.values.specs.Words.{rowsAt, rowsOf, end}
-use Rattle.values.specs.Building.{Makes}
+use Rattle.values.specs.Building.{Blank, Makes}
 use Rattle.values.specs.declared.rows.Value.{Value}
 use Rattle.values.specs.declared.placing.Placed.the-variants.{Rows as Placed·Rows}
-use Rattle.values.proofs.MakeLaws.{makes-fits, makes-count, makes-full}
+use Rattle.values.proofs.MakeLaws.{makes-length, makes-fits, makes-count, makes-full}
 use Rattle.catalogue.specs.Stored.{relationsOf, columnsOf, storedTables}
-use Rattle.plans.specs.Judging.{legalRead, judgeNodes, judgement, nodesIn, nodesOf}
-use Rattle.plans.specs.declared.judging.Judgement.the-variants.{Legal}
+use Rattle.plans.specs.Judging.{legalRead, judgePlanNodes, planJudgement, nodesIn, nodesOfPlan}
+use Rattle.plans.specs.declared.judging.PlanJudgement.the-variants.{Legal}
 use Rattle.plans.proofs.PlanTheorem.{judged-exactly}
 use Rattle.running.specs.Standing.{valuesIn, noValue, valueNamed, standing, StandsBefore, Stand}
 use Rattle.running.specs.NodeRun.{weightOf, placedOf, NodeRun}
@@ -49,12 +49,12 @@ use Rattle.running.proofs.NextLaws.{Next, next-node, run-next, wide-can
 -- The nodes before `place` are run: the three tables list their values, which stand in front of `out`; what is still to come completes the whole.
 -- `ws` and `vs` are the widths and the rows of the values made.
 pub record Reached (catalogue tables plan : List ℕ) (nodes capacity place at out heavies : ℕ) (ws : List ℕ) (vs : List Rows) : Type 0 where
-  pub judged : judgeNodes catalogue (nodes - place) ws (drop at plan) ≡ Legal nodes
-  pub widthsAll : widths (columnsOf catalogue) (nodesOf plan) ≡ run (widthOfNode (columnsOf catalogue)) ws (nodesIn (nodes - place) (drop at plan))
-  pub valuesAll : values (storedTables catalogue tables) (nodesOf plan) ≡ run (valueOfNode (storedTables catalogue tables)) vs (nodesIn (nodes - place) (drop at plan))
-  pub fit : fitWithin catalogue tables (nodesOf plan) capacity ≡ fitOf capacity out place (sizesFrom (columnsOf catalogue) (storedTables catalogue tables) ws vs (nodesIn (nodes - place) (drop at plan)))
-  pub heavy : heavyOf (nodesOf plan) ≡ heavies + heavyOf (nodesIn (nodes - place) (drop at plan))
-  pub room : planRoom catalogue tables (nodesOf plan) ≡ out + total (sizesFrom (columnsOf catalogue) (storedTables catalogue tables) ws vs (nodesIn (nodes - place) (drop at plan)))
+  pub judged : judgePlanNodes catalogue (nodes - place) ws (drop at plan) ≡ Legal nodes
+  pub widthsAll : widths (columnsOf catalogue) (nodesOfPlan plan) ≡ run (widthOfNode (columnsOf catalogue)) ws (nodesIn (nodes - place) (drop at plan))
+  pub valuesAll : values (storedTables catalogue tables) (nodesOfPlan plan) ≡ run (valueOfNode (storedTables catalogue tables)) vs (nodesIn (nodes - place) (drop at plan))
+  pub fit : fitWithin catalogue tables (nodesOfPlan plan) capacity ≡ fitOf capacity out place (sizesFrom (columnsOf catalogue) (storedTables catalogue tables) ws vs (nodesIn (nodes - place) (drop at plan)))
+  pub heavy : heavyOf (nodesOfPlan plan) ≡ heavies + heavyOf (nodesIn (nodes - place) (drop at plan))
+  pub room : planRoom catalogue tables (nodesOfPlan plan) ≡ out + total (sizesFrom (columnsOf catalogue) (storedTables catalogue tables) ws vs (nodesIn (nodes - place) (drop at plan)))
 
 -- The loop: three tables of the node limit list the values made, of which the first `place` are there.
 abbrev listed : (ws ns bs : List ℕ) (place : ℕ) → List Value
@@ -89,7 +89,7 @@ heavy-few (node ∷ nodes) = let rest : heavyOf nodes ≤ length nodes = heavy-f
     go true rest = omega arith
     go false rest = omega arith
 
-module _ (catalogue tables plan : List ℕ) (nodes : ℕ) (ok : tablesOk catalogue tables ≡ true) (judged : judgement catalogue plan ≡ Legal nodes) where
+module _ (catalogue tables plan : List ℕ) (nodes : ℕ) (ok : tablesOk catalogue tables ≡ true) (judged : planJudgement catalogue plan ≡ Legal nodes) where
   abbrev columns : ℕ → ℕ
   columns = columnsOf catalogue
 
@@ -97,7 +97,7 @@ module _ (catalogue tables plan : List ℕ) (nodes : ℕ) (ok : tablesOk catalog
   stored = storedTables catalogue tables
 
   abbrev whole : List Node
-  whole = nodesOf plan
+  whole = nodesOfPlan plan
 
   legal-plan : So (legalPlan columns (relationsOf catalogue) whole)
   legal-plan = judged-exactly catalogue .sound plan nodes judged .0
@@ -155,7 +155,7 @@ module _ (catalogue tables plan : List ℕ) (nodes : ℕ) (ok : tablesOk catalog
           let coming : behind ≡ nodesIn (nodes - (place + 1)) (drop (at + planNodeWords) plan) = ap₂ nodesIn left words in
           let sizes : List ℕ = sizesFrom columns stored (ws ++ (width ∷ [])) (vs ++ (rows ∷ [])) behind in
           record {
-            judged = ap₂ (λ (n : ℕ) (l : List ℕ). judgeNodes catalogue n (ws ++ (width ∷ [])) l) (sym left) (sym words) ∙ next .onward;
+            judged = ap₂ (λ (n : ℕ) (l : List ℕ). judgePlanNodes catalogue n (ws ++ (width ∷ [])) l) (sym left) (sym words) ∙ next .onward;
             widthsAll = rw (← coming) (r .widthsAll ∙ ap (run (widthOfNode columns) ws) (next .todo) ∙ run-step (widthOfNode columns) ws node behind);
             valuesAll = rw (← coming) (r .valuesAll ∙ ap (run (valueOfNode stored) vs) (next .todo) ∙ run-step (valueOfNode stored) vs node behind);
             fit =
@@ -219,9 +219,9 @@ module _ (catalogue tables plan : List ℕ) (nodes : ℕ) (ok : tablesOk catalog
   pub plan-long : planNodeWords * nodes ≤ length plan
   plan-long = omega (arith, judged-sized catalogue plan nodes judged .many)
 
-  pub running-start : (ws ns bs work : List ℕ) → length ws ≡ planNodeLimit → length ns ≡ planNodeLimit → length bs ≡ planNodeLimit → Running catalogue tables plan nodes (length work) ws ns bs 0 0 0 0 work
+  pub running-start : (ws ns bs work : List ℕ) → length ws ≡ planNodeLimit → length ns ≡ planNodeLimit → length bs ≡ planNodeLimit → Blank 0 work → Running catalogue tables plan nodes (length work) ws ns bs 0 0 0 0 work
   unfolding valuesIn
-  running-start ws ns bs work w n b =
+  running-start ws ns bs work w n b clear =
       record {
         inPlan = omega arith;
         here = omega arith;
@@ -229,7 +229,7 @@ module _ (catalogue tables plan : List ℕ) (nodes : ℕ) (ok : tablesOk catalog
         rowsLong = n;
         basesLong = b;
         size = refl;
-        stand = record { rowsMany = refl; basesMany = refl; each = tt; inside = omega arith };
+        stand = record { rowsMany = refl; basesMany = refl; each = tt; inside = omega arith; blank = clear };
         reached = reached-start (length work);
       }
 
@@ -262,7 +262,7 @@ module _ (catalogue tables plan : List ℕ) (nodes : ℕ) (ok : tablesOk catalog
         pub running-off : answer ≡ NoRoom → fitWithin catalogue tables whole (length after) ≡ passesAt place
         running-off e =
             let over : length work - out < length (valueOfNode stored there (coming .node)) * widthOfNode columns (take place ws) (coming .node) = makes-full (rw e at made) (wide (r .reached) widths-there values-there more) in
-            let same : length after ≡ capacity = made .size ∙ r .size in
+            let same : length after ≡ capacity = makes-length (r .stand .inside) (r .stand .blank) made ∙ r .size in
             rw same (reached-off (r .reached) widths-there values-there more (omega (arith, over, r .size, r .stand .inside)))
 
         -- its value stands behind the others
@@ -274,7 +274,7 @@ module _ (catalogue tables plan : List ℕ) (nodes : ℕ) (ok : tablesOk catalog
           placed = rw (counted .0) (rw e at made)
 
           pub running-fits : out + count * width ≤ length work
-          running-fits = omega (arith, makes-fits placed, placed .size)
+          running-fits = omega (arith, makes-fits (r .stand .inside) (r .stand .blank) placed, makes-length (r .stand .inside) (r .stand .blank) placed)
 
           pub running-on : Running catalogue tables plan nodes capacity (set ws place width) (set ns place count) (set bs place out) (heavies + weight) (out + count * width) (place + 1) (at + planNodeWords) after
           running-on =
@@ -283,7 +283,7 @@ module _ (catalogue tables plan : List ℕ) (nodes : ℕ) (ok : tablesOk catalog
               let tn : take (place + 1) (set ns place count) ≡ take place ns ++ (count ∷ []) = rw (add-one place) (take-suc-set ns place count (omega (arith, r .rowsLong))) in
               let tb : take (place + 1) (set bs place out) ≡ take place bs ++ (out ∷ []) = rw (add-one place) (take-suc-set bs place out (omega (arith, r .basesLong))) in
               let thin : (1 ≤ width) × (width ≤ columnLimit) = rw (counted .0) (narrow (r .reached) widths-there values-there more) in
-              let many : count ≡ length (valueOfNode stored there (coming .node)) = makes-count placed in
+              let many : count ≡ length (valueOfNode stored there (coming .node)) = makes-count (r .stand .inside) (r .stand .blank) placed in
               let words : count * width ≡ valueWords (widthOfNode columns (take place ws) (coming .node)) (valueOfNode stored there (coming .node)) = ap₂ _*_ many (counted .0) in
               record {
                 inPlan = omega arith;
@@ -291,7 +291,7 @@ module _ (catalogue tables plan : List ℕ) (nodes : ℕ) (ok : tablesOk catalog
                 widthsLong = length-set ws place width ∙ r .widthsLong;
                 rowsLong = length-set ns place count ∙ r .rowsLong;
                 basesLong = length-set bs place out ∙ r .basesLong;
-                size = placed .size ∙ r .size;
+                size = makes-length (r .stand .inside) (r .stand .blank) placed ∙ r .size;
                 stand = rw (tw, tn, tb) (stand-more (r .stand) placed (thin .0) (thin .1));
                 reached =
                     rw (tw, tn, tb, standing-more (r .stand) placed, words, counted .1, counted .0)

@@ -14,7 +14,7 @@ use Rattle.values.specs.Words.{rowsAt, rowsOf}
 use Rattle.values.specs.Building.{Makes}
 use Rattle.values.specs.declared.rows.Value.{Value}
 use Rattle.values.specs.declared.placing.Placed.the-variants.{Rows as Placed·Rows}
-use Rattle.values.proofs.MakeLaws.{makes-rows, makes-fits, makes-value}
+use Rattle.values.proofs.MakeLaws.{makes-rows, makes-value, makes-fits, makes-blank}
 use Rattle.running.specs.Standing.{valuesIn, noValue, valueNamed, standing, StandsBefore, Stand}
 
 -- Read by number.
@@ -104,7 +104,7 @@ module _ {widths rows bases : List ℕ} {out : ℕ} {work : List ℕ} (stand : S
   new = record { base = out; rows = count; width = width }
 
   same-rows : (z n a : ℕ) → a + n * z ≤ out → rowsAt z n a after ≡ rowsAt z n a work
-  same-rows z n a h = makes-rows g z n a h
+  same-rows z n a h = makes-rows (stand .inside) (stand .blank) g z n a h
 
   more-values : valuesIn (widths ++ (width ∷ [])) (rows ++ (count ∷ [])) (bases ++ (out ∷ [])) ≡ before ++ (new ∷ [])
   more-values = values-more widths rows bases width count out (stand .rowsMany) (stand .basesMany)
@@ -112,7 +112,7 @@ module _ {widths rows bases : List ℕ} {out : ℕ} {work : List ℕ} (stand : S
   pub standing-more : standing (valuesIn (widths ++ (width ∷ [])) (rows ++ (count ∷ [])) (bases ++ (out ∷ []))) after ≡ standing before work ++ (canonical cs ∷ [])
   standing-more =
       ap (λ (made : List Value). standing made after) more-values ∙ standing-append before new after
-      ∙ ap₂ (λ (some : List Rows) (one : Rows). some ++ (one ∷ [])) (standing-kept out out work after (omega arith) same-rows before (stand .each)) (makes-value g)
+      ∙ ap₂ (λ (some : List Rows) (one : Rows). some ++ (one ∷ [])) (standing-kept out out work after (omega arith) same-rows before (stand .each)) (makes-value (stand .inside) (stand .blank) g)
 
   pub stand-more : 1 ≤ width → width ≤ columnLimit → Stand (widths ++ (width ∷ [])) (rows ++ (count ∷ [])) (bases ++ (out ∷ [])) (out + count * width) after
   stand-more some few =
@@ -123,6 +123,7 @@ module _ {widths rows bases : List ℕ} {out : ℕ} {work : List ℕ} (stand : S
             rw more-values
             (all-append (StandsBefore (out + count * width) after) before (new ∷ [])
             (each-kept out (out + count * width) work after (omega arith) same-rows before (stand .each))
-            ((some, few, omega arith, rw (makes-value g) (ascending-canonical cs)), tt));
-        inside = makes-fits g;
+            ((some, few, omega arith, rw (makes-value (stand .inside) (stand .blank) g) (ascending-canonical cs)), tt));
+        inside = makes-fits (stand .inside) (stand .blank) g;
+        blank = makes-blank (stand .inside) (stand .blank) g;
       }

@@ -12,9 +12,9 @@ use Rattle.relations.specs.Plan.{values, answer, widths, widthAt, valueWords, h
 use Rattle.catalogue.specs.Judging.{tablesOk}
 use Rattle.values.specs.Words.{wordsOf}
 use Rattle.catalogue.specs.Stored.{columnsOf, storedTables}
-use Rattle.plans.specs.Judging.{judgement, nodesOf}
-use Rattle.plans.specs.declared.judging.Judgement.{Judgement}
-use Rattle.plans.specs.declared.judging.Judgement.the-variants.{Legal, Illegal}
+use Rattle.plans.specs.Judging.{planJudgement, nodesOfPlan}
+use Rattle.plans.specs.declared.judging.PlanJudgement.{PlanJudgement}
+use Rattle.plans.specs.declared.judging.PlanJudgement.the-variants.{Legal, Illegal}
 use Rattle.running.specs.declared.Ran.{Ran}
 use Rattle.running.specs.declared.Ran.the-variants.{Done, WrongTables, IllegalPlan, NoRoom, LongAnswer}
 
@@ -109,10 +109,10 @@ module _ (catalogue tables plan work output : List ℕ) where
   abbrev pub refused : (status place : ℕ) → RunOutcome
   refused status place = record { numbers = runRefusal status place; work = work; output = output }
 
-  abbrev pub judgedOutcome : Judgement → RunOutcome
+  abbrev pub judgedOutcome : PlanJudgement → RunOutcome
   judgedOutcome (Illegal place) = refused 9 place
-  judgedOutcome (Legal count) = ranOutcome catalogue tables (nodesOf plan) (cleared work) output (fitWithin catalogue tables (nodesOf plan) (capacityOf work))
+  judgedOutcome (Legal count) = ranOutcome catalogue tables (nodesOfPlan plan) (cleared work) output (fitWithin catalogue tables (nodesOfPlan plan) (capacityOf work))
 
   -- "Run: 7, 9, 10, 11"
   unfoldable pub runOutcome : RunOutcome
-  runOutcome = cond (not (tablesOk catalogue tables)) (refused 7 0) (judgedOutcome (judgement catalogue plan))
+  runOutcome = cond (not (tablesOk catalogue tables)) (refused 7 0) (judgedOutcome (planJudgement catalogue plan))

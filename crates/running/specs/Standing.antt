@@ -7,6 +7,7 @@ use Rattle.relations.specs.Limits.{columnLimit}
 use Rattle.relations.specs.Lists.{All}
 use Rattle.relations.specs.Values.{Rows, Ascending}
 use Rattle.values.specs.Words.{rowsOf, end}
+use Rattle.values.specs.Building.{Blank}
 use Rattle.values.specs.declared.rows.Value.{Value}
 
 unfoldable pub valuesIn : (widths rows bases : List ℕ) → List Value
@@ -30,9 +31,10 @@ standing made work = map (λ value. rowsOf value work) made
 abbrev pub StandsBefore : (out : ℕ) (work : List ℕ) → Value → Type 0
 StandsBefore out work value = (0 < value .width) × (value .width ≤ columnLimit) × (end value ≤ out) × Ascending (rowsOf value work)
 
--- so does every value that the tables list
+-- so does every value that the tables list, and behind `out` stands nothing
 pub record Stand (widths rows bases : List ℕ) (out : ℕ) (work : List ℕ) : Type 0 where
   pub rowsMany : length rows ≡ length widths
   pub basesMany : length bases ≡ length widths
   pub each : All (StandsBefore out work) (valuesIn widths rows bases)
   pub inside : out ≤ length work
+  pub blank : Blank out work

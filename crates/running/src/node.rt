@@ -10,7 +10,7 @@ ghost use Rattle.relations.specs.Operations.{loadCandidates, selectConstantCand
 ghost use Rattle.relations.specs.PlanWords.{readNode};
 ghost use Rattle.catalogue.specs.Judging.{tablesOk};
 ghost use Rattle.values.specs.Words.{rowsOf, end};
-ghost use Rattle.values.specs.Building.{Builds, Makes};
+ghost use Rattle.values.specs.Building.{Builds, Blank, Makes};
 ghost use Rattle.operations.specs.Lists.{operatorNamed};
 ghost use Rattle.catalogue.specs.Stored.{relationsOf, columnsOf, storedTables};
 ghost use Rattle.plans.specs.Decoding.{operationIn, decoded};
@@ -40,6 +40,7 @@ use plans::nodes::Decoded;
 use plans::nodes::Operation;
 use plans::nodes::PlanNode;
 use plans::nodes::decode_node;
+use values::clearing::finish;
 use values::placing::Placed;
 use values::rows::Value;
 
@@ -81,7 +82,7 @@ fn load_relation(
     work: &mut [u32],
     out: usize,
 ) -> Placed
-    requires { ⌜ (tablesOk (now catalogue) (now tables) ≡ true) × (relation < relationsOf (now catalogue)) × (out ≤ length (now work)) ⌝ }
+    requires { ⌜ (tablesOk (now catalogue) (now tables) ≡ true) × (relation < relationsOf (now catalogue)) × (out ≤ length (now work)) × Blank out (now work) ⌝ }
     ensures { λ r. ⌜ Makes (columnsOf (now (catalogue .entry)) relation) out (loadCandidates (storedTables (now (catalogue .entry)) (now (tables .entry)) relation)) (now (work .entry)) (now (work .exit)) r ⌝ }
 {
     let base = start_of(catalogue, relation);
@@ -132,16 +133,16 @@ fn make_value(
     let right = value_at(widths, rows, bases, node.right);
     match operation {
         Operation::Load => load_relation(catalogue, tables, node.left, work, out),
-        Operation::Project => project(list, count, work, left, out),
-        Operation::SelectConstant => select_by_constant(list, work, left, out),
-        Operation::SelectAttribute => select_by_attribute(list, work, left, out),
-        Operation::Join => join(list, count, work, left, right, out),
+        Operation::Project => finish(project(list, count, work, left, out), work, out),
+        Operation::SelectConstant => finish(select_by_constant(list, work, left, out), work, out),
+        Operation::SelectAttribute => finish(select_by_attribute(list, work, left, out), work, out),
+        Operation::Join => finish(join(list, count, work, left, right, out), work, out),
         Operation::Semijoin => semijoin(list, count, work, left, right, out),
         Operation::Antijoin => antijoin(list, count, work, left, right, out),
-        Operation::Divide => divide(list, count, work, left, right, out),
+        Operation::Divide => finish(divide(list, count, work, left, right, out), work, out),
         Operation::Unite => unite(work, left, right, out),
-        Operation::Intersect => intersect(work, left, right, out),
-        Operation::Subtract => subtract(work, left, right, out),
+        Operation::Intersect => finish(intersect(work, left, right, out), work, out),
+        Operation::Subtract => finish(subtract(work, left, right, out), work, out),
     }
 }
 

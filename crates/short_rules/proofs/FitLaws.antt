@@ -14,9 +14,9 @@ use Rattle.calculus.specs.Form.{GoodCondition}
 use Rattle.calculus.specs.Leaves.{isAndTree, leaves}
 use Rattle.calculus.specs.ShortRules.{shortRule2Fits, shortRule3Fits, shortRule5Fits, shortRule6Fits}
 use Rattle.question.specs.Trees.{Reading, readingOf}
-use Rattle.question.specs.declared.node.Node as question
-use Rattle.question.specs.declared.node.Node.the-variants.{Table, Alpha, Target, Binding, RangeOr, RangeAnd, RangeAndNot, Atom as AtomNode, And, Or, Not, Some, Every, IllFormed}
-use Rattle.question.proofs.node.Node.{the-type}
+use Rattle.nodes.specs.declared.node.Node as question
+use Rattle.nodes.specs.declared.node.Node.the-variants.{Table, Alpha, Target, Binding, RangeOr, RangeAnd, RangeAndNot, Atom as AtomNode, And, Or, Not, Some, Every, IllFormed}
+use Rattle.nodes.proofs.node.Node.{the-type}
 use Rattle.conditions.specs.Leaves.{atomsOf, LeavesOf}
 use Rattle.conditions.specs.declared.leaves.Leaves.{Leaves}
 

@@ -21,8 +21,8 @@ use Rattle.calculus.specs.Question as calculus
 use Rattle.calculus.specs.Scope.{entry, Scope, columnNumber}
 use Rattle.conditions.specs.Entries.{entries}
 use Rattle.conditions.specs.Leaves.{leafAt}
-use Rattle.emission.specs.Listings.{listing, numbersOf}
-use Rattle.emission.specs.declared.listing.Listing.{Listing}
+use Rattle.emission.specs.NodeLists.{nodeList, numbersOf}
+use Rattle.emission.specs.declared.node_list.NodeList.{NodeList}
 use Rattle.emission.specs.Written.{Written}
 use Rattle.short_rules.specs.Rules.{selectsBehind, dividendBehind}
 use Rattle.conditions.specs.declared.leaves.Leaves.{Leaves}
@@ -145,12 +145,12 @@ outside-size s z [] column = refl
 outside-size s z (a ∷ atoms) column = omega (arith, outside-size s z atoms (suc column))
 
 -- S5's columns: those of the equations with a variable outside stand first
-module _ (s : Scope) (z y : ℕ) (atoms : List calculus.Atom) {triples : Listing} (outside : triples ≡ listing (flat tripleWords (outsideTriples s z (filter (equatesOutside z y) atoms) 1))) where
+module _ (s : Scope) (z y : ℕ) (atoms : List calculus.Atom) {triples : NodeList} (outside : triples ≡ nodeList (flat tripleWords (outsideTriples s z (filter (equatesOutside z y) atoms) 1))) where
   pub outside-count : triples .used / 3 + 1 ≡ suc (length (filter (equatesOutside z y) atoms))
-  outside-count = omega (arith, ap (λ (list : Listing). list .used) outside, outside-size s z (filter (equatesOutside z y) atoms) 1)
+  outside-count = omega (arith, ap (λ (list : NodeList). list .used) outside, outside-size s z (filter (equatesOutside z y) atoms) 1)
 
-  pub pairs-counted : {pairs : Listing} → pairs ≡ listing (flat pairWords (divisionPairs z (filter (equatesWith z y) atoms) (triples .used / 3 + 1))) → pairs ≡ listing (flat pairWords (divisionPairs z (filter (equatesWith z y) atoms) (suc (length (filter (equatesOutside z y) atoms)))))
-  pairs-counted e = e ∙ ap (λ (first : ℕ). listing (flat pairWords (divisionPairs z (filter (equatesWith z y) atoms) first))) outside-count
+  pub pairs-counted : {pairs : NodeList} → pairs ≡ nodeList (flat pairWords (divisionPairs z (filter (equatesWith z y) atoms) (triples .used / 3 + 1))) → pairs ≡ nodeList (flat pairWords (divisionPairs z (filter (equatesWith z y) atoms) (suc (length (filter (equatesOutside z y) atoms)))))
+  pairs-counted e = e ∙ ap (λ (first : ℕ). nodeList (flat pairWords (divisionPairs z (filter (equatesWith z y) atoms) first))) outside-count
 
 pub own-size : (z : ℕ) (atoms : List calculus.Atom) → length (numbersOf (map (ownAttribute z) atoms)) ≡ length atoms
 own-size z atoms = length-map (map (ownAttribute z) atoms) (λ a. a .number) ∙ length-map atoms (ownAttribute z)

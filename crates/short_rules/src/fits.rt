@@ -1,15 +1,13 @@
 // When each of the short rules fits.
 ghost use mathlib.Core.Path.{_≡_};
 ghost use mathlib.Core.Bool.{cond, _&&_, _||_};
-ghost use mathlib.Core.List.{List};
 ghost use Prim.Native.Nat.{_≤_};
 ghost use Rattle.relations.specs.Limits.{listWords, questionNodeLimit};
-ghost use Rattle.relations.specs.Columns as columns;
 ghost use Rattle.calculus.specs.Question as calculus;
 ghost use Rattle.calculus.specs.ShortRules.{shortRule1Fits, shortRule2Atoms, shortRule3Fits, shortRule5Atoms, shortRule5Fits, shortRule6Fits};
 ghost use Rattle.conditions.specs.Readings.{Names, conditionAt};
 ghost use Rattle.conditions.specs.Leaves.{atomsOf, LeavesFit};
-ghost use Rattle.emission.specs.Listings.{listing, numbersOf};
+ghost use Rattle.emission.specs.NodeLists.{attributesIn};
 use conditions::atom::alone_on;
 use conditions::atom::compares_with_other;
 use conditions::atom::equates_outside;
@@ -19,14 +17,14 @@ use conditions::leaves::leaf;
 use conditions::leaves::leaves_of;
 use emission::limits::PAIRS;
 use emission::limits::TRIPLES;
-use emission::listing::Listing;
-use question::node::Node;
-use question::node::decode;
+use emission::node_list::NodeList;
+use nodes::node::Node;
+use nodes::node::decode;
 
 // S1: a project on all columns in order is not written.
-pub fn short_rule_1_fits(width: u32, attributes: Listing) -> bool
+pub fn short_rule_1_fits(width: u32, attributes: NodeList) -> bool
     requires { ⌜ attributes .used ≤ listWords ⌝ }
-    ensures { λ r. ⌜ ((listed : List columns.Attribute) → attributes ≡ listing (numbersOf listed) → r ≡ shortRule1Fits width listed) ⌝ }
+    ensures { λ r. ⌜ r ≡ shortRule1Fits width (attributesIn attributes) ⌝ }
 {
     if attributes.used != width {
         return false;

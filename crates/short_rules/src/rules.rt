@@ -1,11 +1,10 @@
 // The nodes that each of the short rules writes.
 ghost use mathlib.Core.Path.{_≡_};
-ghost use mathlib.Core.List.{List, [], _∷_, map};
+ghost use mathlib.Core.List.{[], _∷_, map};
 ghost use Prim.Native.Nat.{_+_, _≤_, _<_, pred};
 ghost use lib.ListN.{length};
 ghost use Rattle.relations.specs.Limits.{columnLimit, listWords, tripleLimit, pairLimit};
 ghost use Rattle.relations.specs.Lists.{flat, filter};
-ghost use Rattle.relations.specs.Columns as columns;
 ghost use Rattle.relations.specs.PlanWords.{tripleWords, pairWords};
 ghost use Rattle.calculus.specs.Leaves.{aloneOn, comparesWithOther, equatesWith, equatesOutside, ownAttribute};
 ghost use Rattle.calculus.specs.ShortRules.{selectNode, selectNodes, projectNodes, triplesOf, outsideTriples, divisionPairs, shortRule6Nodes};
@@ -15,7 +14,7 @@ ghost use Rattle.conditions.specs.Atoms.{AtomNarrow};
 ghost use Rattle.conditions.specs.Leaves.{atomsOf, LeavesFit};
 ghost use Rattle.conditions.specs.Leaves as specs;
 ghost use Rattle.short_rules.specs.Rules as rules;
-ghost use Rattle.emission.specs.Listings.{listing, Longer, numbersOf};
+ghost use Rattle.emission.specs.NodeLists.{nodeList, grownBy, numbersOf, attributesIn, ListsAttributes};
 ghost use Rattle.emission.specs.Written.{Room, Written};
 ghost use Rattle.short_rules.specs.Rules.{selectsBehind, semijoinBehind, antijoinBehind, dividendBehind, divisionBehind, RuleFits, DividendFits};
 use crate::fits::once;
@@ -36,22 +35,22 @@ use conditions::scope::Scope;
 use conditions::scope::column_of;
 use conditions::scope::empty;
 use conditions::scope::extend;
+use emission::emit::Comparand;
 use emission::emit::antijoin;
 use emission::emit::divide;
 use emission::emit::project;
-use emission::emit::select_attribute;
-use emission::emit::select_constant;
+use emission::emit::select;
 use emission::emit::semijoin;
 use emission::emit::unite;
-use emission::listing::Listing;
-use emission::listing::no_list;
-use emission::listing::with_pair_if;
-use emission::listing::with_triple;
-use emission::listing::with_triple_if;
-use emission::listing::with_word_if;
-use question::node::Atom;
-use question::node::Attribute;
-use question::node::Operand;
+use emission::node_list::NodeList;
+use emission::node_list::no_list;
+use emission::node_list::with_pair_if;
+use emission::node_list::with_triple;
+use emission::node_list::with_triple_if;
+use emission::node_list::with_word_if;
+use nodes::node::Atom;
+use nodes::node::Attribute;
+use nodes::node::Operand;
 
 // Atom: select. A select keeps the atom's sides.
 pub fn write_select(scope: Scope, atom: Atom, p: u32, plan: &mut [u32], n: u32) -> u32
@@ -68,16 +67,23 @@ pub fn write_select(scope: Scope, atom: Atom, p: u32, plan: &mut [u32], n: u32) 
             attribute: other,
         } => {
             let with = column_of(scope, variable, other);
-            select_attribute(plan, n, p, attribute, operator, with)
+            select(plan, n, p, attribute, operator, Comparand::Attribute(with))
         }
-        Operand::Fixed(constant) => select_constant(plan, n, p, attribute, operator, constant),
+        Operand::Fixed(constant) => select(
+            plan,
+            n,
+            p,
+            attribute,
+            operator,
+            Comparand::Constant(constant),
+        ),
     }
 }
 
 // The triple of an atom that compares x with another variable: P's column is on the left, and the operator is turned when the sides are.
-fn with_triple_of(list: Listing, scope: Scope, x: u32, atom: Atom) -> Listing
+fn with_triple_of(list: NodeList, scope: Scope, x: u32, atom: Atom) -> NodeList
     requires { ⌜ ScopeFits scope × AtomNarrow atom × (list .used + length (flat tripleWords (triplesOf (scopeOf scope) x (atomOf atom ∷ []))) ≤ listWords) ⌝ }
-    ensures { λ r. ⌜ Longer list (flat tripleWords (triplesOf (scopeOf scope) x (atomOf atom ∷ []))) r ⌝ }
+    ensures { λ r. ⌜ r ≡ grownBy list (flat tripleWords (triplesOf (scopeOf scope) x (atomOf atom ∷ []))) ⌝ }
 {
     if !compares_with_other(x, atom) {
         return list;
@@ -90,9 +96,9 @@ fn with_triple_of(list: Listing, scope: Scope, x: u32, atom: Atom) -> Listing
     with_triple(list, other, atom.operator, own)
 }
 
-fn triples_of(words: &[u32], scope: Scope, x: u32, leaves: Leaves) -> Listing
+fn triples_of(words: &[u32], scope: Scope, x: u32, leaves: Leaves) -> NodeList
     requires { ⌜ ScopeFits scope × LeavesFit (now words) leaves × (length (filter (comparesWithOther x) (atomsOf (now words) leaves)) ≤ tripleLimit) ⌝ }
-    ensures { λ r. ⌜ r ≡ listing (flat tripleWords (triplesOf (scopeOf scope) x (atomsOf (now (words .entry)) leaves))) ⌝ }
+    ensures { λ r. ⌜ r ≡ nodeList (flat tripleWords (triplesOf (scopeOf scope) x (atomsOf (now (words .entry)) leaves))) ⌝ }
 {
     let mut list = no_list();
     let mut i: usize = 0;
@@ -215,12 +221,12 @@ pub fn write_project(
     short: bool,
     width: u32,
     p: u32,
-    attributes: Listing,
+    attributes: NodeList,
     plan: &mut [u32],
     n: u32,
 ) -> u32
-    requires { ⌜ (attributes .used ≤ listWords) × Room (now plan) n 1 ⌝ }
-    ensures { λ r. ⌜ ((listed : List columns.Attribute) → attributes ≡ listing (numbersOf listed) → Written (now (plan .entry)) n (projectNodes short width p listed) (now (plan .exit)) r) ⌝ }
+    requires { ⌜ ListsAttributes attributes × Room (now plan) n 1 ⌝ }
+    ensures { λ r. ⌜ Written (now (plan .entry)) n (projectNodes short width p (attributesIn attributes)) (now (plan .exit)) r ⌝ }
 {
     if short & short_rule_1_fits(width, attributes) {
         return n;
@@ -246,10 +252,10 @@ fn with_own_columns(
     z: u32,
     y: u32,
     leaves: Leaves,
-    list: Listing,
-) -> Listing
+    list: NodeList,
+) -> NodeList
     requires { ⌜ LeavesFit (now words) leaves × (list .used + length (filter (rules.links outside z y) (atomsOf (now words) leaves)) ≤ listWords) ⌝ }
-    ensures { λ r. ⌜ Longer list (numbersOf (map (ownAttribute z) (filter (rules.links outside z y) (atomsOf (now (words .entry)) leaves)))) r ⌝ }
+    ensures { λ r. ⌜ r ≡ grownBy list (numbersOf (map (ownAttribute z) (filter (rules.links outside z y) (atomsOf (now (words .entry)) leaves)))) ⌝ }
 {
     let mut longer = list;
     let mut i: usize = 0;
@@ -265,9 +271,9 @@ fn with_own_columns(
 }
 
 // Pairs (column, y's attribute) for the equations z = y; the columns count up from `first`.
-fn division_pairs(words: &[u32], z: u32, y: u32, leaves: Leaves, first: u32) -> Listing
+fn division_pairs(words: &[u32], z: u32, y: u32, leaves: Leaves, first: u32) -> NodeList
     requires { ⌜ LeavesFit (now words) leaves × (length (filter (equatesWith z y) (atomsOf (now words) leaves)) ≤ pairLimit) × (first ≤ columnLimit) ⌝ }
-    ensures { λ r. ⌜ r ≡ listing (flat pairWords (divisionPairs z (filter (equatesWith z y) (atomsOf (now (words .entry)) leaves)) first)) ⌝ }
+    ensures { λ r. ⌜ r ≡ nodeList (flat pairWords (divisionPairs z (filter (equatesWith z y) (atomsOf (now (words .entry)) leaves)) first)) ⌝ }
 {
     let mut list = no_list();
     let mut column = first;
@@ -286,9 +292,9 @@ fn division_pairs(words: &[u32], z: u32, y: u32, leaves: Leaves, first: u32) -> 
 }
 
 // Triples (P's column, =, column) for the equations with a variable outside; the columns count up from 1.
-fn outside_triples(words: &[u32], scope: Scope, z: u32, y: u32, leaves: Leaves) -> Listing
+fn outside_triples(words: &[u32], scope: Scope, z: u32, y: u32, leaves: Leaves) -> NodeList
     requires { ⌜ ScopeFits scope × LeavesFit (now words) leaves × (length (filter (equatesOutside z y) (atomsOf (now words) leaves)) ≤ tripleLimit) ⌝ }
-    ensures { λ r. ⌜ r ≡ listing (flat tripleWords (outsideTriples (scopeOf scope) z (filter (equatesOutside z y) (atomsOf (now (words .entry)) leaves)) 1)) ⌝ }
+    ensures { λ r. ⌜ r ≡ nodeList (flat tripleWords (outsideTriples (scopeOf scope) z (filter (equatesOutside z y) (atomsOf (now (words .entry)) leaves)) 1)) ⌝ }
 {
     let mut list = no_list();
     let mut column: u32 = 1;

@@ -18,19 +18,20 @@ use Rattle.relations.specs.PlanWords.{nodeWords}
 use Rattle.relations.proofs.BoolLaws.{and-right}
 use Rattle.calculus.specs.Claims.{TranslationRight}
 use Rattle.calculus.proofs.Theorems.{translation-right}
-use Rattle.catalogue.specs.Judging.{catalogueWords, catalogueOk, judged as judgedCatalogue}
+use Rattle.catalogue.specs.Judging.{catalogueWords, catalogueOk, CatalogueNumbers, catalogueNumbers, judgedCatalogue}
 use Rattle.catalogue.specs.declared.judging.Judged.the-variants.{Words, Wrong}
 use Rattle.catalogue.specs.Stored.{relationsOf, columnsOf}
 use Rattle.catalogue.proofs.TableLaws.{known-columns}
-use Rattle.question.specs.Accepted.{QuestionRight}
-use Rattle.question.specs.Nodes.{nodeCount}
-use Rattle.question.specs.Judgement.{countOk, judgeCount, judged}
+use Rattle.judgements.specs.Accepted.{QuestionRight}
+use Rattle.nodes.specs.Nodes.{nodeCount}
+use Rattle.question.specs.Judgement.{countOk, judgeCount}
+use Rattle.question.specs.Walk.{judgedByWalk}
 use Rattle.question.specs.Trees.{questionOf}
 use Rattle.question.specs.declared.judgement.Judgement.{Judgement}
 use Rattle.question.specs.declared.judgement.Judgement.the-variants.{Accepted, Refused}
-use Rattle.question.proofs.Accepted.{accepted-right, accepted-passed}
-use Rattle.question.specs.Faults.{judgedByFaults}
-use Rattle.question.proofs.FaultsDecide.{faults-decide}
+use Rattle.judgements.proofs.Accepted.{accepted-right, accepted-passed}
+use Rattle.judgements.specs.Faults.{judgedQuestion}
+use Rattle.judgements.proofs.FaultsDecide.{faults-decide}
 use Rattle.question.proofs.Counts.{counted}
 use Rattle.translation.specs.TranslateCall.{TranslateOutcome, planOf, planBufferWords, unwritten, written, judgedOutcome, behindCatalogue, isShort, translateOutcome}
 use Rattle.emission.specs.HeavyCount.{heavyIn}
@@ -38,7 +39,7 @@ use Rattle.planning.specs.Translating.{RangeReady, RangeDone}
 use Rattle.planning.specs.declared.translate.Made.{Made}
 use Rattle.emission.proofs.HeavyLaws.{heavy-written}
 
-module _ (catalogue question : List ℕ) (ok : catalogueOk catalogue ≡ true) (accepted : judged catalogue question ≡ Accepted) where
+module _ (catalogue question : List ℕ) (ok : catalogueOk catalogue ≡ true) (accepted : judgedByWalk catalogue question ≡ Accepted) where
   right : QuestionRight catalogue question
   right = accepted-right catalogue question (known-columns catalogue ok) accepted
 
@@ -89,7 +90,7 @@ module _ (catalogue question : List ℕ) (mode : ℕ) (plan : List ℕ) where
   count-refused {status} {place} e = go (countOk question) e
     where
       go : (good : Bool) → Refused status place ≡ cond good Accepted (Refused 1 0)
-          → unwritten catalogue question mode plan status place ≡ cond (not good) (unwritten catalogue question mode plan 1 0) (cond (ltb (length plan) planBufferWords) (unwritten catalogue question mode plan 8 0) (judgedOutcome catalogue question mode plan (judgedByFaults catalogue question)))
+          → unwritten catalogue question mode plan status place ≡ cond (not good) (unwritten catalogue question mode plan 1 0) (cond (ltb (length plan) planBufferWords) (unwritten catalogue question mode plan 8 0) (judgedOutcome catalogue question mode plan (judgedQuestion catalogue question)))
       go true h = let never : _≡_ {A = ℕ} 0 1 = cc in absurd (omega arith)
       go false h = let one : status ≡ 1 = cc in let first : place ≡ 0 = cc in rw (one, first)
 
@@ -104,31 +105,31 @@ module _ (catalogue question : List ℕ) (mode : ℕ) (plan : List ℕ) where
     pub plan-short : length plan < planBufferWords → unwritten catalogue question mode plan 8 0 ≡ behindCatalogue catalogue question mode plan
     plan-short h = rw (count-good, lt-ltb (length plan) planBufferWords h)
 
-    pub question-judged : catalogueOk catalogue ≡ true → planBufferWords ≤ length plan → (judgement : Judgement) → judgement ≡ judged catalogue question → judgedOutcome catalogue question mode plan judgement ≡ behindCatalogue catalogue question mode plan
+    pub question-judged : catalogueOk catalogue ≡ true → planBufferWords ≤ length plan → (judgement : Judgement) → judgement ≡ judgedByWalk catalogue question → judgedOutcome catalogue question mode plan judgement ≡ behindCatalogue catalogue question mode plan
     question-judged ok h judgement e =
         rw (count-good, le-ltb (length plan) planBufferWords h) (ap (judgedOutcome catalogue question mode plan) (e ∙ faults-decide catalogue question (known-columns catalogue ok)))
 
 -- Refusal 7.
 
-pub catalogue-good : (catalogue : List ℕ) {words : ℕ} → Words words ≡ judgedCatalogue catalogue → catalogueOk catalogue ≡ true
+pub catalogue-good : (catalogue : List ℕ) {words : ℕ} → catalogueNumbers (Words words) ≡ judgedCatalogue catalogue → catalogueOk catalogue ≡ true
 catalogue-good catalogue {words} e = go (catalogueOk catalogue) e
   where
-    go : (good : Bool) → Words words ≡ cond good (Words (catalogueWords catalogue)) Wrong → good ≡ true
+    go : (good : Bool) → catalogueNumbers (Words words) ≡ cond good (catalogueNumbers (Words (catalogueWords catalogue))) (catalogueNumbers Wrong) → good ≡ true
     go true h = refl
-    go false h = let never : _≡_ {A = ℕ} 0 1 = cc in absurd (omega arith)
+    go false h = let never : _≡_ {A = ℕ} 0 7 = ap (λ (n : CatalogueNumbers). n .status) h in absurd (omega arith)
 
-catalogue-wrong : (catalogue : List ℕ) → Wrong ≡ judgedCatalogue catalogue → catalogueOk catalogue ≡ false
+catalogue-wrong : (catalogue : List ℕ) → catalogueNumbers Wrong ≡ judgedCatalogue catalogue → catalogueOk catalogue ≡ false
 catalogue-wrong catalogue e = go (catalogueOk catalogue) e
   where
-    go : (good : Bool) → Wrong ≡ cond good (Words (catalogueWords catalogue)) Wrong → good ≡ false
-    go true h = let never : _≡_ {A = ℕ} 0 1 = cc in absurd (omega arith)
+    go : (good : Bool) → catalogueNumbers Wrong ≡ cond good (catalogueNumbers (Words (catalogueWords catalogue))) (catalogueNumbers Wrong) → good ≡ false
+    go true h = let never : _≡_ {A = ℕ} 7 0 = ap (λ (n : CatalogueNumbers). n .status) h in absurd (omega arith)
     go false h = refl
 
 module _ (catalogue question : List ℕ) (mode : ℕ) (plan : List ℕ) where
-  pub wrong-refused : Wrong ≡ judgedCatalogue catalogue → unwritten catalogue question mode plan 7 0 ≡ translateOutcome catalogue question mode plan
+  pub wrong-refused : catalogueNumbers Wrong ≡ judgedCatalogue catalogue → unwritten catalogue question mode plan 7 0 ≡ translateOutcome catalogue question mode plan
   unfolding translateOutcome
   wrong-refused e = rw (catalogue-wrong catalogue e)
 
-  pub good-translated : {words : ℕ} {outcome : TranslateOutcome} → Words words ≡ judgedCatalogue catalogue → outcome ≡ behindCatalogue catalogue question mode plan → outcome ≡ translateOutcome catalogue question mode plan
+  pub good-translated : {words : ℕ} {outcome : TranslateOutcome} → catalogueNumbers (Words words) ≡ judgedCatalogue catalogue → outcome ≡ behindCatalogue catalogue question mode plan → outcome ≡ translateOutcome catalogue question mode plan
   unfolding translateOutcome
   good-translated e g = rw (catalogue-good catalogue e) g

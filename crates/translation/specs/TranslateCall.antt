@@ -15,7 +15,7 @@ use Rattle.catalogue.specs.Judging.{catalogueOk}
 use Rattle.catalogue.specs.Stored.{columnsOf}
 use Rattle.question.specs.Trees.{questionOf}
 use Rattle.question.specs.Judgement.{countOk}
-use Rattle.question.specs.Faults.{judgedByFaults}
+use Rattle.judgements.specs.Faults.{judgedQuestion}
 use Rattle.question.specs.declared.judgement.Judgement.{Judgement}
 use Rattle.question.specs.declared.judgement.Judgement.the-variants.{Accepted, Refused as NotAccepted}
 use Rattle.translation.specs.declared.call.Translated.{Translated}
@@ -77,7 +77,7 @@ module _ (catalogue question : List ℕ) (mode : ℕ) (plan : List ℕ) where
   behindCatalogue =
       cond (not (countOk question)) (unwritten 1 0)
       (cond (ltb (length plan) planBufferWords) (unwritten 8 0)
-      (judgedOutcome (judgedByFaults catalogue question)))
+      (judgedOutcome (judgedQuestion catalogue question)))
 
   -- "Translate: 7 (pairs and their total of words only)", then these
   unfoldable pub translateOutcome : TranslateOutcome

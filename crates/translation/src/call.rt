@@ -4,18 +4,18 @@ ghost use mathlib.Core.Bool.{true};
 ghost use Prim.Native.Nat.{_≤_};
 ghost use lib.ListN.{length};
 ghost use Rattle.catalogue.specs.Judging.{catalogueOk};
-ghost use Rattle.question.specs.Judgement.{judged};
+ghost use Rattle.question.specs.Walk.{judgedByWalk};
 ghost use Rattle.question.specs.declared.judgement.Judgement.the-variants.{Accepted};
 ghost use Rattle.translation.specs.TranslateCall.{translateNumbers, planBufferWords, written, behindCatalogue, translateOutcome};
 use catalogue::judging::Judged;
 use catalogue::judging::judge_catalogue;
 use emission::heavy::count_heavy;
 use emission::limits::PLAN_WORDS;
+use nodes::limits::NODE_WORDS;
 use planning::translate::translate_range;
 use question::judgement::Judgement;
 use question::judgement::judge;
 use question::judgement::judge_count;
-use question::limits::NODE_WORDS;
 
 pub enum Translated {
     Done { nodes: u32, heavy: u32 },
@@ -31,7 +31,7 @@ fn translate_accepted(
     mode: u32,
     plan: &mut [u32],
 ) -> Translated
-    requires { ⌜ (catalogueOk (now catalogue) ≡ true) × (planBufferWords ≤ length (now plan)) × (judged (now catalogue) (now question) ≡ Accepted) ⌝ }
+    requires { ⌜ (catalogueOk (now catalogue) ≡ true) × (planBufferWords ≤ length (now plan)) × (judgedByWalk (now catalogue) (now question) ≡ Accepted) ⌝ }
     ensures { λ r. ⌜ record { numbers = translateNumbers r; plan = now (plan .exit) } ≡ written (now (catalogue .entry)) (now (question .entry)) mode (now (plan .entry)) ⌝ }
 {
     let last = (question.len() / NODE_WORDS) as u32;

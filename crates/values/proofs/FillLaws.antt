@@ -133,6 +133,9 @@ module _ {w out n : ℕ} {cs : Rows} {before after : List ℕ} (inside : out ≤
   pub made-fits : out + n * w ≤ length after
   made-fits = made-filled .fits
 
+  pub made-words : after ≡ sets before out (wordsOf (rowsAt w n out after))
+  made-words = made-filled .words
+
   pub made-value : rowsAt w n out after ≡ canonical cs
   unfolding build rowsAt
   made-value = go (build-cases (length before - out) cs [])

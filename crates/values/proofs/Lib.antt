@@ -7,5 +7,6 @@ pub mod PlaceLaws
 pub mod BuildLaws
 pub mod FillLaws
 pub mod PutLaws
+pub mod ClearLaws
 pub mod MakeLaws
 pub mod BeginLaws

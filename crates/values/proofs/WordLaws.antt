@@ -125,7 +125,7 @@ sets-into l row a n k h fits =
     ∙ sym (sets-sets l (a + k) (a + k + length row) row vs (omega arith))
 
 -- a turn of the loop that moves words down, from the first to the last
-getD-sets-above : (l : List ℕ) (i : ℕ) (vs : List ℕ) (j : ℕ) → i + length vs ≤ j → getD (sets l i vs) j 0 ≡ getD l j 0
+pub getD-sets-above : (l : List ℕ) (i : ℕ) (vs : List ℕ) (j : ℕ) → i + length vs ≤ j → getD (sets l i vs) j 0 ≡ getD l j 0
 getD-sets-above l i [] j h = refl
 getD-sets-above l i (v ∷ vs) j h = getD-sets-above (set l i v) (suc i) vs j (omega arith) ∙ getD-set-other l i j v 0 (omega arith)
 

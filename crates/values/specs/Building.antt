@@ -1,13 +1,13 @@
 -- How a value is made: candidate rows are put into it one after another, until they are through or one has no room.
 use mathlib.Core.Path.{_≡_}
 use mathlib.Core.Bool.{Bool, true, false, cond}
-use mathlib.Core.List.{List, [], _∷_}
-use Prim.Native.Nat.{ℕ, _+_, _*_, _-_, _≤_, _<_}
+use mathlib.Core.List.{List, [], _∷_, _++_}
+use Prim.Native.Nat.{ℕ, _+_, _-_, _≤_}
 use lib.Dec.{leb}
-use lib.ListN.{length}
+use lib.ListN.{length, take, replicate}
 use lib.Seq.{sets}
 use Rattle.relations.specs.Values.{Rows, Wide, insertRow, canonical}
-use Rattle.values.specs.Words.{part, rowsAt, wordsOf}
+use Rattle.values.specs.Words.{rowsAt, wordsOf}
 use Rattle.values.specs.declared.placing.Placed.{Placed}
 use Rattle.values.specs.declared.placing.Placed.the-variants.{Rows as Made, Full}
 
@@ -41,14 +41,29 @@ pub record Builds (width out rows : ℕ) (candidates : Rows) (before after : Lis
   pub words : after ≡ sets before out (wordsOf (leftOf (build (length before - out) candidates (rowsAt width rows out before))))
   pub wide : Wide width (leftOf (build (length before - out) candidates (rowsAt width rows out before)))
 
--- What a value's maker answers: that the value stands there, or that it has no room.
-abbrev pub Told : (width out : ℕ) (value : Rows) (before after : List ℕ) → Placed → Type 0
-Told width out value before after (Made rows) = (rowsAt width rows out after ≡ value) × (out + rows * width ≤ length after)
-Told width out value before after Full = length before - out < length (wordsOf value)
+-- every word from a place on is 0
+abbrev pub clearedFrom : ℕ → List ℕ → List ℕ
+clearedFrom place words = take place words ++ replicate (length words - place) 0
+
+-- it is so already
+abbrev pub Blank : ℕ → List ℕ → Type 0
+Blank place words = words ≡ clearedFrom place words
+
+-- a value that has room, or no rows
+abbrev pub within : (room : ℕ) → Rows → Rows
+within room value = cond (leb (length (wordsOf value)) room) value []
+
+abbrev pub madeOrFull : (room : ℕ) → Rows → Placed
+madeOrFull room value = cond (leb (length (wordsOf value)) room) (Made (length value)) Full
 
 -- What a function leaves that makes the value of the candidates from `out` on, in whatever order and with whatever help from the words there: its answer,
--- the value, and every word in front of `out`. The words behind the value are left open.
+-- and every word of the buffer: in front of `out` as it was, then the value's words, then zeros; on lack of room zeros alone.
 pub record Makes (width out : ℕ) (candidates : Rows) (before after : List ℕ) (answer : Placed) : Type 0 where
-  pub size : length after ≡ length before
-  pub front : (start count : ℕ) → start + count ≤ out → part start count after ≡ part start count before
-  pub told : Told width out (canonical candidates) before after answer
+  pub answers : answer ≡ madeOrFull (length before - out) (canonical candidates)
+  pub words : after ≡ sets (clearedFrom out before) out (wordsOf (within (length before - out) (canonical candidates)))
+  pub wide : Wide width (within (length before - out) (canonical candidates))
+
+-- a value that was built stays; what lack of room left goes
+abbrev pub finished : (out : ℕ) → Placed → List ℕ → List ℕ
+finished out (Made rows) words = words
+finished out Full words = clearedFrom out words

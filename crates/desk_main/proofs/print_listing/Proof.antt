@@ -16,12 +16,12 @@ put-listing-requires c κs = search needs
 array-share-prefix-text : tie.Need-array-share-prefix-text
 array-share-prefix-text c = omega (arith, listing-ends _ _ _ _ _ _ (c .before .before .before .before .pre) (c .before .put-listing .ensures), c .before .put-listing .kept .1 .1 .1 .1 .1 .1 .0)
 
-slice-aggregate-write-all : tie.Need-slice-aggregate-write-all
-slice-aggregate-write-all c =
+slice-aggregate-print : tie.Need-slice-aggregate-print
+slice-aggregate-print c =
     omega (arith, listing-ends _ _ _ _ _ _ (c .before .before .before .before .before .pre) (c .before .before .put-listing .ensures), c .before .before .put-listing .kept .1 .1 .1 .1 .1 .1 .0, length-take (c .before .before .put-listing .result) (c .before .before .put-listing .last .1 .1 .1 .1 .1 .1 .0))
 
-write-all-requires : tie.Need-write-all-requires
-write-all-requires c κs = search needs
+print-requires : tie.Need-print-requires
+print-requires c κs = search needs
 
 returns : tie.Need-returns
 returns c = search needs
@@ -33,6 +33,6 @@ print-listing-spec =
     slice-aggregate-put-listing
     put-listing-requires
     array-share-prefix-text
-    slice-aggregate-write-all
-    write-all-requires
+    slice-aggregate-print
+    print-requires
     returns)

@@ -16,12 +16,12 @@ put-refusal-requires c κs = search needs
 array-share-prefix-text : tie.Need-array-share-prefix-text
 array-share-prefix-text c = omega (arith, refusal-ends _ _ (c .before .put-refusal .ensures), c .before .put-refusal .kept .1 .1 .0)
 
-slice-aggregate-write-all : tie.Need-slice-aggregate-write-all
-slice-aggregate-write-all c =
+slice-aggregate-print : tie.Need-slice-aggregate-print
+slice-aggregate-print c =
     omega (arith, refusal-ends _ _ (c .before .before .put-refusal .ensures), c .before .before .put-refusal .kept .1 .1 .0, length-take (c .before .before .put-refusal .result) (c .before .before .put-refusal .last .1 .1 .0))
 
-write-all-requires : tie.Need-write-all-requires
-write-all-requires c κs = search needs
+print-requires : tie.Need-print-requires
+print-requires c κs = search needs
 
 returns : tie.Need-returns
 returns c = search needs
@@ -33,6 +33,6 @@ print-refusal-spec =
     slice-aggregate-put-refusal
     put-refusal-requires
     array-share-prefix-text
-    slice-aggregate-write-all
-    write-all-requires
+    slice-aggregate-print
+    print-requires
     returns)

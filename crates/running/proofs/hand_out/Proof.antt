@@ -3,7 +3,7 @@ use mathlib.Core.List.{List}
 use Prim.Native.Nat.{ℕ}
 use lib.ListN.{length}
 use Rattle.relations.specs.Nodes.{Node}
-use Rattle.plans.specs.Judging.{nodesOf}
+use Rattle.plans.specs.Judging.{nodesOfPlan}
 use Rattle.running.proofs.RunLaws.{nodes-few, nodes-many}
 use Rattle.running.proofs.OutcomeLaws.{ran-no-room, ran-inside, ran-long, ran-done}
 use native.Mathlib.Omega.{arith}
@@ -21,7 +21,7 @@ module _ (n : lts.After-run-nodes (run-nodes-reads.Asked, run-nodes-reads.Learnt
   start = n .before .before .before .before .before .before .before
 
   abbrev nodes : List Node
-  nodes = nodesOf (start .args .plan .now)
+  nodes = nodesOfPlan (start .args .plan .now)
 
   abbrev after : List ℕ
   after = n .run-nodes .last .1 .1 .1 .1 .0

@@ -10,6 +10,7 @@ use Rattle.running.proofs.run.Statement.{statement}
 use Rattle.running.proofs.run.Tie as tie
 use Rattle.running.proofs.run.Reads as reads
 use Rattle.running.proofs.run.Lts as lts
+use Rattle.plans.proofs.JudgeLaws.{plan-judged}
 use Rattle.plans.proofs.judging.judge_plan.Reads as judge-plan-reads
 use Rattle.running.proofs.capacity_of.Reads as capacity-of-reads
 use Rattle.running.proofs.run_legal.Reads as run-legal-reads
@@ -46,7 +47,7 @@ slice-aggregate-run-legal c = sym (length-take-le (c .before .capacity-of .resul
 
 -- src/lib.rt:131:13
 run-legal-requires : tie.Need-run-legal-requires
-run-legal-requires c κs = (sym (c .before .before .before .before .before .before .before .before .before .tables-ok .ensures) ∙ not-false _ (c .before .before .before .before .before .before .before .before .if1 .left), sym (c .before .before .before .before .before .before .before .judge-plan .ensures) ∙ c .before .before .before .before .before .nodes .given .1)
+run-legal-requires c κs = let s = c .before .before .before .before .before .before .before .before .before .before .before .before .before .before .before .args in (sym (c .before .before .before .before .before .before .before .before .before .tables-ok .ensures) ∙ not-false _ (c .before .before .before .before .before .before .before .before .if1 .left), plan-judged (s .catalogue .now) (s .plan .now) (c .before .before .before .before .before .before .before .judge-plan .ensures) (c .before .before .before .before .before .nodes .given .1))
 
 -- src/lib.rt:133:28
 enum-known-place : tie.Need-enum-known-place
@@ -63,13 +64,13 @@ same-length-2 c = search needs
 -- src/lib.rt:122:1
 returns-2 : tie.Need-returns-2
 returns-2 c = let s = c .before .before .before .before .before .before .before .before .before .before .before .before .before .before .before .before .before .before .before .before .args in
-    outcome-ran (s .catalogue .now) (s .tables .now) (s .plan .now) (s .work .now) (s .output .now) (sym (c .before .before .before .before .before .before .before .before .before .before .before .before .before .before .tables-ok .ensures) ∙ not-false _ (c .before .before .before .before .before .before .before .before .before .before .before .before .before .if1 .left)) (sym (c .before .before .before .before .before .before .before .before .before .before .before .before .judge-plan .ensures) ∙ c .before .before .before .before .before .before .before .before .before .before .nodes .given .1) (c .before .before .before .before .before .before .before .capacity-of .ensures)
+    outcome-ran (s .catalogue .now) (s .tables .now) (s .plan .now) (s .work .now) (s .output .now) (sym (c .before .before .before .before .before .before .before .before .before .before .before .before .before .before .tables-ok .ensures) ∙ not-false _ (c .before .before .before .before .before .before .before .before .before .before .before .before .before .if1 .left)) (plan-judged (s .catalogue .now) (s .plan .now) (c .before .before .before .before .before .before .before .before .before .before .before .before .judge-plan .ensures) (c .before .before .before .before .before .before .before .before .before .before .nodes .given .1)) (c .before .before .before .before .before .before .before .capacity-of .ensures)
     (c .before .before .before .before .run-legal .ensures (drop (c .before .before .before .before .before .before .before .capacity-of .result) (s .work .now)))
 
 -- src/lib.rt:122:1
 returns-3 : tie.Need-returns-3
 returns-3 c = let s = c .before .before .before .before .before .before .before .before .before .before .before .args in
-    outcome-illegal (s .catalogue .now) (s .tables .now) (s .plan .now) (s .work .now) (s .output .now) (sym (c .before .before .before .before .before .tables-ok .ensures) ∙ not-false _ (c .before .before .before .before .if1 .left)) (sym (c .before .before .before .judge-plan .ensures) ∙ c .before .place .given .1)
+    outcome-illegal (s .catalogue .now) (s .tables .now) (s .plan .now) (s .work .now) (s .output .now) (sym (c .before .before .before .before .before .tables-ok .ensures) ∙ not-false _ (c .before .before .before .before .if1 .left)) (plan-judged (s .catalogue .now) (s .plan .now) (c .before .before .before .judge-plan .ensures) (c .before .place .given .1))
 
 pub run-spec : {M : Type 1} → statement M
 run-spec =

@@ -61,7 +61,7 @@ module _ (n : lts.After-run-node (run-node-reads.Asked, run-node-reads.Learnt) r
 
 -- src/lib.rt:49:5
 loop-holds : tie.Need-loop-holds Inv-loop μ-loop
-loop-holds c = let s = c .before .before .before .before in running-start (s .args .catalogue .now) (s .args .tables .now) (s .args .plan .now) (s .args .nodes) (s .pre .0) (s .pre .1) (replicate planNodeLimit 0) (replicate planNodeLimit 0) (replicate planNodeLimit 0) (s .args .work .now) refl refl refl
+loop-holds c = let s = c .before .before .before .before in running-start (s .args .catalogue .now) (s .args .tables .now) (s .args .plan .now) (s .args .nodes) (s .pre .0) (s .pre .1) (replicate planNodeLimit 0) (replicate planNodeLimit 0) (replicate planNodeLimit 0) (s .args .work .now) refl refl refl (s .pre .2)
 
 -- src/lib.rt:50:20
 add-next : tie.Need-add-next Inv-loop μ-loop

@@ -1,6 +1,6 @@
 -- `catalogue::judging::judge_catalogue` meets its contract. The loop's invariant: the catalogue's pairs are ok if those from `at` on are,
 -- and its words are `words` and those of the pairs from `at` on. A pair that is ok has at most 131,072 words, so `words` is at most 65,536 for each word passed.
--- Each return is the case of `judged` that the tests before it decide. The measure is what is left of the catalogue. Assumes nothing.
+-- Each return has the numbers of `judgedCatalogue` that the tests before it decide. The measure is what is left of the catalogue. Assumes nothing.
 use Prim.Native.Nat.{_≤_, _-_, _+_, _*_}
 use mathlib.Core.Path.{_≡_, refl, sym, _∙_}
 use mathlib.Core.Bool.{true, false}

@@ -1,7 +1,8 @@
 -- `catalogue::judging::tables_ok` meets its contract: by what the catalogue is judged, the tables' length is compared, or they are wrong.
 -- Assumes nothing.
-use mathlib.Core.Path.{sym, _∙_}
+use mathlib.Core.Path.{sym, ap, _∙_}
 use borrow.Author.Needs.{needs}
+use Rattle.catalogue.specs.Judging.{catalogueNumbers}
 use Rattle.catalogue.proofs.PairLaws.{tables-judged, tables-wrong}
 use Rattle.catalogue.proofs.judging.tables_ok.Statement.{statement}
 use Rattle.catalogue.proofs.judging.tables_ok.Tie as tie
@@ -18,11 +19,11 @@ enum-told c = search needs
 returns : tie.Need-returns
 returns c =
     tables-judged (c .before .before .before .before .before .before .args .catalogue .now) (c .before .before .before .before .before .before .args .tables .now) (c .before .words .given .0 .0)
-    (sym (c .before .words .given .1) ∙ c .before .before .before .judge-catalogue .ensures)
+    (sym (ap catalogueNumbers (c .before .words .given .1)) ∙ c .before .before .before .judge-catalogue .ensures)
 
 returns-2 : tie.Need-returns-2
 returns-2 c =
-    tables-wrong (c .before .before .before .before .before .args .catalogue .now) (c .before .before .before .before .before .args .tables .now) (sym (c .enum-told .given .1) ∙ c .before .before .judge-catalogue .ensures)
+    tables-wrong (c .before .before .before .before .before .args .catalogue .now) (c .before .before .before .before .before .args .tables .now) (sym (ap catalogueNumbers (c .enum-told .given .1)) ∙ c .before .before .judge-catalogue .ensures)
 
 pub tables-ok-spec : {M : Type 1} → statement M
 tables-ok-spec =

@@ -1,4 +1,4 @@
--- `catalogue::stored::rows_of` meets its contract: each arm is the case of `rowsOf` that the test decides.
+-- `catalogue::stored::rows_of` meets its contract: each arm is the case of `rowCountOf` that the test decides.
 -- Assumes nothing.
 use borrow.Author.Tests.{lt-ltb, le-ltb}
 use borrow.Author.Needs.{needs}

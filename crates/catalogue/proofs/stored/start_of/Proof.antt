@@ -4,7 +4,7 @@
 use Prim.Native.Nat.{_≤_, _-_, _*_}
 use mathlib.Core.Path.{_≡_, ap, ap₂, _∙_}
 use native.Mathlib.Omega.{arith}
-use Rattle.catalogue.specs.Stored.{columnsOf, rowsOf, startOf}
+use Rattle.catalogue.specs.Stored.{columnsOf, rowCountOf, startOf}
 use Rattle.catalogue.proofs.StoredLaws.{start-none, start-next, start-room}
 use Rattle.catalogue.proofs.stored.start_of.Statement.{statement}
 use Rattle.catalogue.proofs.stored.start_of.Tie as tie
@@ -36,7 +36,7 @@ wide-requires-2 : tie.Need-wide-requires-2 Inv-loop μ-loop
 wide-requires-2 c κs = tt
 
 -- the words of the relation that is passed
-product : (c : lts.After-wide2 (columns-of-reads.Asked, columns-of-reads.Learnt, wide-reads.Asked, wide-reads.Learnt, rows-of-reads.Asked, rows-of-reads.Learnt) reads.Pre reads.Post Inv-loop μ-loop) → c .before .before .wide .result * c .wide2 .result ≡ columnsOf (c .before .before .before .before .before .before .before .args .catalogue .now) (c .before .before .before .before .before .loop .passed) * rowsOf (c .before .before .before .before .before .before .before .args .catalogue .now) (c .before .before .before .before .before .loop .passed)
+product : (c : lts.After-wide2 (columns-of-reads.Asked, columns-of-reads.Learnt, wide-reads.Asked, wide-reads.Learnt, rows-of-reads.Asked, rows-of-reads.Learnt) reads.Pre reads.Post Inv-loop μ-loop) → c .before .before .wide .result * c .wide2 .result ≡ columnsOf (c .before .before .before .before .before .before .before .args .catalogue .now) (c .before .before .before .before .before .loop .passed) * rowCountOf (c .before .before .before .before .before .before .before .args .catalogue .now) (c .before .before .before .before .before .loop .passed)
 product c = ap₂ _*_ (c .before .before .wide .ensures ∙ c .before .before .before .columns-of .ensures) (c .wide2 .ensures ∙ c .before .rows-of .ensures)
 
 mul-start : tie.Need-mul-start Inv-loop μ-loop

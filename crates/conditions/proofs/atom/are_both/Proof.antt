@@ -1,7 +1,7 @@
 use mathlib.Core.Path.{sym, ap}
 use Rattle.calculus.specs.Leaves.{areBoth}
 use Rattle.question.specs.Trees.{operandOf}
-use Rattle.question.specs.declared.node.Operand.{Operand}
+use Rattle.nodes.specs.declared.node.Operand.{Operand}
 use borrow.Author.Needs.{needs}
 use Rattle.conditions.proofs.atom.are_both.Statement.{statement}
 use Rattle.conditions.proofs.atom.are_both.Tie as tie

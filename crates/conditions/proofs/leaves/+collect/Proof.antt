@@ -1,12 +1,12 @@
 use Rattle.conditions.proofs.OtherNodes.{reads-as-leaf}
-use Rattle.question.specs.declared.node.Node.{Node}
+use Rattle.nodes.specs.declared.node.Node.{Node}
 use Rattle.conditions.specs.Leaves.{leafOf}
 use Rattle.conditions.specs.Readings.{conditionAt}
 use Rattle.calculus.specs.Question as calculus
-use Rattle.question.specs.Nodes.{nodeAt}
-use Rattle.conditions.proofs.LeafLaws.{collected-and, collected-or, collected-none, collected-leaf, collected-as, collect-left, collect-right}
+use Rattle.nodes.specs.Nodes.{nodeAt}
+use Rattle.conditions.proofs.LeafLaws.{collected-and, collected-or, collected-none, collected-leaf, collected-as, collect-left, collect-right, leaf-numbers}
 use Rattle.conditions.proofs.Readings.{fits-in, two-conditions, condition-is}
-use Rattle.question.specs.declared.node.Node.the-variants.{And, Or, Not, Some, Every}
+use Rattle.nodes.specs.declared.node.Node.the-variants.{And, Or, Not, Some, Every}
 use Rattle.calculus.specs.Leaves.{leaves}
 use lib.ListN.{length}
 use Prim.Native.Nat.{_-_, ℕ, _<_}
@@ -18,7 +18,7 @@ use borrow.Fn.PlainCycle.{Measures, is, falls, and}
 use Rattle.conditions.proofs.leaves.collect.Reads as collect
 use Rattle.conditions.proofs.leaves.collect.Kinds as collect-kinds
 use Rattle.conditions.proofs.leaves.+collect.Lts-collect as collect-lts
-use Rattle.question.proofs.node.decode.Reads as decode-reads
+use Rattle.nodes.proofs.node.decode.Reads as decode-reads
 use Rattle.conditions.proofs.leaves.joined_by.Reads as joined-by-reads
 use Rattle.conditions.proofs.leaves.with_leaf.Reads as with-leaf-reads
 use Rattle.conditions.proofs.leaves.+collect.{statement}
@@ -130,7 +130,7 @@ collect-returns t c = let s = c .before .before .before .before .before .before 
     let e : And left right ≡ nodeAt words (s .args .reference - 1) = sym (c .before .before .before .before .node .given .1) ∙ c .before .before .before .before .before .before .decode .ensures in
     let b = two-conditions words (s .args .reference - 1) left right (fits-in words (s .args .reference - 1) e) in
     let f = condition-is words (s .args .reference) (And left right) (s .pre .1 .named) e in
-    collected-as words f (c .joined-by .ensures) (collected-and words (c .before .before .collect .ensures) (c .before .collect2 .ensures))
+    collected-as words (leaf-numbers words (s .args .reference) (And left right) (s .pre .1 .named) e f) f (c .joined-by .ensures) (collected-and words (c .before .before .collect .ensures) (c .before .collect2 .ensures))
 
 collect-returns-2 : (t : ℕ) → collect-lts.Need-returns-2 (collect-calls t) (collect-at t) collect.Post
 collect-returns-2 t c = let s = c .before .before .before .before .before .before .before .before in
@@ -140,25 +140,31 @@ collect-returns-2 t c = let s = c .before .before .before .before .before .befor
     let e : Or left right ≡ nodeAt words (s .args .reference - 1) = sym (c .before .before .before .before .node2 .given .1) ∙ c .before .before .before .before .before .before .decode .ensures in
     let b = two-conditions words (s .args .reference - 1) left right (fits-in words (s .args .reference - 1) e) in
     let f = condition-is words (s .args .reference) (Or left right) (s .pre .1 .named) e in
-    collected-as words f (c .joined-by2 .ensures) (collected-or words (c .before .before .collect3 .ensures) (c .before .collect4 .ensures))
+    collected-as words (leaf-numbers words (s .args .reference) (Or left right) (s .pre .1 .named) e f) f (c .joined-by2 .ensures) (collected-or words (c .before .before .collect3 .ensures) (c .before .collect4 .ensures))
 
 collect-returns-3 : (t : ℕ) → collect-lts.Need-returns-3 (collect-calls t) (collect-at t) collect.Post
 collect-returns-3 t c = let s = c .before .before .before .before .before in
     let words = s .args .words .now in
-    let f = condition-is words (s .args .reference) (Not (c .before .enum-told .given .0 .0)) (s .pre .1 .named) (sym (c .before .enum-told .given .1) ∙ c .before .before .before .decode .ensures) in
-    collected-as words f (c .joined-by3 .ensures) (collected-none words _ refl refl refl (s .pre .1 .fits) (s .pre .1 .straight))
+    let node = Not (c .before .enum-told .given .0 .0) in
+    let e : node ≡ nodeAt words (s .args .reference - 1) = sym (c .before .enum-told .given .1) ∙ c .before .before .before .decode .ensures in
+    let f = condition-is words (s .args .reference) node (s .pre .1 .named) e in
+    collected-as words (leaf-numbers words (s .args .reference) node (s .pre .1 .named) e f) f (c .joined-by3 .ensures) (collected-none words _ refl refl refl (s .pre .1 .fits) (s .pre .1 .straight))
 
 collect-returns-4 : (t : ℕ) → collect-lts.Need-returns-4 (collect-calls t) (collect-at t) collect.Post
 collect-returns-4 t c = let s = c .before .before .before .before .before in
     let words = s .args .words .now in
-    let f = condition-is words (s .args .reference) (Some (c .before .enum-told2 .given .0 .0) (c .before .enum-told2 .given .0 .1 .0) (c .before .enum-told2 .given .0 .1 .1 .0)) (s .pre .1 .named) (sym (c .before .enum-told2 .given .1) ∙ c .before .before .before .decode .ensures) in
-    collected-as words f (c .joined-by4 .ensures) (collected-none words _ refl refl refl (s .pre .1 .fits) (s .pre .1 .straight))
+    let node = Some (c .before .enum-told2 .given .0 .0) (c .before .enum-told2 .given .0 .1 .0) (c .before .enum-told2 .given .0 .1 .1 .0) in
+    let e : node ≡ nodeAt words (s .args .reference - 1) = sym (c .before .enum-told2 .given .1) ∙ c .before .before .before .decode .ensures in
+    let f = condition-is words (s .args .reference) node (s .pre .1 .named) e in
+    collected-as words (leaf-numbers words (s .args .reference) node (s .pre .1 .named) e f) f (c .joined-by4 .ensures) (collected-none words _ refl refl refl (s .pre .1 .fits) (s .pre .1 .straight))
 
 collect-returns-5 : (t : ℕ) → collect-lts.Need-returns-5 (collect-calls t) (collect-at t) collect.Post
 collect-returns-5 t c = let s = c .before .before .before .before .before in
     let words = s .args .words .now in
-    let f = condition-is words (s .args .reference) (Every (c .before .enum-told3 .given .0 .0) (c .before .enum-told3 .given .0 .1 .0) (c .before .enum-told3 .given .0 .1 .1 .0)) (s .pre .1 .named) (sym (c .before .enum-told3 .given .1) ∙ c .before .before .before .decode .ensures) in
-    collected-as words f (c .joined-by5 .ensures) (collected-none words _ refl refl refl (s .pre .1 .fits) (s .pre .1 .straight))
+    let node = Every (c .before .enum-told3 .given .0 .0) (c .before .enum-told3 .given .0 .1 .0) (c .before .enum-told3 .given .0 .1 .1 .0) in
+    let e : node ≡ nodeAt words (s .args .reference - 1) = sym (c .before .enum-told3 .given .1) ∙ c .before .before .before .decode .ensures in
+    let f = condition-is words (s .args .reference) node (s .pre .1 .named) e in
+    collected-as words (leaf-numbers words (s .args .reference) node (s .pre .1 .named) e f) f (c .joined-by5 .ensures) (collected-none words _ refl refl refl (s .pre .1 .fits) (s .pre .1 .straight))
 
 collect-returns-6 : (t : ℕ) → collect-lts.Need-returns-6 (collect-calls t) (collect-at t) collect.Post
 collect-returns-6 t c = let s = c .before .before .before .before in
@@ -166,7 +172,7 @@ collect-returns-6 t c = let s = c .before .before .before .before in
     let node = c .before .before .decode .result in
     let f : conditionAt words (s .args .reference) ≡ calculus.atom (leafOf node) = condition-is words (s .args .reference) node (s .pre .1 .named) (c .before .before .decode .ensures) ∙ reads-as-leaf node _ _ _ (c .before .match .keys6) in
     let l : length (s .args .collected .numbers) ≡ 64 = search needs in
-    collected-as words (f ∙ ap (λ (d : Node). calculus.atom (leafOf d)) (c .before .before .decode .ensures)) (c .with-leaf .ensures) (collected-leaf words (s .args .reference - 1) l (s .pre .1 .fits) (s .pre .1 .straight) (omega (arith, s .pre .1 .room, ap (λ (h : calculus.Condition). length (leaves h)) f)) (omega (arith, s .pre .1 .named, s .pre .1 .inside)))
+    collected-as words (leaf-numbers words (s .args .reference) node (s .pre .1 .named) (c .before .before .decode .ensures) f) (f ∙ ap (λ (d : Node). calculus.atom (leafOf d)) (c .before .before .decode .ensures)) (c .with-leaf .ensures) (collected-leaf words (s .args .reference - 1) l (s .pre .1 .fits) (s .pre .1 .straight) (omega (arith, s .pre .1 .room, ap (λ (h : calculus.Condition). length (leaves h)) f)) (omega (arith, s .pre .1 .named, s .pre .1 .inside)))
 
 pub +collect-spec : {M : Type 1} → statement M
 +collect-spec = close μ-collect λ t. collect-lts.spec (collect-calls t) (collect-at t)

@@ -1,7 +1,7 @@
-use lib.ListN.{getD}
-use Rattle.conditions.proofs.LeafLaws.{found-narrow, found-is}
+use lib.ListN.{length, getD}
+use Rattle.conditions.proofs.LeafLaws.{found-narrow, found-is, leaf-inside}
 use Rattle.calculus.specs.Leaves.{oppositeAtom}
-use mathlib.Core.Path.{ap, _∙_}
+use mathlib.Core.Path.{_≡_, ap, _∙_}
 use borrow.Author.Needs.{needs}
 use Rattle.conditions.proofs.leaves.leaf.Statement.{statement}
 use Rattle.conditions.proofs.leaves.leaf.Tie as tie
@@ -16,7 +16,10 @@ cast-decode : tie.Need-cast-decode
 cast-decode c = search needs
 
 decode-requires : tie.Need-decode-requires
-decode-requires c κs = c .before .before .pre .0 .inside (c .before .before .args .i) (c .before .before .pre .1)
+decode-requires c κs =
+    let s = c .before .before in
+    let l : length (s .args .t2 .numbers) ≡ 64 = search needs in
+    leaf-inside (s .args .words .now) (s .args .i) (s .pre .0) l (s .pre .1)
 
 atom-in-requires : tie.Need-atom-in-requires
 atom-in-requires c κs = search needs

@@ -1,7 +1,8 @@
 use mathlib.Core.Path.{_≡_}
 use lib.ListN.{length}
+use Rattle.emission.specs.NodeLists.{pairsIn}
 use Rattle.relations.specs.Nodes.{divide}
-use Rattle.emission.proofs.ListingLaws.{divide-words}
+use Rattle.emission.proofs.NodeListLaws.{divide-words}
 use Rattle.emission.proofs.WrittenLaws.{written-one}
 use native.Mathlib.Omega.{arith}
 use borrow.Author.Needs.{needs}
@@ -15,10 +16,10 @@ same-length : tie.Need-same-length
 same-length c = search needs
 
 returns : tie.Need-returns
-returns c listed e =
+returns c =
     let s = c .before .before .before .before .before .before .before in
     let l : length (s .args .pairs .words) ≡ 32 = search needs in
-    written-one (divide (s .args .left) (s .args .right) listed) _ (c .before .before .push .ensures) (divide-words (s .args .pairs) (s .args .left) (s .args .right) listed e) (omega arith)
+    written-one (divide (s .args .left) (s .args .right) (pairsIn (s .args .pairs))) _ (c .before .before .push .ensures) (divide-words (s .args .pairs) (s .args .left) (s .args .right) (pairsIn (s .args .pairs)) (s .pre .1)) (omega arith)
 
 pub divide-spec : {M : Type 1} → statement M
 divide-spec = tie.close (tie.spec push-requires same-length returns)

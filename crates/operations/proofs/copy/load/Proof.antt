@@ -23,6 +23,9 @@ load-backwards-requires c κs = search needs
 copy-rows-requires : tie.Need-copy-rows-requires
 copy-rows-requires c κs = let s = c .before .before .before .before .before .args in (c .before .before .before .before .before .pre .0, c .before .before .before .before .before .pre .1, omega (arith, zero-mul (s .stored .width)), rw (rowsAt-none (s .stored .width) (s .out) (s .work .now)) tt)
 
+finish-requires : tie.Need-finish-requires
+finish-requires c κs = omega arith
+
 -- src/copy.rt:112:1
 same-length : tie.Need-same-length
 same-length c = search needs
@@ -37,7 +40,7 @@ same-length-2 c = search needs
 
 -- src/copy.rt:112:1
 returns-2 : tie.Need-returns-2
-returns-2 c = builds-makes (c .before .before .before .before .before .before .before .before .pre .2) (c .before .before .copy-rows .ensures)
+returns-2 c = builds-makes (c .before .before .before .before .before .before .before .before .before .before .before .before .pre .2) (c .before .before .before .before .before .before .before .before .before .before .before .before .pre .3) (c .before .before .before .before .before .before .copy-rows .ensures) (c .before .before .finish .ensures)
 
 pub load-spec : {M : Type 1} → statement M
 load-spec =
@@ -45,7 +48,7 @@ load-spec =
     (tie.spec
     ends-before-requires
     load-backwards-requires
-    copy-rows-requires
+    copy-rows-requires finish-requires
     same-length
     returns
     same-length-2

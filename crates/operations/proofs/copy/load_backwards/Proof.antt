@@ -62,16 +62,19 @@ loop-again c = let s = c .before .before .before .before .before .before .before
 enum-told : tie.Need-enum-told Inv-loop μ-loop
 enum-told c = search needs
 
+clear-from-requires : tie.Need-clear-from-requires Inv-loop μ-loop
+clear-from-requires c κs = omega (arith, c .before .before .before .before .before .place-row .kept, c .before .before .before .before .before .before .before .before .loop .inv .1 .filled .size, c .before .before .before .before .before .before .before .before .loop .inv .1 .filled .fits)
+
 -- src/copy.rt:103:17
 same-length : tie.Need-same-length Inv-loop μ-loop
-same-length c = omega (arith, c .before .before .before .before .place-row .kept, c .before .before .before .before .before .before .before .loop .inv .1 .filled .size)
+same-length c = omega (arith, c .before .before .clear-from .kept, c .before .before .before .before .before .before .before .before .place-row .kept, c .before .before .before .before .before .before .before .before .before .before .before .loop .inv .1 .filled .size)
 
 -- src/copy.rt:103:17
 returns : tie.Need-returns Inv-loop μ-loop
-returns c = let s = c .before .before .before .before .before .before .before .before .before .before .args in let v = s .stored in let l = c .before .before .before .before .before .before .before .loop in
+returns c = let s = c .before .before .before .before .before .before .before .before .before .before .before .before .before .before .args in let v = s .stored in let l = c .before .before .before .before .before .before .before .before .before .before .before .loop in
     offered-off (l .inv .1) (rowsAt (v .width) (l .left - 1) (v .base) (s .tables .now))
     (last-next (v .width) (l .left) (v .base) (s .tables .now) (omega arith) (omega (arith, times-most (l .left) (v .rows) (v .width) (l .inv .0))))
-    (c .before .before .before .before .place-row .ensures) (c .enum-told .given .1)
+    (c .before .before .before .before .before .before .before .before .place-row .ensures) (c .before .before .before .before .enum-told .given .1) (c .before .before .clear-from .ensures)
 
 -- src/copy.rt:78:1
 same-length-2 : tie.Need-same-length-2 Inv-loop μ-loop
@@ -79,7 +82,7 @@ same-length-2 c = omega (arith, c .before .loop .inv .1 .filled .size)
 
 -- src/copy.rt:78:1
 returns-2 : tie.Need-returns-2 Inv-loop μ-loop
-returns-2 c = let s = c .before .before .before .before .args in let v = s .stored in let l = c .before .loop in let z : l .left ≡ 0 = omega arith in offered-end (l .inv .1) (λ row. rw (z, rowsAt-none (v .width) (v .base) (s .tables .now)))
+returns-2 c = let s = c .before .before .before .before .args in let v = s .stored in let l = c .before .loop in let z : l .left ≡ 0 = omega arith in offered-end (l .inv .1) (c .before .before .before .before .pre .3) (λ row. rw (z, rowsAt-none (v .width) (v .base) (s .tables .now)))
 
 pub load-backwards-spec : {M : Type 1} → statement M
 load-backwards-spec =
@@ -95,7 +98,7 @@ load-backwards-spec =
     enum-known-rows
     loop-less
     loop-again
-    enum-told
+    enum-told clear-from-requires
     same-length
     returns
     same-length-2

@@ -49,16 +49,19 @@ enum-known-rows c = search needs
 enum-told : tie.Need-enum-told Inv-loop μ-loop
 enum-told c = search needs
 
+clear-from-requires : tie.Need-clear-from-requires Inv-loop μ-loop
+clear-from-requires c κs = omega (arith, c .before .before .before .before .before .place-next .kept, c .before .before .before .before .before .before .before .before .before .before .before .loop .inv .2 .filled .size, c .before .before .before .before .before .before .before .before .before .before .before .loop .inv .2 .filled .fits)
+
 -- src/copy.rt:145:21
 same-length : tie.Need-same-length Inv-loop μ-loop
-same-length c = omega (arith, c .before .before .before .before .place-next .kept, c .before .before .before .before .before .before .before .before .before .before .loop .inv .2 .filled .size)
+same-length c = omega (arith, c .before .before .clear-from .kept, c .before .before .before .before .before .before .before .before .place-next .kept, c .before .before .before .before .before .before .before .before .before .before .before .before .before .before .loop .inv .2 .filled .size)
 
 -- src/copy.rt:145:21
 returns : tie.Need-returns Inv-loop μ-loop
-returns c = let s = c .before .before .before .before .before .before .before .before .before .before .before .before .args in let l = c .before .before .before .before .before .before .before .before .before .before .loop in let w = s .left .width in let d = s .work .now in let some = c .before .before .before .before .before .before .before .left-is-next .ensures .0 (c .before .before .before .before .before .before .if1 .taken) in
-    rw (c .before .before .before .before .before .before .before .before .before .before .before .before .pre .1) (offered-off (l .inv .2) (rowsAt w (l .more - 1) (l .at + w) d ++ rowsAt w (l .others) (l .beside) d)
-    (left-next w (l .more) (l .at) (l .others) (l .beside) d some (omega (arith, c .before .before .before .before .before .before .before .before .before .before .before .before .pre .4)))
-    (builds-row (filled-row (l .inv .2 .filled) (l .at) w (omega (arith, times-step (l .more) w some))) (c .before .before .before .before .place-next .ensures)) (c .enum-told .given .1))
+returns c = let s = c .before .before .before .before .before .before .before .before .before .before .before .before .before .before .before .before .args in let l = c .before .before .before .before .before .before .before .before .before .before .before .before .before .before .loop in let w = s .left .width in let d = s .work .now in let some = c .before .before .before .before .before .before .before .before .before .before .before .left-is-next .ensures .0 (c .before .before .before .before .before .before .before .before .before .before .if1 .taken) in
+    rw (c .before .before .before .before .before .before .before .before .before .before .before .before .before .before .before .before .pre .1) (offered-off (l .inv .2) (rowsAt w (l .more - 1) (l .at + w) d ++ rowsAt w (l .others) (l .beside) d)
+    (left-next w (l .more) (l .at) (l .others) (l .beside) d some (omega (arith, c .before .before .before .before .before .before .before .before .before .before .before .before .before .before .before .before .pre .4)))
+    (builds-row (filled-row (l .inv .2 .filled) (l .at) w (omega (arith, times-step (l .more) w some))) (c .before .before .before .before .before .before .before .before .place-next .ensures)) (c .before .before .before .before .enum-told .given .1) (c .before .before .clear-from .ensures))
 
 -- src/copy.rt:148:13
 add-at : tie.Need-add-at Inv-loop μ-loop
@@ -95,16 +98,19 @@ enum-known-rows-2 c = search needs
 enum-told-2 : tie.Need-enum-told-2 Inv-loop μ-loop
 enum-told-2 c = search needs
 
+clear-from-requires-2 : tie.Need-clear-from-requires-2 Inv-loop μ-loop
+clear-from-requires-2 c κs = omega (arith, c .before .before .before .before .before .place-next2 .kept, c .before .before .before .before .before .before .before .before .before .before .before .loop .inv .2 .filled .size, c .before .before .before .before .before .before .before .before .before .before .before .loop .inv .2 .filled .fits)
+
 -- src/copy.rt:156:21
 same-length-2 : tie.Need-same-length-2 Inv-loop μ-loop
-same-length-2 c = omega (arith, c .before .before .before .before .place-next2 .kept, c .before .before .before .before .before .before .before .before .before .before .loop .inv .2 .filled .size)
+same-length-2 c = omega (arith, c .before .before .clear-from2 .kept, c .before .before .before .before .before .before .before .before .place-next2 .kept, c .before .before .before .before .before .before .before .before .before .before .before .before .before .before .loop .inv .2 .filled .size)
 
 -- src/copy.rt:156:21
 returns-2 : tie.Need-returns-2 Inv-loop μ-loop
-returns-2 c = let s = c .before .before .before .before .before .before .before .before .before .before .before .before .args in let l = c .before .before .before .before .before .before .before .before .before .before .loop in let w = s .left .width in let d = s .work .now in let some = c .before .before .before .before .before .before .before .left-is-next .ensures .1 (c .before .before .before .before .before .before .if1 .left) in
-    rw (c .before .before .before .before .before .before .before .before .before .before .before .before .pre .1) (offered-off (l .inv .2) (rowsAt w (l .more) (l .at) d ++ rowsAt w (l .others - 1) (l .beside + w) d)
-    (right-next w (l .more) (l .at) (l .others) (l .beside) d some (omega (arith, c .before .before .before .before .before .before .before .before .before .before .before .before .pre .4)))
-    (builds-row (filled-row (l .inv .2 .filled) (l .beside) w (omega (arith, times-step (l .others) w some))) (c .before .before .before .before .place-next2 .ensures)) (c .enum-told2 .given .1))
+returns-2 c = let s = c .before .before .before .before .before .before .before .before .before .before .before .before .before .before .before .before .args in let l = c .before .before .before .before .before .before .before .before .before .before .before .before .before .before .loop in let w = s .left .width in let d = s .work .now in let some = c .before .before .before .before .before .before .before .before .before .before .before .left-is-next .ensures .1 (c .before .before .before .before .before .before .before .before .before .before .if1 .left) in
+    rw (c .before .before .before .before .before .before .before .before .before .before .before .before .before .before .before .before .pre .1) (offered-off (l .inv .2) (rowsAt w (l .more) (l .at) d ++ rowsAt w (l .others - 1) (l .beside + w) d)
+    (right-next w (l .more) (l .at) (l .others) (l .beside) d some (omega (arith, c .before .before .before .before .before .before .before .before .before .before .before .before .before .before .before .before .pre .4)))
+    (builds-row (filled-row (l .inv .2 .filled) (l .beside) w (omega (arith, times-step (l .others) w some))) (c .before .before .before .before .before .before .before .before .place-next2 .ensures)) (c .before .before .before .before .enum-told2 .given .1) (c .before .before .clear-from2 .ensures))
 
 -- src/copy.rt:159:13
 add-beside : tie.Need-add-beside Inv-loop μ-loop
@@ -134,7 +140,7 @@ same-length-3 c = omega (arith, c .before .loop .inv .2 .filled .size)
 
 -- src/copy.rt:128:1
 returns-3 : tie.Need-returns-3 Inv-loop μ-loop
-returns-3 c = let s = c .before .before .before .args in let l = c .before .loop in rw (c .before .before .before .pre .1) (offered-end (l .inv .2) (both-over (s .left .width) (l .more) (l .at) (l .others) (l .beside) (s .work .now) (omega arith) (omega arith)))
+returns-3 c = let s = c .before .before .before .args in let l = c .before .loop in rw (c .before .before .before .pre .1) (offered-end (l .inv .2) (c .before .before .before .pre .5) (both-over (s .left .width) (l .more) (l .at) (l .others) (l .beside) (s .work .now) (omega arith) (omega arith)))
 
 pub unite-spec : {M : Type 1} → statement M
 unite-spec =
@@ -147,7 +153,7 @@ unite-spec =
     left-is-next-requires
     place-next-requires
     enum-known-rows
-    enum-told
+    enum-told clear-from-requires
     same-length
     returns
     add-at
@@ -156,7 +162,7 @@ unite-spec =
     loop-again
     place-next-requires-2
     enum-known-rows-2
-    enum-told-2
+    enum-told-2 clear-from-requires-2
     same-length-2
     returns-2
     add-beside

@@ -48,20 +48,35 @@ enum-known-rows : tie.Need-enum-known-rows
 enum-known-rows c = search needs
 
 -- src/keyed.rt:82:45
-mul-move-down : tie.Need-mul-move-down
-mul-move-down c = let room = made-room (c .before .before .before .before .before .before .before .before .before .before .before .before .before .before .before .before .before .before .before .pre .7) (c .before .before .before .before .before .before .before .before .before .keys .given .1) (c .before .before .before .before .before .before .before .before .before .before .before .before .before .project .ensures) in omega (arith, made-room room (c .before .before .rows .given .1) (c .before .before .before .before .before .before .keep .ensures))
+mul-words : tie.Need-mul-words
+mul-words c = let room = made-room (c .before .before .before .before .before .before .before .before .before .before .before .before .before .before .before .before .before .before .pre .7) (c .before .before .before .before .before .before .before .before .keys .given .1) (c .before .before .before .before .before .before .before .before .before .before .before .before .project .ensures) in omega (arith, made-room room (c .before .rows .given .1) (c .before .before .before .before .before .keep .ensures))
+
+add-end : tie.Need-add-end
+add-end c = let room = made-room (c .before .before .before .before .before .before .before .before .before .before .before .before .before .before .before .before .before .before .pre .7) (c .before .before .before .before .before .before .before .before .keys .given .1) (c .before .before .before .before .before .before .before .before .before .before .before .before .project .ensures) in omega (arith, made-room room (c .before .rows .given .1) (c .before .before .before .before .before .keep .ensures))
+
+add-last : tie.Need-add-last
+add-last c = let room = made-room (c .before .before .before .before .before .before .before .before .before .before .before .before .before .before .before .before .before .before .pre .7) (c .before .before .before .before .before .before .before .before .keys .given .1) (c .before .before .before .before .before .before .before .before .before .before .before .before .project .ensures) in omega (arith, made-room room (c .before .rows .given .1) (c .before .before .before .before .before .keep .ensures))
 
 -- src/keyed.rt:82:21
 move-down-requires : tie.Need-move-down-requires
 move-down-requires c κs = let room = made-room (c .before .before .before .before .before .before .before .before .before .before .before .before .before .before .before .before .before .before .before .pre .7) (c .before .before .before .before .before .before .before .before .before .keys .given .1) (c .before .before .before .before .before .before .before .before .before .before .before .before .before .project .ensures) in (omega arith, made-room room (c .before .before .rows .given .1) (c .before .before .before .before .before .before .keep .ensures))
 
+clear-words-requires : tie.Need-clear-words-requires
+clear-words-requires c κs = let room = made-room (c .before .before .before .before .before .before .before .before .before .before .before .before .before .before .before .before .before .before .before .before .before .before .before .pre .7) (c .before .before .before .before .before .before .before .before .before .before .before .before .before .keys .given .1) (c .before .before .before .before .before .before .before .before .before .before .before .before .before .before .before .before .before .project .ensures) in (omega arith, omega (arith, c .before .before .before .move-down .kept, made-room room (c .before .before .before .before .before .before .rows .given .1) (c .before .before .before .before .before .before .before .before .before .before .keep .ensures)))
+
 -- src/keyed.rt:85:33
 enum-told : tie.Need-enum-told
 enum-told c = search needs
 
+clear-from-requires : tie.Need-clear-from-requires
+clear-from-requires c κs = let room = made-room (c .before .before .before .before .before .before .before .before .before .before .before .before .before .before .before .before .before .before .pre .7) (c .before .before .before .before .before .before .before .before .keys .given .1) (c .before .before .before .before .before .before .before .before .before .before .before .before .project .ensures) in omega (arith, c .before .before .before .before .before .keep .kept)
+
 -- src/keyed.rt:88:25
 enum-told-2 : tie.Need-enum-told-2
 enum-told-2 c = search needs
+
+clear-from-requires-2 : tie.Need-clear-from-requires-2
+clear-from-requires-2 c κs = omega (arith, c .before .before .before .before .before .project .kept)
 
 -- src/keyed.rt:58:1
 same-length : tie.Need-same-length
@@ -69,9 +84,10 @@ same-length c = search needs
 
 -- src/keyed.rt:58:1
 returns : tie.Need-returns
-returns c = let s = c .before .before .before .before .before .before .before .before .before .before .before .before .before .before .before .before .before .before .before .before .before .before .args in let p = c .before .before .before .before .before .before .before .before .before .before .before .before .before .before .before .before .before .before .before .before .before .before .pre in
-    tried-made (s .wanted) (s .count) (s .list .now) (s .left) (s .right) (s .out) (c .before .before .before .before .before .before .before .before .before .before .before .before .keys .given .0 .0) (c .before .before .before .before .before .rows .given .0 .0) (p .3) (p .5) (p .7) (c .before .before .before .before .before .before .before .before .before .before .before .before .before .before .before .before .project .ensures)
-    (keys-made (rowsOf (s .right) (s .work .now)) (p .7) (c .before .before .before .before .before .before .before .before .before .before .before .before .before .before .before .before .before .before .before .right-columns .ensures) (c .before .before .before .before .before .before .before .before .before .before .before .before .keys .given .1) (c .before .before .before .before .before .before .before .before .before .before .before .before .before .before .before .before .project .ensures) .0) (made-room (p .7) (c .before .before .before .before .before .before .before .before .before .before .before .before .keys .given .1) (c .before .before .before .before .before .before .before .before .before .before .before .before .before .before .before .before .project .ensures)) (c .before .before .before .before .before .before .before .before .before .keep .ensures) (c .before .before .before .before .before .rows .given .1) (c .before .before .move-down .ensures)
+returns c = let s = c .before .before .before .before .before .before .before .before .before .before .before .before .before .before .before .before .before .before .before .before .before .before .before .before .before .before .args in let p = c .before .before .before .before .before .before .before .before .before .before .before .before .before .before .before .before .before .before .before .before .before .before .before .before .before .before .pre in
+    tried-made (s .wanted) (s .count) (s .list .now) (s .left) (s .right) (s .out) (c .before .before .before .before .before .before .before .before .before .before .before .before .before .before .before .before .keys .given .0 .0) (c .before .before .before .before .before .before .before .before .before .rows .given .0 .0) (p .3) (p .5) (p .7) (p .8) (c .before .before .before .before .before .before .before .before .before .before .before .before .before .before .before .before .keys .given .1) (c .before .before .before .before .before .before .before .before .before .before .before .before .before .before .before .before .before .before .before .before .project .ensures)
+    (keys-made (rowsOf (s .right) (s .work .now)) (p .7) (c .before .before .before .before .before .before .before .before .before .before .before .before .before .before .before .before .before .before .before .before .before .before .before .right-columns .ensures) (c .before .before .before .before .before .before .before .before .before .before .before .before .before .before .before .before .keys .given .1) (c .before .before .before .before .before .before .before .before .before .before .before .before .before .before .before .before .before .before .before .before .project .ensures) .0)
+    (c .before .before .before .before .before .before .before .before .before .before .before .before .before .keep .ensures) (c .before .before .before .before .before .before .before .before .before .rows .given .1) (c .before .before .before .before .before .before .move-down .ensures) (c .before .before .clear-words .ensures)
 
 -- src/keyed.rt:58:1
 same-length-2 : tie.Need-same-length-2
@@ -79,7 +95,7 @@ same-length-2 c = search needs
 
 -- src/keyed.rt:58:1
 returns-2 : tie.Need-returns-2
-returns-2 c = let p = c .before .before .before .before .before .before .before .before .before .before .before .before .before .before .before .before .before .pre in tried-short (p .7) (c .before .before .before .before .before .before .before .before .before .before .before .project .ensures) (omega arith) (made-room (p .7) (c .before .before .before .before .before .before .before .keys .given .1) (c .before .before .before .before .before .before .before .before .before .before .before .project .ensures)) (c .before .before .before .before .keep .ensures)
+returns-2 c = tried-short (c .before .before .before .before .before .before .before .before .before .before .before .before .before .before .before .before .before .before .before .before .before .pre .8) (c .before .before .before .before .before .before .before .before .before .before .before .before .before .before .before .project .ensures) (omega arith) (c .before .before .before .before .before .before .before .before .keep .ensures) (c .before .before .clear-from .ensures)
 
 -- src/keyed.rt:58:1
 same-length-3 : tie.Need-same-length-3
@@ -87,7 +103,7 @@ same-length-3 c = search needs
 
 -- src/keyed.rt:58:1
 returns-3 : tie.Need-returns-3
-returns-3 c = tried-none (c .before .before .before .before .before .before .before .before .before .before .pre .7) (c .before .before .before .before .project .ensures)
+returns-3 c = tried-none (c .before .before .before .before .before .before .before .before .before .before .before .before .before .before .pre .8) (c .before .before .before .before .before .before .before .before .project .ensures) (c .before .before .clear-from2 .ensures)
 
 pub keep-by-key-spec : {M : Type 1} → statement M
 keep-by-key-spec =
@@ -101,10 +117,10 @@ keep-by-key-spec =
     add-behind
     keep-requires
     enum-known-rows
-    mul-move-down
-    move-down-requires
-    enum-told
-    enum-told-2
+    mul-words add-end add-last
+    move-down-requires clear-words-requires
+    enum-told clear-from-requires
+    enum-told-2 clear-from-requires-2
     same-length
     returns
     same-length-2

@@ -1,7 +1,4 @@
-use Rattle.values.specs.Words.{rowsOf}
-use Rattle.values.proofs.MakeLaws.{builds-makes}
-use Rattle.operations.specs.Lists.{triplesIn}
-use Rattle.operations.proofs.TriedLaws.{tried-told, tried-rows, tried-then}
+use Rattle.operations.proofs.TriedLaws.{tried-told}
 use native.Mathlib.Omega.{arith}
 use borrow.Author.Needs.{needs}
 use Rattle.operations.proofs.keyed.keep_wanted.Statement.{statement}
@@ -18,7 +15,7 @@ needs-keys-requires c κs = search needs
 
 -- src/keyed.rt:143:15
 keep-by-key-requires : tie.Need-keep-by-key-requires
-keep-by-key-requires c κs = let p = c .before .before .before .before .before .pre in let k = c .before .before .needs-keys .ensures (c .before .if1 .taken) in (k .0, k .1, p .4, k .2, p .0, p .1, p .3, p .2)
+keep-by-key-requires c κs = let p = c .before .before .before .before .before .pre in let k = c .before .before .needs-keys .ensures (c .before .if1 .taken) in (k .0, k .1, p .4, k .2, p .0, p .1, p .3, p .2, p .6)
 
 -- src/keyed.rt:144:26
 enum-known-rows : tie.Need-enum-known-rows
@@ -30,7 +27,7 @@ enum-told c = search needs
 
 -- src/keyed.rt:145:29
 keep-tested-requires : tie.Need-keep-tested-requires
-keep-tested-requires c κs = let p = c .before .before .before .before .before .before .before .before .before .before .before .pre in let t = c .before .before .before .before .before .keep-by-key .ensures in (p .0, p .1, omega (arith, t .size), p .3, p .4, rw (tried-rows t (c .before .before .before .before .before .before .before .before .before .before .before .args .right) (p .3)) (p .5))
+keep-tested-requires c κs = let p = c .before .before .before .before .before .before .before .before .before .before .before .pre in let e = rw (c .before .enum-told .given .1) at (c .before .before .before .before .before .keep-by-key .ensures) in (p .0, p .1, rw e (p .2), p .3, p .4, rw e (p .5), rw e (p .6))
 
 -- src/keyed.rt:148:9
 keep-tested-requires-2 : tie.Need-keep-tested-requires-2
@@ -50,7 +47,7 @@ same-length-2 c = search needs
 
 -- src/keyed.rt:130:1
 returns-2 : tie.Need-returns-2
-returns-2 c = let s = c .before .before .before .before .before .before .before .before .before .before .before .before .before .before .args in let p = c .before .before .before .before .before .before .before .before .before .before .before .before .before .before .pre in tried-then (c .before .before .before .before .before .before .before .before .keep-by-key .ensures) (s .wanted) (triplesIn (s .count) (s .list .now)) (s .left) (s .right) (p .2) (p .1) (p .3) (c .before .before .keep-tested .ensures)
+returns-2 c = rw (rw (c .before .before .before .before .enum-told .given .1) at (c .before .before .before .before .before .before .before .before .keep-by-key .ensures)) at (c .before .before .keep-tested .ensures)
 
 -- src/keyed.rt:130:1
 same-length-3 : tie.Need-same-length-3
@@ -58,7 +55,7 @@ same-length-3 c = search needs
 
 -- src/keyed.rt:130:1
 returns-3 : tie.Need-returns-3
-returns-3 c = builds-makes (c .before .before .before .before .before .before .before .before .pre .2) (c .before .before .keep-tested2 .ensures)
+returns-3 c = c .before .before .keep-tested2 .ensures
 
 pub keep-wanted-spec : {M : Type 1} → statement M
 keep-wanted-spec =

@@ -1,6 +1,6 @@
 use Rattle.planning.proofs.TargetLaws.{whole-target, one-target}
 use Rattle.calculus.proofs.LegalColumns.{widths-in-columns}
-use Rattle.emission.specs.Listings.{Longer, numbersOf}
+use Rattle.emission.specs.NodeLists.{grownBy, numbersOf}
 use Rattle.conditions.specs.Scopes.{scopeOf}
 use Rattle.calculus.proofs.LegalColumns.{column-at-most}
 use Rattle.calculus.proofs.ScopeLaws.{columns-length}
@@ -8,7 +8,7 @@ use Rattle.calculus.specs.Form.{GoodTarget}
 use Rattle.calculus.specs.Scope.{widthIn, columnNumber, columnsFrom, targetColumns}
 use Rattle.calculus.specs.Question as calculus
 use lib.ListN.{length}
-use mathlib.Core.List.{List, [], _∷_}
+use mathlib.Core.List.{[], _∷_}
 use mathlib.Core.Path.{sym, ap, ap₂, subst, _∙_}
 use Prim.Native.Nat.{ℕ, _≤_}
 use native.Mathlib.Omega.{arith}
@@ -33,7 +33,7 @@ with-columns-requires c κs = let s = c .before .before .before in
 returns : tie.Need-returns
 returns c = let s = c .before .before .before .before in
     let sc = scopeOf (s .args .scope) in
-    subst (λ (more : List ℕ). Longer (s .args .list) more (c .with-columns .result)) (sym (ap (λ (t : calculus.Target). numbersOf (targetColumns sc t)) (whole-target (s .args .variable) (c .before .before .before .if1 .taken)) ∙ ap₂ (λ (a b : ℕ). numbersOf (columnsFrom a b)) (sym (c .before .width-in .ensures)) (sym (c .before .before .column-number .ensures)))) (c .with-columns .ensures)
+    c .with-columns .ensures ∙ ap (grownBy (s .args .list)) (sym (ap (λ (t : calculus.Target). numbersOf (targetColumns sc t)) (whole-target (s .args .variable) (c .before .before .before .if1 .taken)) ∙ ap₂ (λ (a b : ℕ). numbersOf (columnsFrom a b)) (sym (c .before .width-in .ensures)) (sym (c .before .before .column-number .ensures))))
 
 column-number-requires-2 : tie.Need-column-number-requires-2
 column-number-requires-2 c κs = let s = c .before in
@@ -48,7 +48,7 @@ with-word-requires c κs = let s = c .before .before in
 returns-2 : tie.Need-returns-2
 returns-2 c = let s = c .before .before .before in
     let sc = scopeOf (s .args .scope) in
-    subst (λ (more : List ℕ). Longer (s .args .list) more (c .with-word .result)) (sym (ap (λ (t : calculus.Target). numbersOf (targetColumns sc t)) (one-target (s .args .variable) (s .args .attribute) (c .before .before .if1 .left)) ∙ ap (λ (a : ℕ). a ∷ []) (sym (c .before .column-number2 .ensures)))) (c .with-word .ensures)
+    c .with-word .ensures ∙ ap (grownBy (s .args .list)) (sym (ap (λ (t : calculus.Target). numbersOf (targetColumns sc t)) (one-target (s .args .variable) (s .args .attribute) (c .before .before .if1 .left)) ∙ ap (λ (a : ℕ). a ∷ []) (sym (c .before .column-number2 .ensures))))
 
 pub with-target-spec : {M : Type 1} → statement M
 with-target-spec =

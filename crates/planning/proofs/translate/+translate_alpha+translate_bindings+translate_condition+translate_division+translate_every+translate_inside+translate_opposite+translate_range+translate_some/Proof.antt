@@ -30,9 +30,9 @@ use Rattle.planning.proofs.translate.+translate_alpha+translate_binding
 use Rattle.planning.proofs.translate.translate_some.Reads as translate-some
 use Rattle.planning.proofs.translate.translate_some.Kinds as translate-some-kinds
 use Rattle.planning.proofs.translate.+translate_alpha+translate_bindings+translate_condition+translate_division+translate_every+translate_inside+translate_opposite+translate_range+translate_some.Lts-translate_some as translate-some-lts
-use Rattle.question.proofs.node.decode.Reads as decode-reads
+use Rattle.nodes.proofs.node.decode.Reads as decode-reads
 use Rattle.emission.proofs.emit.intersect.Reads as intersect-reads
-use Rattle.emission.proofs.listing.no_list.Reads as no-list-reads
+use Rattle.emission.proofs.node_list.no_list.Reads as no-list-reads
 use Rattle.emission.proofs.emit.product.Reads as product-reads
 use Rattle.emission.proofs.emit.project.Reads as project-reads
 use Rattle.emission.proofs.emit.subtract.Reads as subtract-reads
@@ -40,7 +40,7 @@ use Rattle.emission.proofs.emit.unite.Reads as unite-reads
 use Rattle.conditions.proofs.leaves.leaves_of.Reads as leaves-of-reads
 use Rattle.short_rules.proofs.fits.short_rule_2_fits.Reads as short-rule-2-fits-reads
 use Rattle.short_rules.proofs.fits.short_rule_4_fits.Reads as short-rule-4-fits-reads
-use Rattle.emission.proofs.listing.with_columns.Reads as with-columns-reads
+use Rattle.emission.proofs.node_list.with_columns.Reads as with-columns-reads
 use Rattle.short_rules.proofs.rules.write_project.Reads as write-project-reads
 use Rattle.short_rules.proofs.rules.write_select.Reads as write-select-reads
 use Rattle.short_rules.proofs.rules.write_short_rule_2.Reads as write-short-rule-2-reads
@@ -57,7 +57,7 @@ use Rattle.planning.proofs.targets.with_targets.Reads as with-targets-r
 use Rattle.planning.proofs.translate.+translate_alpha+translate_bindings+translate_condition+translate_division+translate_every+translate_inside+translate_opposite+translate_range+translate_some.{statement}
 use Rattle.planning.proofs.translate.+translate_alpha+translate_bindings+translate_condition+translate_division+translate_every+translate_inside+translate_opposite+translate_range+translate_some.Tie.{close}
 use Rattle.planning.proofs.RangeSteps.{Sides, or-sides, and-sides, and-not-sides, call-left, call-right, room-last, sides-done, room-one, done-as, call-alpha}
-use Rattle.question.specs.declared.node.Node.the-variants.{Table, Alpha, Some, Atom as AtomNode}
+use Rattle.nodes.specs.declared.node.Node.the-variants.{Table, Alpha, Some, Atom as AtomNode}
 use Rattle.relations.specs.Nodes.{unite, intersect, subtract}
 use mathlib.Core.Path.{sym, _∙_, _≡_, ap, subst}
 use Rattle.planning.proofs.BindingSteps.{Chain, chain, call-bound, room-product, scope-grows, call-next, bindings-done, no-more-done}
@@ -66,11 +66,11 @@ use mathlib.Core.Bool.{Bool, true, _&&_}
 use Rattle.relations.proofs.BoolLaws.{and-right, true-and-false}
 use Rattle.calculus.specs.Scope.{columnsIn, allColumns}
 use Rattle.calculus.specs.ShortRules.{shortRule5Fits}
-use Rattle.question.specs.Nodes.{nodeAt}
+use Rattle.nodes.specs.Nodes.{nodeAt}
 use Rattle.conditions.specs.Readings.{Names, conditionAt, rangeAt}
 use Rattle.conditions.specs.Scopes.{scopeOf}
 use Rattle.emission.proofs.WrittenLaws.{room-after, room-less}
-use Rattle.planning.proofs.QuantifierSteps.{inside-restricts, columns-room, columns-listed, some-ready, every-ready, range-ready, few-nodes, inside-ready, division-ready, room-plain, inside-condition-ready, inside-written, rule-test, rule-2-ready, rule-4-ready, some-by-rule-2, some-by-rule-3, every-by-rule-4, every-by-rule-5, some-plain, every-plain}
+use Rattle.planning.proofs.QuantifierSteps.{inside-restricts, columns-room, columns-lists, columns-project, some-ready, every-ready, range-ready, few-nodes, inside-ready, division-ready, room-plain, inside-condition-ready, inside-written, rule-test, rule-2-ready, rule-4-ready, some-by-rule-2, some-by-rule-3, every-by-rule-4, every-by-rule-5, some-plain, every-plain}
 use Rattle.planning.proofs.DivisionSteps.{divided-ready, dividend-fits, division-written}
 use Rattle.planning.proofs.ConditionSteps.{TwoSides, OneInner, Quantified, AtomHere, atom-step, and-step, or-step, not-step, some-step, every-step, good-of, ready-at, left-ready, left-written, right-ready, right-written, room-behind-both, inner-ready, inner-few, inner-written, room-behind-inner, written-restriction, written-none, atom-written, and-written, or-written, not-written, opposite-written, atom-opposite-written}
 use Rattle.conditions.proofs.Readings.{named, range-is, bindings-is, bindings-none, condition-is, restriction-is, restriction-none, some-parts}
@@ -596,14 +596,14 @@ translate-division-leaves-of-requires t c κs = let s = c .before .before .befor
 
 translate-division-write-short-rule-5-requires : (t : ℕ) → translate-division-lts.Need-write-short-rule-5-requires (translate-division-calls t) (translate-division-at t) translate-division.Post
 translate-division-write-short-rule-5-requires t c κs = let s = c .before .before .before .before .before .before .before .before .before .before .before .before .before in
-    (s .pre .1 .1 .fits, dividend-fits (s .args .words .now) (s .pre .1 .0) (translate-division-some t (c .before .before .before .before .before .before .before)) (s .pre .1 .1) (c .before .before .before .before .translate-range .ensures) (c .before .leaves-of .ensures) (s .pre .1 .2))
+    (s .pre .1 .1 .fits, dividend-fits (s .args .words .now) (s .pre .1 .0) (translate-division-some t (c .before .before .before .before .before .before .before)) (s .pre .1 .1) (c .before .before .before .before .translate-range .ensures) (c .before .leaves-of .ensures .1) (s .pre .1 .2))
 
 translate-division-same-length : (t : ℕ) → translate-division-lts.Need-same-length (translate-division-calls t) (translate-division-at t) translate-division.Post
 translate-division-same-length t c = search needs
 
 translate-division-returns : (t : ℕ) → translate-division-lts.Need-returns (translate-division-calls t) (translate-division-at t) translate-division.Post
 translate-division-returns t c = let s = c .before .before .before .before .before .before .before .before .before .before .before .before .before .before .before .before in
-    division-written (s .args .words .now) (s .pre .1 .0) (translate-division-some t (c .before .before .before .before .before .before .before .before .before .before)) (s .pre .1 .1) (c .before .before .before .before .before .before .before .translate-range .ensures) (c .before .before .before .before .leaves-of .ensures) (s .args .k) (s .args .p) (c .before .before .write-short-rule-5 .ensures)
+    division-written (s .args .words .now) (s .pre .1 .0) (translate-division-some t (c .before .before .before .before .before .before .before .before .before .before)) (s .pre .1 .1) (c .before .before .before .before .before .before .before .translate-range .ensures) (c .before .before .before .before .leaves-of .ensures .1) (s .args .k) (s .args .p) (c .before .before .write-short-rule-5 .ensures)
 
 translate-division-returns-2 : (t : ℕ) → translate-division-lts.Need-returns-2 (translate-division-calls t) (translate-division-at t) translate-division.Post
 translate-division-returns-2 t c = let s = c .before .before .before .before .before in
@@ -619,11 +619,11 @@ translate-every-leaves-of-requires t c κs = let s = c .before .before .before .
     collectable (s .args .words .now) (s .args .condition) (s .pre .1 .1) (few-nodes (every-ready (s .pre .1 .2)))
 
 translate-every-short-rule-4-fits-requires : (t : ℕ) → translate-every-lts.Need-short-rule-4-fits-requires (translate-every-calls t) (translate-every-at t) translate-every.Post
-translate-every-short-rule-4-fits-requires t c κs = c .leaves-of .ensures .fits
+translate-every-short-rule-4-fits-requires t c κs = c .leaves-of .ensures .1 .fits
 
 translate-every-write-short-rule-4-requires : (t : ℕ) → translate-every-lts.Need-write-short-rule-4-requires (translate-every-calls t) (translate-every-at t) translate-every.Post
 translate-every-write-short-rule-4-requires t c κs = let s = c .before .before .before .before .before .before .before .before .before .before .before in
-    let found = c .before .before .before .leaves-of .ensures in
+    let found = c .before .before .before .leaves-of .ensures .1 in
     rule-4-ready (every-ready (s .pre .1 .2)) (c .before .before .before .before .before .before .translate-range .ensures) found (and-right (s .args .short) _ (rule-test found (s .args .x) (s .args .short) (found .or-tree) (c .before .before .short-rule-4-fits .ensures) (c .before .if1 .taken)))
 
 translate-every-same-length : (t : ℕ) → translate-every-lts.Need-same-length (translate-every-calls t) (translate-every-at t) translate-every.Post
@@ -631,7 +631,7 @@ translate-every-same-length t c = search needs
 
 translate-every-returns : (t : ℕ) → translate-every-lts.Need-returns (translate-every-calls t) (translate-every-at t) translate-every.Post
 translate-every-returns t c = let s = c .before .before .before .before .before .before .before .before .before .before .before .before .before .before in
-    let found = c .before .before .before .before .before .before .leaves-of .ensures in
+    let found = c .before .before .before .before .before .before .leaves-of .ensures .1 in
     every-by-rule-4 (c .before .before .before .before .before .before .before .before .before .translate-range .ensures) found (s .args .x) (scopeOf (s .args .scope)) (s .args .p) (rule-test found (s .args .x) (s .args .short) (found .or-tree) (c .before .before .before .before .before .short-rule-4-fits .ensures) (c .before .before .before .before .if1 .taken)) (c .before .before .write-short-rule-4 .ensures)
 
 translate-every-division-fits-requires : (t : ℕ) → translate-every-lts.Need-division-fits-requires (translate-every-calls t) (translate-every-at t) translate-every.Post
@@ -651,7 +651,7 @@ translate-every-same-length-2 t c = search needs
 
 translate-every-returns-2 : (t : ℕ) → translate-every-lts.Need-returns-2 (translate-every-calls t) (translate-every-at t) translate-every.Post
 translate-every-returns-2 t c = let s = c .before .before .before .before .before .before .before .before .before .before .before .before .before .before .before .before in
-    let found = c .before .before .before .before .before .before .before .before .leaves-of .ensures in
+    let found = c .before .before .before .before .before .before .before .before .leaves-of .ensures .1 in
     every-by-rule-5 (c .before .before .before .before .before .before .before .before .before .before .before .translate-range .ensures) (conditionAt (s .args .words .now) (s .args .condition)) (s .args .x) (scopeOf (s .args .scope)) (s .args .p) (rule-test found (s .args .x) (s .args .short) (found .or-tree) (c .before .before .before .before .before .before .before .short-rule-4-fits .ensures) (c .before .before .before .before .before .before .if1 .left)) (ap (λ (b : Bool). s .args .short && b) (sym (c .before .before .before .before .before .division-fits .ensures)) ∙ c .before .before .before .before .if2 .taken) (c .before .before .translate-division .ensures)
 
 translate-every-no-list-requires : (t : ℕ) → translate-every-lts.Need-no-list-requires (translate-every-calls t) (translate-every-at t) translate-every.Post
@@ -673,22 +673,20 @@ translate-every-subtract-requires t c κs = let s = c .before .before .before .b
 
 translate-every-project-requires : (t : ℕ) → translate-every-lts.Need-project-requires (translate-every-calls t) (translate-every-at t) translate-every.Post
 translate-every-project-requires t c κs = let s = c .before .before .before .before .before .before .before .before .before .before .before .before .before .before .before .before .before .before .before .before .before .before .before in
-    room-after 1 (room-plain (every-ready (s .pre .1 .2)) (c .before .before .before .before .before .before .before .before .before .before .before .before .before .before .before .before .before .before .translate-range .ensures) (s .args .p) (c .before .before .before .before .before .before .before .translate-inside .ensures)) (c .before .before .before .subtract .ensures) (omega arith)
+    (room-after 1 (room-plain (every-ready (s .pre .1 .2)) (c .before .before .before .before .before .before .before .before .before .before .before .before .before .before .before .before .before .before .translate-range .ensures) (s .args .p) (c .before .before .before .before .before .before .before .translate-inside .ensures)) (c .before .before .before .subtract .ensures) (omega arith), columns-lists (s .pre .1 .2 .fits) (c .before .before .before .before .before .before .before .before .before .before .no-list .ensures) (c .before .before .before .before .before .before .before .before .before .with-columns .ensures))
 
 translate-every-subtract-requires-2 : (t : ℕ) → translate-every-lts.Need-subtract-requires-2 (translate-every-calls t) (translate-every-at t) translate-every.Post
 translate-every-subtract-requires-2 t c κs = let s = c .before .before .before .before .before .before .before .before .before .before .before .before .before .before .before .before .before .before .before .before .before .before .before .before .before .before .before in
-    let listed = columns-listed (s .pre .1 .2 .fits) (c .before .before .before .before .before .before .before .before .before .before .before .before .before .before .no-list .ensures) (c .before .before .before .before .before .before .before .before .before .before .before .before .before .with-columns .ensures) in
     let room = room-after 2 (room-plain (every-ready (s .pre .1 .2)) (c .before .before .before .before .before .before .before .before .before .before .before .before .before .before .before .before .before .before .before .before .before .before .translate-range .ensures) (s .args .p) (c .before .before .before .before .before .before .before .before .before .before .before .translate-inside .ensures)) (c .before .before .before .before .before .before .before .subtract .ensures) (omega arith) in
-    room-after 1 room (c .before .before .before .project .ensures (allColumns (columnsIn (scopeOf (s .args .scope)))) listed) (omega arith)
+    room-after 1 room (c .before .before .before .project .ensures) (omega arith)
 
 translate-every-same-length-3 : (t : ℕ) → translate-every-lts.Need-same-length-3 (translate-every-calls t) (translate-every-at t) translate-every.Post
 translate-every-same-length-3 t c = c .before .before .subtract2 .kept .0 ∙ c .before .before .before .before .before .before .project .kept .0 ∙ c .before .before .before .before .before .before .before .before .before .before .subtract .kept .0 ∙ c .before .before .before .before .before .before .before .before .before .before .before .before .before .before .translate-inside .kept .1 .1 .1 .1 .1 .1 .1 .1 .0 ∙ c .before .before .before .before .before .before .before .before .before .before .before .before .before .before .before .before .before .before .before .before .before .before .before .before .before .translate-range .kept .1 .1 .1 .1 .0
 
 translate-every-returns-3 : (t : ℕ) → translate-every-lts.Need-returns-3 (translate-every-calls t) (translate-every-at t) translate-every.Post
 translate-every-returns-3 t c = let s = c .before .before .before .before .before .before .before .before .before .before .before .before .before .before .before .before .before .before .before .before .before .before .before .before .before .before .before .before .before .before in
-    let found = c .before .before .before .before .before .before .before .before .before .before .before .before .before .before .before .before .before .before .before .before .before .before .leaves-of .ensures in
-    let listed = columns-listed (s .pre .1 .2 .fits) (c .before .before .before .before .before .before .before .before .before .before .before .before .before .before .before .before .before .no-list .ensures) (c .before .before .before .before .before .before .before .before .before .before .before .before .before .before .before .before .with-columns .ensures) in
-    every-plain (c .before .before .before .before .before .before .before .before .before .before .before .before .before .before .before .before .before .before .before .before .before .before .before .before .before .translate-range .ensures) (conditionAt (s .args .words .now) (s .args .condition)) (s .args .x) (scopeOf (s .args .scope)) (s .args .p) (c .before .before .before .before .before .before .before .before .before .before .before .before .before .before .translate-inside .ensures) (rule-test found (s .args .x) (s .args .short) (found .or-tree) (c .before .before .before .before .before .before .before .before .before .before .before .before .before .before .before .before .before .before .before .before .before .short-rule-4-fits .ensures) (c .before .before .before .before .before .before .before .before .before .before .before .before .before .before .before .before .before .before .before .before .if1 .left)) (ap (λ (b : Bool). s .args .short && b) (sym (c .before .before .before .before .before .before .before .before .before .before .before .before .before .before .before .before .before .before .before .division-fits .ensures)) ∙ c .before .before .before .before .before .before .before .before .before .before .before .before .before .before .before .before .before .before .if2 .left) (c .before .before .before .before .before .before .before .before .before .before .subtract .ensures) (c .before .before .before .before .before .before .project .ensures (allColumns (columnsIn (scopeOf (s .args .scope)))) listed) (c .before .before .subtract2 .ensures)
+    let found = c .before .before .before .before .before .before .before .before .before .before .before .before .before .before .before .before .before .before .before .before .before .before .leaves-of .ensures .1 in
+    every-plain (c .before .before .before .before .before .before .before .before .before .before .before .before .before .before .before .before .before .before .before .before .before .before .before .before .before .translate-range .ensures) (conditionAt (s .args .words .now) (s .args .condition)) (s .args .x) (scopeOf (s .args .scope)) (s .args .p) (c .before .before .before .before .before .before .before .before .before .before .before .before .before .before .translate-inside .ensures) (rule-test found (s .args .x) (s .args .short) (found .or-tree) (c .before .before .before .before .before .before .before .before .before .before .before .before .before .before .before .before .before .before .before .before .before .short-rule-4-fits .ensures) (c .before .before .before .before .before .before .before .before .before .before .before .before .before .before .before .before .before .before .before .before .if1 .left)) (ap (λ (b : Bool). s .args .short && b) (sym (c .before .before .before .before .before .before .before .before .before .before .before .before .before .before .before .before .before .before .before .division-fits .ensures)) ∙ c .before .before .before .before .before .before .before .before .before .before .before .before .before .before .before .before .before .before .if2 .left) (c .before .before .before .before .before .before .before .before .before .before .subtract .ensures) (columns-project (s .pre .1 .2 .fits) (c .before .before .before .before .before .before .before .before .before .before .before .before .before .before .before .before .before .no-list .ensures) (c .before .before .before .before .before .before .before .before .before .before .before .before .before .before .before .before .with-columns .ensures) (c .before .before .before .before .before .before .project .ensures)) (c .before .before .subtract2 .ensures)
 
 translate-inside-extend-requires : (t : ℕ) → translate-inside-lts.Need-extend-requires (translate-inside-calls t) (translate-inside-at t) translate-inside.Post
 translate-inside-extend-requires t c κs = search needs
@@ -747,7 +745,7 @@ translate-opposite-leaves-of-requires t c κs = let b = translate-opposite-some 
 
 translate-opposite-write-short-rule-3-requires : (t : ℕ) → translate-opposite-lts.Need-write-short-rule-3-requires (translate-opposite-calls t) (translate-opposite-at t) translate-opposite.Post
 translate-opposite-write-short-rule-3-requires t c κs =
-    rule-2-ready (some-ready (translate-opposite-some t (c .before .before .before .before .before .before) .ready)) (c .before .before .before .before .translate-range .ensures) (c .before .leaves-of .ensures) (sym (some-opposite (translate-opposite-some-reads t (c .before .before .before .before .before .before))) ∙ c .before .before .before .before .before .before .before .before .before .before .before .before .before .pre .1 .2)
+    rule-2-ready (some-ready (translate-opposite-some t (c .before .before .before .before .before .before) .ready)) (c .before .before .before .before .translate-range .ensures) (c .before .leaves-of .ensures .1) (sym (some-opposite (translate-opposite-some-reads t (c .before .before .before .before .before .before))) ∙ c .before .before .before .before .before .before .before .before .before .before .before .before .before .pre .1 .2)
 
 translate-opposite-enum-known-node-2 : (t : ℕ) → translate-opposite-lts.Need-enum-known-node-2 (translate-opposite-calls t) (translate-opposite-at t) translate-opposite.Post
 translate-opposite-enum-known-node-2 t c = c .match .keys2
@@ -762,7 +760,7 @@ translate-opposite-same-length t c = search needs
 
 translate-opposite-returns : (t : ℕ) → translate-opposite-lts.Need-returns (translate-opposite-calls t) (translate-opposite-at t) translate-opposite.Post
 translate-opposite-returns t c = let s = c .before .before .before .before .before .before .before .before .before .before .before .before .before .before .before .before in
-    some-by-rule-3 (c .before .before .before .before .before .before .before .translate-range .ensures) (c .before .before .before .before .leaves-of .ensures) (c .before .before .before .before .before .before .before .before .before .before .node .given .0 .0) (scopeOf (s .args .scope)) (s .args .p) (translate-opposite-some-reads t (c .before .before .before .before .before .before .before .before .before)) (c .before .before .write-short-rule-3 .ensures)
+    some-by-rule-3 (c .before .before .before .before .before .before .before .translate-range .ensures) (c .before .before .before .before .leaves-of .ensures .1) (c .before .before .before .before .before .before .before .before .before .before .node .given .0 .0) (scopeOf (s .args .scope)) (s .args .p) (translate-opposite-some-reads t (c .before .before .before .before .before .before .before .before .before)) (c .before .before .write-short-rule-3 .ensures)
 
 translate-opposite-same-length-2 : (t : ℕ) → translate-opposite-lts.Need-same-length-2 (translate-opposite-calls t) (translate-opposite-at t) translate-opposite.Post
 translate-opposite-same-length-2 t c = search needs
@@ -912,11 +910,11 @@ translate-some-leaves-of-requires t c κs = let s = c .before .before .before .b
     collectable (s .args .words .now) (s .args .condition) (s .pre .1 .1) (few-nodes (some-ready (s .pre .1 .2)))
 
 translate-some-short-rule-2-fits-requires : (t : ℕ) → translate-some-lts.Need-short-rule-2-fits-requires (translate-some-calls t) (translate-some-at t) translate-some.Post
-translate-some-short-rule-2-fits-requires t c κs = c .leaves-of .ensures .fits
+translate-some-short-rule-2-fits-requires t c κs = c .leaves-of .ensures .1 .fits
 
 translate-some-write-short-rule-2-requires : (t : ℕ) → translate-some-lts.Need-write-short-rule-2-requires (translate-some-calls t) (translate-some-at t) translate-some.Post
 translate-some-write-short-rule-2-requires t c κs = let s = c .before .before .before .before .before .before .before .before .before .before .before in
-    let found = c .before .before .before .leaves-of .ensures in
+    let found = c .before .before .before .leaves-of .ensures .1 in
     rule-2-ready (some-ready (s .pre .1 .2)) (c .before .before .before .before .before .before .translate-range .ensures) found (and-right (s .args .short) _ (rule-test found (s .args .x) (s .args .short) (found .and-tree) (c .before .before .short-rule-2-fits .ensures) (c .before .if1 .taken)))
 
 translate-some-same-length : (t : ℕ) → translate-some-lts.Need-same-length (translate-some-calls t) (translate-some-at t) translate-some.Post
@@ -924,7 +922,7 @@ translate-some-same-length t c = search needs
 
 translate-some-returns : (t : ℕ) → translate-some-lts.Need-returns (translate-some-calls t) (translate-some-at t) translate-some.Post
 translate-some-returns t c = let s = c .before .before .before .before .before .before .before .before .before .before .before .before .before .before in
-    let found = c .before .before .before .before .before .before .leaves-of .ensures in
+    let found = c .before .before .before .before .before .before .leaves-of .ensures .1 in
     some-by-rule-2 (c .before .before .before .before .before .before .before .before .before .translate-range .ensures) found (s .args .x) (scopeOf (s .args .scope)) (s .args .p) (rule-test found (s .args .x) (s .args .short) (found .and-tree) (c .before .before .before .before .before .short-rule-2-fits .ensures) (c .before .before .before .before .if1 .taken)) (c .before .before .write-short-rule-2 .ensures)
 
 translate-some-no-list-requires : (t : ℕ) → translate-some-lts.Need-no-list-requires (translate-some-calls t) (translate-some-at t) translate-some.Post
@@ -942,16 +940,15 @@ translate-some-sub-project t c = omega (arith, c .before .before .before .transl
 
 translate-some-project-requires : (t : ℕ) → translate-some-lts.Need-project-requires (translate-some-calls t) (translate-some-at t) translate-some.Post
 translate-some-project-requires t c κs = let s = c .before .before .before .before .before .before .before .before .before .before .before .before .before .before .before .before .before in
-    room-less 1 (room-plain (some-ready (s .pre .1 .2)) (c .before .before .before .before .before .before .before .before .before .before .before .before .translate-range .ensures) (s .args .p) (c .before .before .before .translate-inside .ensures)) (omega arith)
+    (room-less 1 (room-plain (some-ready (s .pre .1 .2)) (c .before .before .before .before .before .before .before .before .before .before .before .before .translate-range .ensures) (s .args .p) (c .before .before .before .translate-inside .ensures)) (omega arith), columns-lists (s .pre .1 .2 .fits) (c .before .before .before .before .before .before .no-list .ensures) (c .before .before .before .before .before .with-columns .ensures))
 
 translate-some-same-length-2 : (t : ℕ) → translate-some-lts.Need-same-length-2 (translate-some-calls t) (translate-some-at t) translate-some.Post
 translate-some-same-length-2 t c = search needs
 
 translate-some-returns-2 : (t : ℕ) → translate-some-lts.Need-returns-2 (translate-some-calls t) (translate-some-at t) translate-some.Post
 translate-some-returns-2 t c = let s = c .before .before .before .before .before .before .before .before .before .before .before .before .before .before .before .before .before .before .before .before in
-    let found = c .before .before .before .before .before .before .before .before .before .before .before .before .leaves-of .ensures in
-    let listed = columns-listed (s .pre .1 .2 .fits) (c .before .before .before .before .before .before .before .before .before .no-list .ensures) (c .before .before .before .before .before .before .before .before .with-columns .ensures) in
-    some-plain (c .before .before .before .before .before .before .before .before .before .before .before .before .before .before .before .translate-range .ensures) (conditionAt (s .args .words .now) (s .args .condition)) (s .args .x) (scopeOf (s .args .scope)) (s .args .p) (c .before .before .before .before .before .before .translate-inside .ensures) (rule-test found (s .args .x) (s .args .short) (found .and-tree) (c .before .before .before .before .before .before .before .before .before .before .before .short-rule-2-fits .ensures) (c .before .before .before .before .before .before .before .before .before .before .if1 .left)) (c .before .before .project .ensures (allColumns (columnsIn (scopeOf (s .args .scope)))) listed)
+    let found = c .before .before .before .before .before .before .before .before .before .before .before .before .leaves-of .ensures .1 in
+    some-plain (c .before .before .before .before .before .before .before .before .before .before .before .before .before .before .before .translate-range .ensures) (conditionAt (s .args .words .now) (s .args .condition)) (s .args .x) (scopeOf (s .args .scope)) (s .args .p) (c .before .before .before .before .before .before .translate-inside .ensures) (rule-test found (s .args .x) (s .args .short) (found .and-tree) (c .before .before .before .before .before .before .before .before .before .before .before .short-rule-2-fits .ensures) (c .before .before .before .before .before .before .before .before .before .before .if1 .left)) (columns-project (s .pre .1 .2 .fits) (c .before .before .before .before .before .before .before .before .before .no-list .ensures) (c .before .before .before .before .before .before .before .before .with-columns .ensures) (c .before .before .project .ensures))
 
 pub +translate-alpha+translate-bindings+translate-condition+translate-division+translate-every+translate-inside+translate-opposite+translate-range+translate-some-spec :
     {M : Type 1} → statement M

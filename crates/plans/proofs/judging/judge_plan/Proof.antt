@@ -12,8 +12,8 @@ use borrow.Author.Tests.{eq-eqb, ne-eqb, le-leb, lt-leb}
 use borrow.Author.Needs.{needs}
 use Rattle.relations.specs.PlanWords.{readNode}
 use Rattle.relations.specs.Limits.{planNodeLimit, planNodeWords}
-use Rattle.plans.specs.declared.judging.Judgement.the-variants.{Legal}
-use Rattle.plans.specs.Judging.{judgedNode, judgeNodes, judgement}
+use Rattle.plans.specs.declared.judging.PlanJudgement.the-variants.{Legal}
+use Rattle.plans.specs.Judging.{judgedNode, judgePlanNodes, planJudgement, planNumbers}
 use Rattle.plans.proofs.JudgeLaws.{judge-onward, judge-stopped, judge-ended, judge-sized}
 use Rattle.plans.proofs.judging.judge_plan.Statement.{statement}
 use Rattle.plans.proofs.judging.judge_plan.Tie as tie
@@ -25,7 +25,7 @@ abbrev Inv-loop : tie.InvT-loop
 Inv-loop catalogue plan nodes widths₀ place₀ at₀ widths place at = (place ≤ nodes)
     × (length widths ≡ planNodeLimit)
     × (at ≡ planNodeWords * place)
-    × (judgeNodes catalogue nodes [] plan ≡ judgeNodes catalogue (nodes - place) (take place widths) (drop at plan))
+    × (judgePlanNodes catalogue nodes [] plan ≡ judgePlanNodes catalogue (nodes - place) (take place widths) (drop at plan))
 
 abbrev μ-loop : tie.MeasureT-loop
 μ-loop catalogue plan nodes widths₀ place₀ at₀ widths place at = nodes - place
@@ -40,7 +40,7 @@ returns-3 : tie.Need-returns-3 Inv-loop μ-loop
 returns-3 c = simp (eq-eqb _ _ (c .before .before .if1 .left), le-leb _ _ (c .before .if2 .left), lt-leb _ _ (c .if3 .taken))
 
 -- a plan of a good size is judged node by node
-sized : (c : lts.Else3 (judge-node-reads.Asked, judge-node-reads.Learnt) reads.Pre reads.Post Inv-loop μ-loop) → judgement (c .before .before .before .before .before .args .catalogue .now) (c .before .before .before .before .before .args .plan .now) ≡ judgeNodes (c .before .before .before .before .before .args .catalogue .now) (length (c .before .before .before .before .before .args .plan .now) / planNodeWords) [] (c .before .before .before .before .before .args .plan .now)
+sized : (c : lts.Else3 (judge-node-reads.Asked, judge-node-reads.Learnt) reads.Pre reads.Post Inv-loop μ-loop) → planJudgement (c .before .before .before .before .before .args .catalogue .now) (c .before .before .before .before .before .args .plan .now) ≡ judgePlanNodes (c .before .before .before .before .before .args .catalogue .now) (length (c .before .before .before .before .before .args .plan .now) / planNodeWords) [] (c .before .before .before .before .before .args .plan .now)
 sized c = judge-sized (c .before .before .before .before .before .args .catalogue .now) (c .before .before .before .before .before .args .plan .now) (c .before .before .if1 .left) (c .before .if2 .left) (c .if3 .left)
 
 -- the answer on a node is the judgement of the words that stand there
@@ -88,7 +88,7 @@ enum-told : tie.Need-enum-told Inv-loop μ-loop
 enum-told c = search needs
 
 returns-4 : tie.Need-returns-4 Inv-loop μ-loop
-returns-4 c = sym (sized (c .before .before .before .before .before .before .before) ∙ c .before .before .before .before .before .before .loop .inv .3 ∙ judge-stopped (c .before .before .before .before .before .before .before .before .before .before .before .before .args .catalogue .now) (c .before .before .before .before .before .before .loop .widths) (c .before .before .before .before .before .before .loop .place) (c .before .before .before .before .before .before .before .before .before .before .before .before .args .plan .now) (c .before .before .before .before .before .before .loop .at) (length (c .before .before .before .before .before .before .before .before .before .before .before .before .args .plan .now) / planNodeWords - c .before .before .before .before .before .before .loop .place) (omega arith) (omega arith) (judged (c .before .before) ∙ c .enum-told .given .1))
+returns-4 c = ap planNumbers (sym (sized (c .before .before .before .before .before .before .before) ∙ c .before .before .before .before .before .before .loop .inv .3 ∙ judge-stopped (c .before .before .before .before .before .before .before .before .before .before .before .before .args .catalogue .now) (c .before .before .before .before .before .before .loop .widths) (c .before .before .before .before .before .before .loop .place) (c .before .before .before .before .before .before .before .before .before .before .before .before .args .plan .now) (c .before .before .before .before .before .before .loop .at) (length (c .before .before .before .before .before .before .before .before .before .before .before .before .args .plan .now) / planNodeWords - c .before .before .before .before .before .before .loop .place) (omega arith) (omega arith) (judged (c .before .before) ∙ c .enum-told .given .1)))
 
 add-place : tie.Need-add-place Inv-loop μ-loop
 add-place c = omega arith
@@ -102,7 +102,7 @@ loop-again c = let left : length (c .before .before .before .before .before .bef
 
 returns-5 : tie.Need-returns-5 Inv-loop μ-loop
 returns-5 c = let all : c .before .loop .place ≡ length (c .before .before .before .before .before .before .before .args .plan .now) / planNodeWords = omega arith in
-    sym (sized (c .before .before) ∙ c .before .loop .inv .3 ∙ judge-ended (c .before .before .before .before .before .before .before .args .catalogue .now) (c .before .loop .widths) (c .before .loop .place) (c .before .before .before .before .before .before .before .args .plan .now) (c .before .loop .at) (length (c .before .before .before .before .before .before .before .args .plan .now) / planNodeWords - c .before .loop .place) (omega arith) (omega arith) ∙ ap Legal all)
+    ap planNumbers (sym (sized (c .before .before) ∙ c .before .loop .inv .3 ∙ judge-ended (c .before .before .before .before .before .before .before .args .catalogue .now) (c .before .loop .widths) (c .before .loop .place) (c .before .before .before .before .before .before .before .args .plan .now) (c .before .loop .at) (length (c .before .before .before .before .before .before .before .args .plan .now) / planNodeWords - c .before .loop .place) (omega arith) (omega arith) ∙ ap Legal all))
 
 pub judge-plan-spec : {M : Type 1} → statement M
 judge-plan-spec =

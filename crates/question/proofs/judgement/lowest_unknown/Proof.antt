@@ -1,8 +1,8 @@
 -- `question::judgement::lowest_unknown` meets its contract. The loop's invariant: the lowest such node is the lowest from `i` on. The measure is the number of nodes left. Assumes nothing.
 use Rattle.question.proofs.Searches.{search-start, search-found, search-on, search-end}
-use Rattle.question.specs.References.{lowest, firstFrom}
+use Rattle.nodes.specs.References.{lowest, firstFrom}
 use Rattle.question.specs.Judgement.{isUnknown}
-use Rattle.question.specs.Nodes.{nodeAt}
+use Rattle.nodes.specs.Nodes.{nodeAt}
 use mathlib.Core.Path.{_≡_, refl, sym, _∙_}
 use Prim.Native.Nat.{_≤_, _-_}
 use native.Mathlib.Omega.{arith}

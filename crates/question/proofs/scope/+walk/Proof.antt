@@ -1,9 +1,9 @@
 -- `question::scope::walk` meets its contract. The measure is the reference, which is above those of its node. With none the walk finds nothing;
 -- any other reference's tree is its node over the trees of that node's references (`tree-of-reference`), and each call gives its part of the definition. Assumes nothing.
-use Rattle.question.specs.Scopes.{walk as walkOf}
+use Rattle.question.specs.Walk.{walk as walkOf}
 use Rattle.question.proofs.TreeLaws.{tree-of-reference, tree-of-none}
-use Rattle.question.proofs.Forms.{node-lower, node-variable}
-use Rattle.question.specs.declared.references.References.{References}
+use Rattle.nodes.proofs.Forms.{node-lower, node-variable}
+use Rattle.nodes.specs.declared.references.References.{References}
 use mathlib.Core.Path.{ap}
 use Prim.Native.Nat.{_-_}
 use borrow.Author.Needs.{needs}
@@ -14,8 +14,8 @@ use borrow.Fn.PlainCycle.{Measures, is, falls, and}
 use Rattle.question.proofs.scope.walk.Reads as walk
 use Rattle.question.proofs.scope.walk.Kinds as walk-kinds
 use Rattle.question.proofs.scope.+walk.Lts-walk as walk-lts
-use Rattle.question.proofs.node.decode.Reads as decode-reads
-use Rattle.question.proofs.references.references_of.Reads as references-of-reads
+use Rattle.nodes.proofs.node.decode.Reads as decode-reads
+use Rattle.nodes.proofs.references.references_of.Reads as references-of-reads
 use Rattle.question.proofs.scope.inside.Reads as inside-reads
 use Rattle.question.proofs.scope.lowest_of.Reads as lowest-of-reads
 use Rattle.question.proofs.scope.opening.Reads as opening-reads

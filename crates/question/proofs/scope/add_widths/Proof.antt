@@ -1,5 +1,5 @@
 -- `question::scope::add_widths` meets its contract. Either part, or their sum, over 32 makes the sum 33. Assumes nothing.
-use Rattle.question.specs.Scopes.{addWidths}
+use Rattle.question.specs.Walk.{addWidths}
 use native.Mathlib.Omega.{arith}
 use borrow.Author.Needs.{needs}
 use Rattle.question.proofs.scope.add_widths.Statement.{statement}

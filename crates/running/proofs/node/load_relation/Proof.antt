@@ -1,7 +1,7 @@
 -- `running::node::load_relation` meets its contract: the relation's words stand in the tables, since refusal 7 is past. Assumes nothing.
 use mathlib.Core.Path.{_≡_, _∙_}
 use borrow.Author.Needs.{needs}
-use Rattle.catalogue.specs.Stored.{columnsOf, rowsOf}
+use Rattle.catalogue.specs.Stored.{columnsOf, rowCountOf}
 use Rattle.catalogue.proofs.TableLaws.{has-column, stored-inside, start-few}
 use Rattle.running.proofs.LoadLaws.{loaded}
 use Rattle.running.proofs.node.load_relation.Statement.{statement}
@@ -26,8 +26,8 @@ load-requires : tie.Need-load-requires
 load-requires c κs =
     let s = c .before .before .before .before .before .before .before .before .before in
     let width : c .before .wide2 .result ≡ columnsOf (s .args .catalogue .now) (s .args .relation) = c .before .wide2 .ensures ∙ c .before .before .columns-of .ensures in
-    let rows : c .before .before .before .wide .result ≡ rowsOf (s .args .catalogue .now) (s .args .relation) = c .before .before .before .wide .ensures ∙ c .before .before .before .before .rows-of .ensures in
-    (rw width (has-column (s .args .catalogue .now) (s .args .tables .now) (s .pre .0) (s .args .relation) (s .pre .1) .0), rw (width, rows, c .before .before .before .before .before .start-of .ensures) (stored-inside (s .args .catalogue .now) (s .args .tables .now) (s .pre .0) (s .args .relation) (s .pre .1)), s .pre .2)
+    let rows : c .before .before .before .wide .result ≡ rowCountOf (s .args .catalogue .now) (s .args .relation) = c .before .before .before .wide .ensures ∙ c .before .before .before .before .rows-of .ensures in
+    (rw width (has-column (s .args .catalogue .now) (s .args .tables .now) (s .pre .0) (s .args .relation) (s .pre .1) .0), rw (width, rows, c .before .before .before .before .before .start-of .ensures) (stored-inside (s .args .catalogue .now) (s .args .tables .now) (s .pre .0) (s .args .relation) (s .pre .1)), s .pre .2, s .pre .3)
 
 same-length : tie.Need-same-length
 same-length c = search needs

@@ -6,7 +6,7 @@ use lib.Seq.{take-all}
 use Rattle.relations.specs.Limits.{headWords, listWords}
 use Rattle.relations.specs.PlanWords.{readNode}
 use Rattle.values.specs.Words.{rowsOf}
-use Rattle.values.specs.Building.{Makes}
+use Rattle.values.specs.Building.{Blank, Makes}
 use Rattle.values.proofs.MakeLaws.{builds-makes}
 use Rattle.values.specs.declared.rows.Value.{Value}
 use Rattle.values.specs.declared.placing.Placed.{Placed}
@@ -31,6 +31,7 @@ use Rattle.operations.proofs.keep.intersect.Reads as intersect-reads
 use Rattle.operations.proofs.keyed.semijoin.Reads as semijoin-reads
 use Rattle.operations.proofs.keep.subtract.Reads as subtract-reads
 use Rattle.operations.proofs.project.project.Reads as project-reads
+use Rattle.values.proofs.clearing.finish.Reads as finish-reads
 use Rattle.running.proofs.node.load_relation.Reads as load-relation-reads
 use Rattle.running.proofs.node.select_by_attribute.Reads as select-by-attribute-reads
 use Rattle.running.proofs.node.select_by_constant.Reads as select-by-constant-reads
@@ -38,10 +39,10 @@ use Rattle.running.proofs.node.value_at.Reads as value-at-reads
 
 -- the place where both sides are read
 abbrev Sides : Type 0
-Sides = lts.After-value-at2 (value-at-reads.Asked, value-at-reads.Learnt, load-relation-reads.Asked, load-relation-reads.Learnt, project-reads.Asked, project-reads.Learnt, select-by-constant-reads.Asked, select-by-constant-reads.Learnt, select-by-attribute-reads.Asked, select-by-attribute-reads.Learnt, join-reads.Asked, join-reads.Learnt, semijoin-reads.Asked, semijoin-reads.Learnt, antijoin-reads.Asked, antijoin-reads.Learnt, divide-reads.Asked, divide-reads.Learnt, unite-reads.Asked, unite-reads.Learnt, intersect-reads.Asked, intersect-reads.Learnt, subtract-reads.Asked, subtract-reads.Learnt) reads.Pre reads.Post
+Sides = lts.After-value-at2 (value-at-reads.Asked, value-at-reads.Learnt, load-relation-reads.Asked, load-relation-reads.Learnt, project-reads.Asked, project-reads.Learnt, finish-reads.Asked, finish-reads.Learnt, select-by-constant-reads.Asked, select-by-constant-reads.Learnt, select-by-attribute-reads.Asked, select-by-attribute-reads.Learnt, join-reads.Asked, join-reads.Learnt, semijoin-reads.Asked, semijoin-reads.Learnt, antijoin-reads.Asked, antijoin-reads.Learnt, divide-reads.Asked, divide-reads.Learnt, unite-reads.Asked, unite-reads.Learnt, intersect-reads.Asked, intersect-reads.Learnt, subtract-reads.Asked, subtract-reads.Learnt) reads.Pre reads.Post
 
 module _ (v : Sides) where
-  abbrev start : lts.Start (value-at-reads.Asked, value-at-reads.Learnt, load-relation-reads.Asked, load-relation-reads.Learnt, project-reads.Asked, project-reads.Learnt, select-by-constant-reads.Asked, select-by-constant-reads.Learnt, select-by-attribute-reads.Asked, select-by-attribute-reads.Learnt, join-reads.Asked, join-reads.Learnt, semijoin-reads.Asked, semijoin-reads.Learnt, antijoin-reads.Asked, antijoin-reads.Learnt, divide-reads.Asked, divide-reads.Learnt, unite-reads.Asked, unite-reads.Learnt, intersect-reads.Asked, intersect-reads.Learnt, subtract-reads.Asked, subtract-reads.Learnt) reads.Pre reads.Post
+  abbrev start : lts.Start (value-at-reads.Asked, value-at-reads.Learnt, load-relation-reads.Asked, load-relation-reads.Learnt, project-reads.Asked, project-reads.Learnt, finish-reads.Asked, finish-reads.Learnt, select-by-constant-reads.Asked, select-by-constant-reads.Learnt, select-by-attribute-reads.Asked, select-by-attribute-reads.Learnt, join-reads.Asked, join-reads.Learnt, semijoin-reads.Asked, semijoin-reads.Learnt, antijoin-reads.Asked, antijoin-reads.Learnt, divide-reads.Asked, divide-reads.Learnt, unite-reads.Asked, unite-reads.Learnt, intersect-reads.Asked, intersect-reads.Learnt, subtract-reads.Asked, subtract-reads.Learnt) reads.Pre reads.Post
   start = v .before .before .before .before .before .before .before .before .before .before
 
   abbrev words : List ℕ
@@ -70,6 +71,9 @@ module _ (v : Sides) where
 
   inside : start .args .out ≤ length work
   inside = start .pre .4 .inside
+
+  blank : Blank (start .args .out) work
+  blank = start .pre .4 .blank
 
   -- what the node's operation asks for
   asked : (operation : Operation) → start .args .node .operation ≡ operation → Asks (relationsOf (start .args .catalogue .now)) (start .args .out) list work operation (start .args .node .left) (start .args .node .count) left right
@@ -113,7 +117,7 @@ enum-told c = search needs
 
 -- src/node.rt:105:28
 load-relation-requires : tie.Need-load-relation-requires
-load-relation-requires c κs = let v = c .before .before .before in let a = asked v Load (c .before .enum-told .given .1) in (v .before .before .before .before .before .before .before .before .before .before .pre .2, a, inside v)
+load-relation-requires c κs = let v = c .before .before .before in let a = asked v Load (c .before .enum-told .given .1) in (v .before .before .before .before .before .before .before .before .before .before .pre .2, a, inside v, blank v)
 
 -- src/node.rt:106:52
 enum-told-2 : tie.Need-enum-told-2
@@ -123,6 +127,9 @@ enum-told-2 c = search needs
 project-requires : tie.Need-project-requires
 project-requires c κs = let v = c .before .before .before in let a = asked v Project (c .before .enum-told2 .given .1) in (a .1, a .2, a .3, a .0 .2, inside v)
 
+finish-requires : tie.Need-finish-requires
+finish-requires c κs = omega (arith, inside (c .before .before .before .before .before .before .before), c .before .before .before .project .kept)
+
 -- src/node.rt:107:63
 enum-told-3 : tie.Need-enum-told-3
 enum-told-3 c = search needs
@@ -130,6 +137,9 @@ enum-told-3 c = search needs
 -- src/node.rt:107:38
 select-by-constant-requires : tie.Need-select-by-constant-requires
 select-by-constant-requires c κs = let v = c .before .before .before in let a = asked v SelectConstant (c .before .enum-told3 .given .1) in (omega (arith, list-long v), a .0, a .2, inside v)
+
+finish-requires-2 : tie.Need-finish-requires-2
+finish-requires-2 c κs = omega (arith, inside (c .before .before .before .before .before .before .before), c .before .before .before .select-by-constant .kept)
 
 -- src/node.rt:108:65
 enum-told-4 : tie.Need-enum-told-4
@@ -139,6 +149,9 @@ enum-told-4 c = search needs
 select-by-attribute-requires : tie.Need-select-by-attribute-requires
 select-by-attribute-requires c κs = let v = c .before .before .before in let a = asked v SelectAttribute (c .before .enum-told4 .given .1) in (omega (arith, list-long v), a .0, a .2, inside v)
 
+finish-requires-3 : tie.Need-finish-requires-3
+finish-requires-3 c κs = omega (arith, inside (c .before .before .before .before .before .before .before), c .before .before .before .select-by-attribute .kept)
+
 -- src/node.rt:109:46
 enum-told-5 : tie.Need-enum-told-5
 enum-told-5 c = search needs
@@ -147,13 +160,16 @@ enum-told-5 c = search needs
 join-requires : tie.Need-join-requires
 join-requires c κs = let v = c .before .before .before in let a = asked v Join (c .before .enum-told5 .given .1) in (a .2, a .0 .0, a .3, a .0 .2, a .1 .2, inside v)
 
+finish-requires-4 : tie.Need-finish-requires-4
+finish-requires-4 c κs = omega (arith, inside (c .before .before .before .before .before .before .before), c .before .before .before .join .kept)
+
 -- src/node.rt:110:54
 enum-told-6 : tie.Need-enum-told-6
 enum-told-6 c = search needs
 
 -- src/node.rt:110:32
 semijoin-requires : tie.Need-semijoin-requires
-semijoin-requires c κs = let v = c .before .before .before in let a = asked v Semijoin (c .before .enum-told6 .given .1) in (a .0 .0, a .0 .2, inside v, a .1 .2, a .2, a .1 .3)
+semijoin-requires c κs = let v = c .before .before .before in let a = asked v Semijoin (c .before .enum-told6 .given .1) in (a .0 .0, a .0 .2, inside v, a .1 .2, a .2, a .1 .3, blank v)
 
 -- src/node.rt:111:54
 enum-told-7 : tie.Need-enum-told-7
@@ -161,7 +177,7 @@ enum-told-7 c = search needs
 
 -- src/node.rt:111:32
 antijoin-requires : tie.Need-antijoin-requires
-antijoin-requires c κs = let v = c .before .before .before in let a = asked v Antijoin (c .before .enum-told7 .given .1) in (a .0 .0, a .0 .2, inside v, a .1 .2, a .2, a .1 .3)
+antijoin-requires c κs = let v = c .before .before .before in let a = asked v Antijoin (c .before .enum-told7 .given .1) in (a .0 .0, a .0 .2, inside v, a .1 .2, a .2, a .1 .3, blank v)
 
 -- src/node.rt:112:50
 enum-told-8 : tie.Need-enum-told-8
@@ -171,13 +187,16 @@ enum-told-8 c = search needs
 divide-requires : tie.Need-divide-requires
 divide-requires c κs = let v = c .before .before .before in let a = asked v Divide (c .before .enum-told8 .given .1) in ((a .2, a .3, a .0 .1, a .0 .2, a .1 .2, inside v, a .0 .3), (a .4, a .5))
 
+finish-requires-5 : tie.Need-finish-requires-5
+finish-requires-5 c κs = omega (arith, inside (c .before .before .before .before .before .before .before), c .before .before .before .divide .kept)
+
 -- src/node.rt:113:35
 enum-told-9 : tie.Need-enum-told-9
 enum-told-9 c = search needs
 
 -- src/node.rt:113:29
 unite-requires : tie.Need-unite-requires
-unite-requires c κs = let v = c .before .before .before in let a = asked v Unite (c .before .enum-told9 .given .1) in (a .0 .0, a .2, a .0 .2, a .1 .2, inside v)
+unite-requires c κs = let v = c .before .before .before in let a = asked v Unite (c .before .enum-told9 .given .1) in (a .0 .0, a .2, a .0 .2, a .1 .2, inside v, blank v)
 
 -- src/node.rt:114:43
 enum-told-10 : tie.Need-enum-told-10
@@ -187,6 +206,9 @@ enum-told-10 c = search needs
 intersect-requires : tie.Need-intersect-requires
 intersect-requires c κs = let v = c .before .before .before in let a = asked v Intersect (c .before .enum-told10 .given .1) in (a .0 .0, a .0 .2, inside v, a .1 .2, a .1 .3)
 
+finish-requires-6 : tie.Need-finish-requires-6
+finish-requires-6 c κs = omega (arith, inside (c .before .before .before .before .before .before .before), c .before .before .before .intersect .kept)
+
 -- src/node.rt:115:41
 enum-told-11 : tie.Need-enum-told-11
 enum-told-11 c = search needs
@@ -194,6 +216,9 @@ enum-told-11 c = search needs
 -- src/node.rt:115:32
 subtract-requires : tie.Need-subtract-requires
 subtract-requires c κs = let v = c .before .before .before in let a = asked v Subtract (c .before .enum-told11 .given .1) in (a .0 .0, a .0 .2, inside v, a .1 .2, a .1 .3)
+
+finish-requires-7 : tie.Need-finish-requires-7
+finish-requires-7 c κs = omega (arith, inside (c .before .before .before .before .before .before .before), c .before .before .before .subtract .kept)
 
 -- src/node.rt:95:1
 same-length : tie.Need-same-length
@@ -209,7 +234,7 @@ same-length-2 c = search needs
 
 -- src/node.rt:95:1
 returns-2 : tie.Need-returns-2
-returns-2 c = built (c .before .before .before .before .before .before) Project (c .before .before .before .before .enum-told2 .given .1) (builds-makes (inside (c .before .before .before .before .before .before)) (c .before .before .project .ensures))
+returns-2 c = built (c .before .before .before .before .before .before .before .before .before .before) Project (c .before .before .before .before .before .before .before .before .enum-told2 .given .1) (builds-makes (inside (c .before .before .before .before .before .before .before .before .before .before)) (blank (c .before .before .before .before .before .before .before .before .before .before)) (c .before .before .before .before .before .before .project .ensures) (c .before .before .finish .ensures))
 
 -- src/node.rt:95:1
 same-length-3 : tie.Need-same-length-3
@@ -217,7 +242,7 @@ same-length-3 c = search needs
 
 -- src/node.rt:95:1
 returns-3 : tie.Need-returns-3
-returns-3 c = built (c .before .before .before .before .before .before) SelectConstant (c .before .before .before .before .enum-told3 .given .1) (builds-makes (inside (c .before .before .before .before .before .before)) (c .before .before .select-by-constant .ensures))
+returns-3 c = built (c .before .before .before .before .before .before .before .before .before .before) SelectConstant (c .before .before .before .before .before .before .before .before .enum-told3 .given .1) (builds-makes (inside (c .before .before .before .before .before .before .before .before .before .before)) (blank (c .before .before .before .before .before .before .before .before .before .before)) (c .before .before .before .before .before .before .select-by-constant .ensures) (c .before .before .finish2 .ensures))
 
 -- src/node.rt:95:1
 same-length-4 : tie.Need-same-length-4
@@ -225,7 +250,7 @@ same-length-4 c = search needs
 
 -- src/node.rt:95:1
 returns-4 : tie.Need-returns-4
-returns-4 c = built (c .before .before .before .before .before .before) SelectAttribute (c .before .before .before .before .enum-told4 .given .1) (builds-makes (inside (c .before .before .before .before .before .before)) (c .before .before .select-by-attribute .ensures))
+returns-4 c = built (c .before .before .before .before .before .before .before .before .before .before) SelectAttribute (c .before .before .before .before .before .before .before .before .enum-told4 .given .1) (builds-makes (inside (c .before .before .before .before .before .before .before .before .before .before)) (blank (c .before .before .before .before .before .before .before .before .before .before)) (c .before .before .before .before .before .before .select-by-attribute .ensures) (c .before .before .finish3 .ensures))
 
 -- src/node.rt:95:1
 same-length-5 : tie.Need-same-length-5
@@ -233,7 +258,7 @@ same-length-5 c = search needs
 
 -- src/node.rt:95:1
 returns-5 : tie.Need-returns-5
-returns-5 c = built (c .before .before .before .before .before .before) Join (c .before .before .before .before .enum-told5 .given .1) (builds-makes (inside (c .before .before .before .before .before .before)) (c .before .before .join .ensures))
+returns-5 c = built (c .before .before .before .before .before .before .before .before .before .before) Join (c .before .before .before .before .before .before .before .before .enum-told5 .given .1) (builds-makes (inside (c .before .before .before .before .before .before .before .before .before .before)) (blank (c .before .before .before .before .before .before .before .before .before .before)) (c .before .before .before .before .before .before .join .ensures) (c .before .before .finish4 .ensures))
 
 -- src/node.rt:95:1
 same-length-6 : tie.Need-same-length-6
@@ -257,7 +282,7 @@ same-length-8 c = search needs
 
 -- src/node.rt:95:1
 returns-8 : tie.Need-returns-8
-returns-8 c = built (c .before .before .before .before .before .before) Divide (c .before .before .before .before .enum-told8 .given .1) (builds-makes (inside (c .before .before .before .before .before .before)) (c .before .before .divide .ensures))
+returns-8 c = built (c .before .before .before .before .before .before .before .before .before .before) Divide (c .before .before .before .before .before .before .before .before .enum-told8 .given .1) (builds-makes (inside (c .before .before .before .before .before .before .before .before .before .before)) (blank (c .before .before .before .before .before .before .before .before .before .before)) (c .before .before .before .before .before .before .divide .ensures) (c .before .before .finish5 .ensures))
 
 -- src/node.rt:95:1
 same-length-9 : tie.Need-same-length-9
@@ -273,7 +298,7 @@ same-length-10 c = search needs
 
 -- src/node.rt:95:1
 returns-10 : tie.Need-returns-10
-returns-10 c = built (c .before .before .before .before .before .before) Intersect (c .before .before .before .before .enum-told10 .given .1) (builds-makes (inside (c .before .before .before .before .before .before)) (c .before .before .intersect .ensures))
+returns-10 c = built (c .before .before .before .before .before .before .before .before .before .before) Intersect (c .before .before .before .before .before .before .before .before .enum-told10 .given .1) (builds-makes (inside (c .before .before .before .before .before .before .before .before .before .before)) (blank (c .before .before .before .before .before .before .before .before .before .before)) (c .before .before .before .before .before .before .intersect .ensures) (c .before .before .finish6 .ensures))
 
 -- src/node.rt:95:1
 same-length-11 : tie.Need-same-length-11
@@ -281,7 +306,7 @@ same-length-11 c = search needs
 
 -- src/node.rt:95:1
 returns-11 : tie.Need-returns-11
-returns-11 c = built (c .before .before .before .before .before .before) Subtract (c .before .before .before .before .enum-told11 .given .1) (builds-makes (inside (c .before .before .before .before .before .before)) (c .before .before .subtract .ensures))
+returns-11 c = built (c .before .before .before .before .before .before .before .before .before .before) Subtract (c .before .before .before .before .before .before .before .before .enum-told11 .given .1) (builds-makes (inside (c .before .before .before .before .before .before .before .before .before .before)) (blank (c .before .before .before .before .before .before .before .before .before .before)) (c .before .before .before .before .before .before .subtract .ensures) (c .before .before .finish7 .ensures))
 
 pub make-value-spec : {M : Type 1} → statement M
 make-value-spec =
@@ -296,24 +321,31 @@ make-value-spec =
     load-relation-requires
     enum-told-2
     project-requires
+    finish-requires
     enum-told-3
     select-by-constant-requires
+    finish-requires-2
     enum-told-4
     select-by-attribute-requires
+    finish-requires-3
     enum-told-5
     join-requires
+    finish-requires-4
     enum-told-6
     semijoin-requires
     enum-told-7
     antijoin-requires
     enum-told-8
     divide-requires
+    finish-requires-5
     enum-told-9
     unite-requires
     enum-told-10
     intersect-requires
+    finish-requires-6
     enum-told-11
     subtract-requires
+    finish-requires-7
     same-length
     returns
     same-length-2

@@ -2,8 +2,8 @@ use Rattle.conditions.proofs.LeafLaws.{collectable}
 use Rattle.short_rules.proofs.FitLaws.{some-nodes-below, conjoined-atoms, not-divided}
 use Rattle.conditions.proofs.Readings.{condition-is, some-parts}
 use Rattle.conditions.specs.Readings.{rangeAt, conditionAt}
-use Rattle.question.specs.Nodes.{nodeAt}
-use Rattle.question.specs.declared.node.Node.the-variants.{Some}
+use Rattle.nodes.specs.Nodes.{nodeAt}
+use Rattle.nodes.specs.declared.node.Node.the-variants.{Some}
 use Rattle.calculus.specs.Question.{forSome}
 use Rattle.calculus.specs.ShortRules.{shortRule5Atoms, shortRule5Fits}
 use mathlib.Core.Path.{_≡_, sym, ap, _∙_}
@@ -43,7 +43,7 @@ short-rule-5-fits-requires c κs = search needs
 returns : tie.Need-returns
 returns c = let k = c .before .before in
     let y = k .before .before .before .before .before .args .y in
-    conjoined-atoms (shortRule5Atoms (k .before .node .given .0 .0) y) (c .before .leaves-of .ensures) (c .short-rule-5-fits .ensures) ∙ sym (ap (shortRule5Fits y) (some-reads k))
+    conjoined-atoms (shortRule5Atoms (k .before .node .given .0 .0) y) (c .before .leaves-of .ensures .1) (c .short-rule-5-fits .ensures) ∙ sym (ap (shortRule5Fits y) (some-reads k))
 
 returns-2 : tie.Need-returns-2
 returns-2 c = let s = c .before .before .before in

@@ -3,8 +3,8 @@ use Rattle.short_rules.proofs.FitLaws.{some-nodes-below, conjoined-atom
 use Rattle.conditions.proofs.Readings.{condition-is, some-parts}
 use Rattle.conditions.proofs.OtherNodes.{reads-as-leaf}
 use Rattle.conditions.specs.Readings.{rangeAt, conditionAt}
-use Rattle.question.specs.Nodes.{nodeAt}
-use Rattle.question.specs.declared.node.Node.the-variants.{And, Or, Not, Some, Every}
+use Rattle.nodes.specs.Nodes.{nodeAt}
+use Rattle.nodes.specs.declared.node.Node.the-variants.{And, Or, Not, Some, Every}
 use Rattle.calculus.specs.Question.{forSome}
 use Rattle.calculus.specs.ShortRules.{shortRule2Atoms}
 use mathlib.Core.Path.{_≡_, sym, ap, _∙_}
@@ -55,7 +55,7 @@ enum-told-4 c = search needs
 
 returns : tie.Need-returns
 returns c = let k = c .before .before in
-    conjoined-atoms (shortRule2Atoms (k .before .node .given .0 .0)) (c .before .leaves-of .ensures) (c .short-rule-2-fits .ensures) ∙ sym (some-opposite (some-reads k))
+    conjoined-atoms (shortRule2Atoms (k .before .node .given .0 .0)) (c .before .leaves-of .ensures .1) (c .short-rule-2-fits .ensures) ∙ sym (some-opposite (some-reads k))
 
 returns-2 : tie.Need-returns-2
 returns-2 c = let s = c .before .before .before .before in

@@ -1,27 +1,33 @@
 use Rattle.short_rules.proofs.ProjectLaws.{other-number, same-on, same-stop, same-end}
 use Prim.Native.Nat.{_+_, _-_, _≤_}
 use mathlib.Core.Path.{_≡_, sym, _∙_}
-use mathlib.Core.List.{List}
-use lib.ListN.{drop}
-use Rattle.relations.specs.Columns.{Attribute}
+use lib.ListN.{length, drop}
 use Rattle.calculus.specs.Scope.{columnsFrom}
 use Rattle.calculus.specs.ShortRules.{sameAttributes, shortRule1Fits}
-use Rattle.emission.specs.Listings.{listing, numbersOf}
+use Rattle.emission.specs.NodeLists.{attributesIn}
+use borrow.Author.Needs.{needs}
 use native.Mathlib.Omega.{arith}
 use Rattle.short_rules.proofs.fits.short_rule_1_fits.Statement.{statement}
 use Rattle.short_rules.proofs.fits.short_rule_1_fits.Tie as tie
 
 abbrev Inv-loop : tie.InvT-loop
-Inv-loop width attributes i₀ i = (i ≤ width) × (attributes .used ≡ width) × ((listed : List Attribute) → attributes ≡ listing (numbersOf listed) → shortRule1Fits width listed ≡ sameAttributes (drop i listed) (columnsFrom (width - i) (i + 1)))
+Inv-loop width attributes i₀ i = (i ≤ width)
+    × (attributes .used ≡ width)
+    × (shortRule1Fits width (attributesIn attributes) ≡ sameAttributes (drop i (attributesIn attributes)) (columnsFrom (width - i) (i + 1)))
 
 abbrev μ-loop : tie.MeasureT-loop
 μ-loop width attributes i₀ i = width - i
 
+few : (c : tie.Start Inv-loop μ-loop) → c .args .t2 .used ≤ length (c .args .t2 .words)
+few c =
+    let l : length (c .args .t2 .words) ≡ 32 = search needs in
+    omega (arith, c .pre)
+
 returns : tie.Need-returns Inv-loop μ-loop
-returns c = λ listed e. sym (other-number (c .before .args .width) (c .before .args .t2) listed e (c .if1 .taken))
+returns c = sym (other-number (c .before .args .width) (c .before .args .t2) (few (c .before)) (c .if1 .taken))
 
 loop-holds : tie.Need-loop-holds Inv-loop μ-loop
-loop-holds c = (omega arith, c .if1 .left, λ listed e. let k : c .before .args .width - 0 ≡ c .before .args .width = omega arith in rw k)
+loop-holds c = (omega arith, c .if1 .left, let k : c .before .args .width - 0 ≡ c .before .args .width = omega arith in rw k)
 
 cast-if2 : tie.Need-cast-if2 Inv-loop μ-loop
 cast-if2 c = omega arith
@@ -36,10 +42,10 @@ add-if2 : tie.Need-add-if2 Inv-loop μ-loop
 add-if2 c = omega arith
 
 returns-2 : tie.Need-returns-2 Inv-loop μ-loop
-returns-2 c = λ listed e.
+returns-2 c =
     let s = c .before .before .before .before .before in
     let l = c .before .before .before .loop in
-    sym (l .inv .2 listed e ∙ same-stop (s .args .width) (s .args .t2) listed e (l .i) (l .inv .1) (omega arith) (c .if2 .taken))
+    sym (l .inv .2 ∙ same-stop (s .args .width) (s .args .t2) (few s) (l .i) (l .inv .1) (omega arith) (c .if2 .taken))
 
 add-i : tie.Need-add-i Inv-loop μ-loop
 add-i c = omega arith
@@ -50,10 +56,12 @@ loop-less c = omega arith
 loop-again : tie.Need-loop-again Inv-loop μ-loop
 loop-again c = let s = c .before .before .before .before .before in
     let l = c .before .before .before .loop in
-    (omega arith, l .inv .1, λ listed e. l .inv .2 listed e ∙ same-on (s .args .width) (s .args .t2) listed e (l .i) (l .inv .1) (omega arith) (c .if2 .left))
+    (omega arith, l .inv .1, l .inv .2 ∙ same-on (s .args .width) (s .args .t2) (few s) (l .i) (l .inv .1) (omega arith) (c .if2 .left))
 
 returns-3 : tie.Need-returns-3 Inv-loop μ-loop
-returns-3 c = λ listed e. sym (c .before .loop .inv .2 listed e ∙ same-end (c .before .before .before .args .width) (c .before .before .before .args .t2) listed e (c .before .loop .i) (c .before .loop .inv .1) (omega arith))
+returns-3 c =
+    let s = c .before .before .before in
+    sym (c .before .loop .inv .2 ∙ same-end (s .args .width) (s .args .t2) (few s) (c .before .loop .i) (c .before .loop .inv .1) (omega arith))
 
 pub short-rule-1-fits-spec : {M : Type 1} → statement M
 short-rule-1-fits-spec =

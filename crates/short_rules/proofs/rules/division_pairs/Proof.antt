@@ -2,16 +2,16 @@ use Rattle.short_rules.proofs.RuleLaws.{rest, pairs-next, pairs-size}
 use Rattle.calculus.specs.ShortRules.{divisionPairs}
 use Rattle.calculus.specs.Leaves.{equatesWith, otherAttribute}
 use Rattle.relations.specs.PlanWords.{pairWords}
-use Rattle.emission.proofs.ListingLaws.{longer-then, longer-none}
-use Rattle.emission.specs.declared.listing.Listing.{Listing}
-use Rattle.emission.specs.Listings.{listing, Longer}
+use Rattle.emission.proofs.NodeListLaws.{grown-used, grown-step, grown-none, grown-list}
+use Rattle.emission.specs.declared.node_list.NodeList.{NodeList}
+use Rattle.emission.specs.NodeLists.{nodeList, grownBy}
 use Rattle.conditions.specs.Leaves.{atomsOf}
 use Rattle.calculus.specs.Question as calculus
 use Rattle.relations.specs.Lists.{flat, filter}
 use lib.ListN.{length, length-append}
-use mathlib.Core.List.{List, [], _∷_}
+use mathlib.Core.List.{[], _∷_}
 use mathlib.Core.Bool.{cond}
-use mathlib.Core.Path.{_≡_, ap, subst, sym, _∙_}
+use mathlib.Core.Path.{_≡_, refl, ap, sym, _∙_}
 use Prim.Native.Nat.{ℕ, _+_, _-_, _≤_}
 use native.Mathlib.Omega.{arith}
 use Rattle.short_rules.proofs.rules.division_pairs.Statement.{statement}
@@ -21,7 +21,7 @@ abbrev Inv-loop : tie.InvT-loop
 Inv-loop words z y leaves first list₀ column₀ i₀ left₀ list column i left = (i + left ≡ leaves .count)
     × (column ≤ first + i)
     × (list .used + length (flat pairWords (divisionPairs z (filter (equatesWith z y) (rest words leaves i left)) column)) ≤ 32)
-    × ((r : Listing) → Longer list (flat pairWords (divisionPairs z (filter (equatesWith z y) (rest words leaves i left)) column)) r → r ≡ listing (flat pairWords (divisionPairs z (filter (equatesWith z y) (atomsOf words leaves)) first)))
+    × (grownBy list (flat pairWords (divisionPairs z (filter (equatesWith z y) (rest words leaves i left)) column)) ≡ nodeList (flat pairWords (divisionPairs z (filter (equatesWith z y) (atomsOf words leaves)) first)))
 
 abbrev μ-loop : tie.MeasureT-loop
 μ-loop words z y leaves first list₀ column₀ i₀ left₀ list column i left = left
@@ -31,7 +31,8 @@ no-list-requires c κs = tt
 
 loop-holds : tie.Need-loop-holds Inv-loop μ-loop
 loop-holds c = let s = c .before .before in
-    (omega arith, omega arith, omega (arith, s .pre .1, ap (λ (l : Listing). l .used) (c .no-list .ensures), pairs-size (s .args .z) (filter (equatesWith (s .args .z) (s .args .y)) (atomsOf (s .args .words .now) (s .args .leaves))) (s .args .first)), λ r l. l .holds [] (c .no-list .ensures))
+    let size = pairs-size (s .args .z) (filter (equatesWith (s .args .z) (s .args .y)) (atomsOf (s .args .words .now) (s .args .leaves))) (s .args .first) in
+    (omega arith, omega arith, omega (arith, s .pre .1, ap (λ (l : NodeList). l .used) (c .no-list .ensures), size), grown-list _ (c .no-list .ensures) refl (omega (arith, s .pre .1, size)))
 
 leaf-requires : tie.Need-leaf-requires Inv-loop μ-loop
 leaf-requires c κs = (c .before .before .before .before .pre .0, omega arith)
@@ -77,14 +78,14 @@ loop-again c = let s = c .before .before .before .before .before .before .before
     let k = ap (λ (x : ℕ). flat pairWords (divisionPairs (s .args .z) (filter (equatesWith (s .args .z) (s .args .y)) (rest (s .args .words .now) (s .args .leaves) (l .i + 1) (l .left - 1))) (l .column + x))) (c .once .ensures .0) in (
       omega arith,
       omega (arith, c .once .ensures .1),
-      omega (arith, l .inv .2, c .before .with-pair-if .ensures .grown, ap length e, ap length k, m),
-      λ r longer. l .inv .3 r (subst (λ (more : List ℕ). Longer (l .list) more r) (sym e) (longer-then (c .before .with-pair-if .ensures) (subst (λ (more : List ℕ). Longer (c .before .with-pair-if .result) more r) k longer))),
+      omega (arith, l .inv .2, grown-used _ _ (c .before .with-pair-if .ensures), ap length e, ap length k, m),
+      ap (grownBy (c .before .with-pair-if .result)) k ∙ grown-step _ _ _ (c .before .with-pair-if .ensures) ∙ ap (grownBy (l .list)) (sym e) ∙ l .inv .3,
     )
 
 returns : tie.Need-returns Inv-loop μ-loop
 returns c = let l = c .before .loop in
     let e : l .left ≡ 0 = omega arith in
-    l .inv .3 (l .list) (rw e (longer-none (l .list)))
+    sym (grown-none (l .list)) ∙ rw e at (l .inv .3)
 
 pub division-pairs-spec : {M : Type 1} → statement M
 division-pairs-spec =

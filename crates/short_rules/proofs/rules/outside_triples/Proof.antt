@@ -4,16 +4,16 @@ use Rattle.calculus.specs.ShortRules.{outsideTriples}
 use Rattle.calculus.specs.Scope.{columnNumber}
 use Rattle.calculus.specs.Leaves.{equatesOutside, otherVariable, otherAttribute}
 use Rattle.relations.specs.PlanWords.{tripleWords}
-use Rattle.emission.proofs.ListingLaws.{longer-then, longer-none}
-use Rattle.emission.specs.declared.listing.Listing.{Listing}
-use Rattle.emission.specs.Listings.{listing, Longer}
+use Rattle.emission.proofs.NodeListLaws.{grown-used, grown-step, grown-none, grown-list}
+use Rattle.emission.specs.declared.node_list.NodeList.{NodeList}
+use Rattle.emission.specs.NodeLists.{nodeList, grownBy}
 use Rattle.conditions.specs.Leaves.{atomsOf}
 use Rattle.calculus.specs.Question as calculus
 use Rattle.relations.specs.Lists.{flat, filter}
 use lib.ListN.{length, length-append}
-use mathlib.Core.List.{List, [], _∷_}
+use mathlib.Core.List.{[], _∷_}
 use mathlib.Core.Bool.{cond}
-use mathlib.Core.Path.{_≡_, ap, ap₂, subst, sym, _∙_}
+use mathlib.Core.Path.{_≡_, refl, ap, ap₂, sym, _∙_}
 use Prim.Native.Nat.{ℕ, _+_, _-_, _≤_}
 use native.Mathlib.Omega.{arith}
 use Rattle.short_rules.proofs.rules.outside_triples.Statement.{statement}
@@ -23,7 +23,7 @@ abbrev Inv-loop : tie.InvT-loop
 Inv-loop words scope z y leaves list₀ column₀ i₀ left₀ list column i left = (i + left ≡ leaves .count)
     × (column ≤ 1 + i)
     × (list .used + length (flat tripleWords (outsideTriples (scopeOf scope) z (filter (equatesOutside z y) (rest words leaves i left)) column)) ≤ 32)
-    × ((r : Listing) → Longer list (flat tripleWords (outsideTriples (scopeOf scope) z (filter (equatesOutside z y) (rest words leaves i left)) column)) r → r ≡ listing (flat tripleWords (outsideTriples (scopeOf scope) z (filter (equatesOutside z y) (atomsOf words leaves)) 1)))
+    × (grownBy list (flat tripleWords (outsideTriples (scopeOf scope) z (filter (equatesOutside z y) (rest words leaves i left)) column)) ≡ nodeList (flat tripleWords (outsideTriples (scopeOf scope) z (filter (equatesOutside z y) (atomsOf words leaves)) 1)))
 
 abbrev μ-loop : tie.MeasureT-loop
 μ-loop words scope z y leaves list₀ column₀ i₀ left₀ list column i left = left
@@ -33,7 +33,8 @@ no-list-requires c κs = tt
 
 loop-holds : tie.Need-loop-holds Inv-loop μ-loop
 loop-holds c = let s = c .before .before in
-    (omega arith, omega arith, omega (arith, s .pre .2, ap (λ (l : Listing). l .used) (c .no-list .ensures), outside-size (scopeOf (s .args .scope)) (s .args .z) (filter (equatesOutside (s .args .z) (s .args .y)) (atomsOf (s .args .words .now) (s .args .leaves))) 1), λ r l. l .holds [] (c .no-list .ensures))
+    let size = outside-size (scopeOf (s .args .scope)) (s .args .z) (filter (equatesOutside (s .args .z) (s .args .y)) (atomsOf (s .args .words .now) (s .args .leaves))) 1 in
+    (omega arith, omega arith, omega (arith, s .pre .2, ap (λ (l : NodeList). l .used) (c .no-list .ensures), size), grown-list _ (c .no-list .ensures) refl (omega (arith, s .pre .2, size)))
 
 leaf-requires : tie.Need-leaf-requires Inv-loop μ-loop
 leaf-requires c κs = (c .before .before .before .before .pre .1, omega arith)
@@ -85,14 +86,14 @@ loop-again c = let s = c .before .before .before .before .before .before .before
     let k = ap (λ (x : ℕ). (flat tripleWords (outsideTriples (scopeOf (s .args .scope)) (s .args .z) (filter (equatesOutside (s .args .z) (s .args .y)) (rest (s .args .words .now) (s .args .leaves) (l .i + 1) (l .left - 1))) (l .column + x)))) (c .once .ensures .0) in (
       omega arith,
       omega (arith, c .once .ensures .1),
-      omega (arith, l .inv .2, c .before .with-triple-if .ensures .grown, ap length e, ap length k, m),
-      λ r longer. l .inv .3 r (subst (λ (more : List ℕ). Longer (l .list) more r) (sym e) (longer-then (c .before .with-triple-if .ensures) (subst (λ (more : List ℕ). Longer (c .before .with-triple-if .result) more r) k longer))),
+      omega (arith, l .inv .2, grown-used _ _ (c .before .with-triple-if .ensures), ap length e, ap length k, m),
+      ap (grownBy (c .before .with-triple-if .result)) k ∙ grown-step _ _ _ (c .before .with-triple-if .ensures) ∙ ap (grownBy (l .list)) (sym e) ∙ l .inv .3,
     )
 
 returns : tie.Need-returns Inv-loop μ-loop
 returns c = let l = c .before .loop in
     let e : l .left ≡ 0 = omega arith in
-    l .inv .3 (l .list) (rw e (longer-none (l .list)))
+    sym (grown-none (l .list)) ∙ rw e at (l .inv .3)
 
 pub outside-triples-spec : {M : Type 1} → statement M
 outside-triples-spec =

@@ -1,17 +1,17 @@
 use Rattle.conditions.specs.Leaves.{leafAt, atomsOf}
 use Rattle.calculus.specs.Question as calculus
-use Prim.Native.Nat.{ℕ, _-_, _+_, _≤_}
+use Prim.Native.Nat.{_-_, _+_, _≤_}
 use Rattle.short_rules.proofs.RuleLaws.{rest, triples-next, triples-fit}
-use Rattle.emission.proofs.ListingLaws.{longer-then, longer-none}
-use Rattle.emission.specs.declared.listing.Listing.{Listing}
-use Rattle.emission.specs.Listings.{listing, Longer}
+use Rattle.emission.proofs.NodeListLaws.{grown-used, grown-step, grown-none, grown-list}
+use Rattle.emission.specs.declared.node_list.NodeList.{NodeList}
+use Rattle.emission.specs.NodeLists.{nodeList, grownBy}
 use Rattle.conditions.specs.Scopes.{scopeOf}
 use Rattle.calculus.specs.ShortRules.{triplesOf}
 use Rattle.relations.specs.PlanWords.{tripleWords}
 use Rattle.relations.specs.Lists.{flat}
 use lib.ListN.{length, length-append}
-use mathlib.Core.List.{List, [], _∷_}
-use mathlib.Core.Path.{_≡_, ap, subst, sym}
+use mathlib.Core.List.{[], _∷_}
+use mathlib.Core.Path.{_≡_, refl, ap, sym, _∙_}
 use native.Mathlib.Omega.{arith}
 use Rattle.short_rules.proofs.rules.triples_of.Statement.{statement}
 use Rattle.short_rules.proofs.rules.triples_of.Tie as tie
@@ -19,7 +19,7 @@ use Rattle.short_rules.proofs.rules.triples_of.Tie as tie
 abbrev Inv-loop : tie.InvT-loop
 Inv-loop words scope x leaves list₀ i₀ left₀ list i left = (i + left ≡ leaves .count)
     × (list .used + length (flat tripleWords (triplesOf (scopeOf scope) x (rest words leaves i left))) ≤ 32)
-    × ((r : Listing) → Longer list (flat tripleWords (triplesOf (scopeOf scope) x (rest words leaves i left))) r → r ≡ listing (flat tripleWords (triplesOf (scopeOf scope) x (atomsOf words leaves))))
+    × (grownBy list (flat tripleWords (triplesOf (scopeOf scope) x (rest words leaves i left))) ≡ nodeList (flat tripleWords (triplesOf (scopeOf scope) x (atomsOf words leaves))))
 
 abbrev μ-loop : tie.MeasureT-loop
 μ-loop words scope x leaves list₀ i₀ left₀ list i left = left
@@ -28,7 +28,7 @@ no-list-requires : tie.Need-no-list-requires Inv-loop μ-loop
 no-list-requires c κs = tt
 
 loop-holds : tie.Need-loop-holds Inv-loop μ-loop
-loop-holds c = (omega arith, omega (arith, ap (λ (l : Listing). l .used) (c .no-list .ensures), triples-fit (scopeOf (c .before .before .args .scope)) (c .before .before .args .x) (atomsOf (c .before .before .args .words .now) (c .before .before .args .leaves)) (c .before .before .pre .2)), λ r l. l .holds [] (c .no-list .ensures))
+loop-holds c = (omega arith, omega (arith, ap (λ (l : NodeList). l .used) (c .no-list .ensures), triples-fit (scopeOf (c .before .before .args .scope)) (c .before .before .args .x) (atomsOf (c .before .before .args .words .now) (c .before .before .args .leaves)) (c .before .before .pre .2)), grown-list _ (c .no-list .ensures) refl (triples-fit (scopeOf (c .before .before .args .scope)) (c .before .before .args .x) (atomsOf (c .before .before .args .words .now) (c .before .before .args .leaves)) (c .before .before .pre .2)))
 
 leaf-requires : tie.Need-leaf-requires Inv-loop μ-loop
 leaf-requires c κs = (c .before .before .before .before .pre .1, omega arith)
@@ -59,14 +59,14 @@ loop-again c = let s = c .before .before .before .before .before .before in
     let a = ap (λ (b : calculus.Atom). flat tripleWords (triplesOf (scopeOf (s .args .scope)) (s .args .x) (b ∷ []))) (c .before .leaf .ensures .0) in
     let m = length-append (flat tripleWords (triplesOf (scopeOf (s .args .scope)) (s .args .x) (leafAt words (s .args .leaves) (l .i) ∷ []))) (flat tripleWords (triplesOf (scopeOf (s .args .scope)) (s .args .x) (rest words (s .args .leaves) (l .i + 1) (l .left - 1)))) in (
       omega arith,
-      omega (arith, l .inv .1, c .with-triple-of .ensures .grown, ap length e, ap length a, m),
-      λ r longer. l .inv .2 r (subst (λ (more : List ℕ). Longer (l .list) more r) (sym e) (longer-then (subst (λ (more : List ℕ). Longer (l .list) more (c .with-triple-of .result)) a (c .with-triple-of .ensures)) longer)),
+      omega (arith, l .inv .1, grown-used _ _ (c .with-triple-of .ensures), ap length e, ap length a, m),
+      grown-step _ _ _ (c .with-triple-of .ensures ∙ ap (grownBy (l .list)) a) ∙ ap (grownBy (l .list)) (sym e) ∙ l .inv .2,
     )
 
 returns : tie.Need-returns Inv-loop μ-loop
 returns c = let l = c .before .loop in
     let e : l .left ≡ 0 = omega arith in
-    l .inv .2 (l .list) (rw e (longer-none (l .list)))
+    sym (grown-none (l .list)) ∙ rw e at (l .inv .2)
 
 pub triples-of-spec : {M : Type 1} → statement M
 triples-of-spec =

@@ -1,16 +1,15 @@
 use Rattle.short_rules.proofs.RuleLaws.{rest, own-next, own-count}
-use Rattle.emission.proofs.ListingLaws.{longer-then, longer-none}
-use Rattle.emission.specs.declared.listing.Listing.{Listing}
-use Rattle.emission.specs.Listings.{Longer, numbersOf}
+use Rattle.emission.proofs.NodeListLaws.{grown-used, grown-step, grown-none}
+use Rattle.emission.specs.NodeLists.{grownBy, numbersOf}
 use Rattle.short_rules.specs.Rules.{links}
 use Rattle.conditions.specs.Leaves.{atomsOf}
 use Rattle.calculus.specs.Leaves.{ownAttribute}
 use Rattle.calculus.specs.Question as calculus
 use Rattle.relations.specs.Lists.{filter}
 use lib.ListN.{length}
-use mathlib.Core.List.{List, map}
-use mathlib.Core.Path.{_≡_, ap, subst, sym, _∙_}
-use Prim.Native.Nat.{ℕ, _+_, _≤_}
+use mathlib.Core.List.{map}
+use mathlib.Core.Path.{_≡_, refl, ap, sym, _∙_}
+use Prim.Native.Nat.{_+_, _≤_}
 use native.Mathlib.Omega.{arith}
 use Rattle.short_rules.proofs.rules.with_own_columns.Statement.{statement}
 use Rattle.short_rules.proofs.rules.with_own_columns.Tie as tie
@@ -18,13 +17,13 @@ use Rattle.short_rules.proofs.rules.with_own_columns.Tie as tie
 abbrev Inv-loop : tie.InvT-loop
 Inv-loop words outside z y leaves longer₀ i₀ left₀ longer i left = (i + left ≡ leaves .count)
     × (longer .used + length (filter (links outside z y) (rest words leaves i left)) ≤ 32)
-    × ((r : Listing) → Longer longer (numbersOf (map (ownAttribute z) (filter (links outside z y) (rest words leaves i left)))) r → Longer longer₀ (numbersOf (map (ownAttribute z) (filter (links outside z y) (atomsOf words leaves)))) r)
+    × (grownBy longer (numbersOf (map (ownAttribute z) (filter (links outside z y) (rest words leaves i left)))) ≡ grownBy longer₀ (numbersOf (map (ownAttribute z) (filter (links outside z y) (atomsOf words leaves)))))
 
 abbrev μ-loop : tie.MeasureT-loop
 μ-loop words outside z y leaves longer₀ i₀ left₀ longer i left = left
 
 loop-holds : tie.Need-loop-holds Inv-loop μ-loop
-loop-holds c = (omega arith, c .before .pre .1, λ r l. l)
+loop-holds c = (omega arith, c .before .pre .1, refl)
 
 leaf-requires : tie.Need-leaf-requires Inv-loop μ-loop
 leaf-requires c κs = (c .before .before .before .pre .0, omega arith)
@@ -58,14 +57,14 @@ loop-again c = let s = c .before .before .before .before .before .before .before
     let t = c .before .links .ensures ∙ ap (links (s .args .outside) (s .args .z) (s .args .y)) a in
     let o = c .before .before .own-attribute .ensures ∙ ap (λ (b : calculus.Atom). ownAttribute (s .args .z) b .number) a in (
       omega arith,
-      omega (arith, l .inv .1, c .with-word-if .ensures .grown, own-count (s .args .words .now) (s .args .leaves) (l .i) (l .left) (omega arith) (links (s .args .outside) (s .args .z) (s .args .y)) (c .before .before .own-attribute .result .0) _ t),
-      λ r longer. l .inv .2 r (subst (λ (more : List ℕ). Longer (l .longer) more r) (sym (own-next (s .args .words .now) (s .args .leaves) (l .i) (l .left) (omega arith) (links (s .args .outside) (s .args .z) (s .args .y)) (s .args .z) _ _ t o)) (longer-then (c .with-word-if .ensures) longer)),
+      omega (arith, l .inv .1, grown-used _ _ (c .with-word-if .ensures), own-count (s .args .words .now) (s .args .leaves) (l .i) (l .left) (omega arith) (links (s .args .outside) (s .args .z) (s .args .y)) (c .before .before .own-attribute .result .0) _ t),
+      grown-step _ _ _ (c .with-word-if .ensures) ∙ ap (grownBy (l .longer)) (sym (own-next (s .args .words .now) (s .args .leaves) (l .i) (l .left) (omega arith) (links (s .args .outside) (s .args .z) (s .args .y)) (s .args .z) _ _ t o)) ∙ l .inv .2,
     )
 
 returns : tie.Need-returns Inv-loop μ-loop
 returns c = let l = c .before .loop in
     let e : l .left ≡ 0 = omega arith in
-    l .inv .2 (l .longer) (rw e (longer-none (l .longer)))
+    sym (grown-none (l .longer)) ∙ rw e at (l .inv .2)
 
 pub with-own-columns-spec : {M : Type 1} → statement M
 with-own-columns-spec =

@@ -2,17 +2,15 @@ use Rattle.relations.proofs.BoolLaws.{not-so-false}
 use mathlib.Core.Bool.{true}
 use Rattle.calculus.specs.Leaves.{comparesWithOther}
 use Rattle.short_rules.proofs.RuleLaws.{not-false, three, triple-turned, triple-straight, triple-none}
-use Rattle.emission.proofs.ListingLaws.{longer-none}
-use Rattle.emission.specs.Listings.{Longer}
+use Rattle.emission.proofs.NodeListLaws.{grown-none}
+use Rattle.emission.specs.NodeLists.{grownBy}
 use Rattle.conditions.specs.Scopes.{scopeOf}
 use Rattle.conditions.specs.Atoms.{operatorNamed}
 use Rattle.question.specs.Trees.{operandOf, atomOf}
 use Rattle.calculus.specs.Scope.{columnNumber}
 use Rattle.relations.specs.Columns.{attribute}
 use lib.ListN.{length}
-use mathlib.Core.List.{List}
-use mathlib.Core.Path.{_≡_, sym, ap, ap₂, subst, _∙_}
-use Prim.Native.Nat.{ℕ}
+use mathlib.Core.Path.{_≡_, sym, ap, ap₂, _∙_}
 use native.Mathlib.Omega.{arith}
 use borrow.Author.Needs.{needs}
 use Rattle.short_rules.proofs.rules.with_triple_of.Statement.{statement}
@@ -23,7 +21,7 @@ compares-with-other-requires c κs = search needs
 
 returns : tie.Need-returns
 returns c = let s = c .before .before in
-    subst (λ (more : List ℕ). Longer (s .args .list) more (s .args .list)) (sym (triple-none (scopeOf (s .args .scope)) (s .args .x) (atomOf (s .args .atom)) (sym (c .before .compares-with-other .ensures) ∙ not-so-false _ (c .if1 .taken)))) (longer-none (s .args .list))
+    sym (grown-none (s .args .list)) ∙ ap (grownBy (s .args .list)) (sym (triple-none (scopeOf (s .args .scope)) (s .args .x) (atomOf (s .args .atom)) (sym (c .before .compares-with-other .ensures) ∙ not-so-false _ (c .if1 .taken))))
 
 own-attribute-requires : tie.Need-own-attribute-requires
 own-attribute-requires c κs = search needs
@@ -52,7 +50,7 @@ returns-2 c = let s = c .before .before .before .before .before .before .before 
     let a = s .args .atom in
     let h : comparesWithOther (s .args .x) (atomOf a) ≡ true = sym (c .before .before .before .before .before .before .before .before .before .compares-with-other .ensures) ∙ not-false _ (c .before .before .before .before .before .before .before .before .if1 .left) in
     let e = triple-turned (scopeOf (s .args .scope)) (s .args .x) (a .variable) (attribute (a .attribute .0)) (operatorNamed (a .operator)) (operandOf (a .operand)) h (c .before .before .if2 .taken) in
-    subst (λ (more : List ℕ). Longer (s .args .list) more (c .with-triple .result)) (sym (e ∙ three (sym (c .before .before .before .before .column-of .ensures ∙ ap₂ (columnNumber (scopeOf (s .args .scope))) (c .before .before .before .before .before .before .other-variable .ensures) (c .before .before .before .before .before .other-attribute .ensures .0))) (sym (c .before .turned .ensures)) (sym (c .before .before .before .before .before .before .before .own-attribute .ensures)))) (c .with-triple .ensures)
+    c .with-triple .ensures ∙ ap (grownBy (s .args .list)) (sym (e ∙ three (sym (c .before .before .before .before .column-of .ensures ∙ ap₂ (columnNumber (scopeOf (s .args .scope))) (c .before .before .before .before .before .before .other-variable .ensures) (c .before .before .before .before .before .other-attribute .ensures .0))) (sym (c .before .turned .ensures)) (sym (c .before .before .before .before .before .before .before .own-attribute .ensures))))
 
 with-triple-requires-2 : tie.Need-with-triple-requires-2
 with-triple-requires-2 c κs = let s = c .before .before .before .before .before .before .before .before in
@@ -66,7 +64,7 @@ returns-3 c = let s = c .before .before .before .before .before .before .before 
     let a = s .args .atom in
     let h : comparesWithOther (s .args .x) (atomOf a) ≡ true = sym (c .before .before .before .before .before .before .before .before .compares-with-other .ensures) ∙ not-false _ (c .before .before .before .before .before .before .before .if1 .left) in
     let e = triple-straight (scopeOf (s .args .scope)) (s .args .x) (a .variable) (attribute (a .attribute .0)) (operatorNamed (a .operator)) (operandOf (a .operand)) h (c .before .if2 .left) in
-    subst (λ (more : List ℕ). Longer (s .args .list) more (c .with-triple2 .result)) (sym (e ∙ three (sym (c .before .before .before .column-of .ensures ∙ ap₂ (columnNumber (scopeOf (s .args .scope))) (c .before .before .before .before .before .other-variable .ensures) (c .before .before .before .before .other-attribute .ensures .0))) (sym (s .pre .1 .operator)) (sym (c .before .before .before .before .before .before .own-attribute .ensures)))) (c .with-triple2 .ensures)
+    c .with-triple2 .ensures ∙ ap (grownBy (s .args .list)) (sym (e ∙ three (sym (c .before .before .before .column-of .ensures ∙ ap₂ (columnNumber (scopeOf (s .args .scope))) (c .before .before .before .before .before .other-variable .ensures) (c .before .before .before .before .other-attribute .ensures .0))) (sym (s .pre .1 .operator)) (sym (c .before .before .before .before .before .before .own-attribute .ensures))))
 
 pub with-triple-of-spec : {M : Type 1} → statement M
 with-triple-of-spec =

@@ -1,18 +1,18 @@
 use Rattle.short_rules.proofs.RuleLaws.{own-size, behind-size}
 use Rattle.emission.proofs.WrittenLaws.{written-then, room-after, room-less, last-is, written-as}
-use Rattle.emission.proofs.ListingLaws.{longer-then, numbers-append}
-use Rattle.emission.specs.declared.listing.Listing.{Listing}
-use Rattle.emission.specs.Listings.{listing, numbersOf}
+use Rattle.emission.proofs.NodeListLaws.{grown-used, grown-then, grown-list, numbers-append, lists-attributes, names-attributes}
+use Rattle.emission.specs.declared.node_list.NodeList.{NodeList}
+use Rattle.emission.specs.NodeLists.{nodeList, numbersOf}
 use Rattle.short_rules.specs.Rules.{links}
 use Rattle.conditions.specs.Leaves.{atomsOf}
 use Rattle.calculus.specs.ShortRules.{projectNodes, shortRule5Columns}
-use Rattle.calculus.specs.Leaves.{ownAttribute, equatesWith, equatesOutside}
+use Rattle.calculus.specs.Leaves.{ownAttribute}
 use Rattle.relations.specs.Lists.{filter}
-use lib.ListN.{length}
-use mathlib.Core.List.{[], map}
+use lib.ListN.{length, length-append}
+use mathlib.Core.List.{map}
 use mathlib.Core.Bool.{true, false}
-use mathlib.Core.Path.{_≡_, ap, sym, _∙_}
-use Prim.Native.Nat.{ℕ, _≤_}
+use mathlib.Core.Path.{_≡_, ap, ap₂, sym, _∙_}
+use Prim.Native.Nat.{_≤_}
 use native.Mathlib.Omega.{arith}
 use Rattle.short_rules.proofs.rules.write_dividend.Statement.{statement}
 use Rattle.short_rules.proofs.rules.write_dividend.Tie as tie
@@ -23,14 +23,14 @@ no-list-requires c κs = tt
 with-own-columns-requires : tie.Need-with-own-columns-requires
 with-own-columns-requires c κs = let s = c .before .before .before in
     let h : length (filter (links true (s .args .z) (s .args .y)) (atomsOf (s .args .words .now) (s .args .leaves))) ≤ 8 = s .pre .few-outside in
-    (s .pre .leaves-fit, omega (arith, h, ap (λ (l : Listing). l .used) (c .no-list .ensures)))
+    (s .pre .leaves-fit, omega (arith, h, ap (λ (l : NodeList). l .used) (c .no-list .ensures)))
 
 with-own-columns-requires-2 : tie.Need-with-own-columns-requires-2
 with-own-columns-requires-2 c κs = let s = c .before .before .before .before in
     let atoms = atomsOf (s .args .words .now) (s .args .leaves) in
     let h : length (filter (links true (s .args .z) (s .args .y)) atoms) ≤ 8 = s .pre .few-outside in
     let k : length (filter (links false (s .args .z) (s .args .y)) atoms) ≤ 8 = s .pre .few-shared in
-    (s .pre .leaves-fit, omega (arith, h, k, ap (λ (l : Listing). l .used) (c .before .no-list .ensures), c .with-own-columns .ensures .grown, own-size (s .args .z) (filter (links true (s .args .z) (s .args .y)) atoms)))
+    (s .pre .leaves-fit, omega (arith, h, k, ap (λ (l : NodeList). l .used) (c .before .no-list .ensures), grown-used _ _ (c .with-own-columns .ensures), own-size (s .args .z) (filter (links true (s .args .z) (s .args .y)) atoms)))
 
 write-own-selects-requires : tie.Need-write-own-selects-requires
 write-own-selects-requires c κs = let s = c .before .before .before .before .before .before in
@@ -39,25 +39,30 @@ write-own-selects-requires c κs = let s = c .before .before .before .before .be
 sub-write-project : tie.Need-sub-write-project
 sub-write-project c = omega (arith, c .before .before .before .before .before .before .before .before .before .pre .some-nodes, c .before .before .write-own-selects .ensures .counted)
 
+-- z's attributes, as they stand in the list
+dividend-listed : (c : tie.After-write-own-selects) → c .before .before .with-own-columns2 .result ≡ nodeList (numbersOf (shortRule5Columns (c .before .before .before .before .before .before .before .args .z) (c .before .before .before .before .before .before .before .args .y) (atomsOf (c .before .before .before .before .before .before .before .args .words .now) (c .before .before .before .before .before .before .before .args .leaves))))
+dividend-listed c =
+    let s = c .before .before .before .before .before .before .before in
+    let atoms = atomsOf (s .args .words .now) (s .args .leaves) in
+    let outside = filter (links true (s .args .z) (s .args .y)) atoms in
+    let shared = filter (links false (s .args .z) (s .args .y)) atoms in
+    let h : length outside ≤ 8 = s .pre .few-outside in
+    let k : length shared ≤ 8 = s .pre .few-shared in
+    grown-list _ (c .before .before .before .before .no-list .ensures) (grown-then _ _ _ (c .before .before .before .with-own-columns .ensures) (c .before .before .with-own-columns2 .ensures)) (omega (arith, h, k, length-append (numbersOf (map (ownAttribute (s .args .z)) outside)) (numbersOf (map (ownAttribute (s .args .z)) shared)), own-size (s .args .z) outside, own-size (s .args .z) shared)) ∙ ap nodeList (sym (numbers-append (map (ownAttribute (s .args .z)) outside) (map (ownAttribute (s .args .z)) shared)))
+
 write-project-requires : tie.Need-write-project-requires
 write-project-requires c κs = let s = c .before .before .before .before .before .before .before .before .before .before in
     let atoms = atomsOf (s .args .words .now) (s .args .leaves) in
-    let h : length (filter (links true (s .args .z) (s .args .y)) atoms) ≤ 8 = s .pre .few-outside in
-    let k : length (filter (links false (s .args .z) (s .args .y)) atoms) ≤ 8 = s .pre .few-shared in (
-      omega (arith, h, k, ap (λ (l : Listing). l .used) (c .before .before .before .before .before .before .before .no-list .ensures), c .before .before .before .before .before .before .with-own-columns .ensures .grown, c .before .before .before .before .before .with-own-columns2 .ensures .grown, own-size (s .args .z) (filter (links true (s .args .z) (s .args .y)) atoms), own-size (s .args .z) (filter (links false (s .args .z) (s .args .y)) atoms)),
-      room-after 1 (s .pre .room) (c .before .before .before .write-own-selects .ensures) (omega (arith, behind-size (s .args .z) (s .args .width) atoms (s .args .n))),
-    )
+    (lists-attributes (shortRule5Columns (s .args .z) (s .args .y) atoms) (dividend-listed (c .before .before .before)), room-after 1 (s .pre .room) (c .before .before .before .write-own-selects .ensures) (omega (arith, behind-size (s .args .z) (s .args .width) atoms (s .args .n))))
 
 same-length : tie.Need-same-length
 same-length c = c .before .before .write-project .kept .1 .1 .1 .1 .0 ∙ c .before .before .before .before .before .before .write-own-selects .kept .1 .1 .1 .1 .0
 
 returns : tie.Need-returns
 returns c = let s = c .before .before .before .before .before .before .before .before .before .before .before .before .before in
-    let atoms = atomsOf (s .args .words .now) (s .args .leaves) in
-    let listed = shortRule5Columns (s .args .z) (s .args .y) atoms in
-    let e : c .before .before .before .before .before .before .before .before .with-own-columns2 .result ≡ listing (numbersOf listed) = longer-then (c .before .before .before .before .before .before .before .before .before .with-own-columns .ensures) (c .before .before .before .before .before .before .before .before .with-own-columns2 .ensures) .holds [] (c .before .before .before .before .before .before .before .before .before .before .no-list .ensures) ∙ ap listing (sym (numbers-append (map (ownAttribute (s .args .z)) (filter (equatesOutside (s .args .z) (s .args .y)) atoms)) (map (ownAttribute (s .args .z)) (filter (equatesWith (s .args .z) (s .args .y)) atoms)))) in
+    let listed = shortRule5Columns (s .args .z) (s .args .y) (atomsOf (s .args .words .now) (s .args .leaves)) in
     let w = c .before .before .before .before .before .before .write-own-selects .ensures in
-    written-then w (written-as (ap (λ (k : ℕ). projectNodes true (s .args .width) k listed) (last-is w)) (c .before .before .write-project .ensures listed e))
+    written-then w (written-as (ap₂ (projectNodes true (s .args .width)) (last-is w) (sym (names-attributes listed (dividend-listed (c .before .before .before .before .before .before))))) (c .before .before .write-project .ensures))
 
 pub write-dividend-spec : {M : Type 1} → statement M
 write-dividend-spec =

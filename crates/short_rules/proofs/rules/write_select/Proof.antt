@@ -22,14 +22,14 @@ enum-known-operand c = search needs
 column-of-requires-2 : tie.Need-column-of-requires-2
 column-of-requires-2 c κs = (c .before .before .before .before .before .before .pre .0, rw (c .before .operand .given .1) at (c .before .before .before .before .before .before .pre .1 .operand))
 
-select-attribute-requires : tie.Need-select-attribute-requires
-select-attribute-requires c κs = search needs
+select-requires : tie.Need-select-requires
+select-requires c κs = search needs
 
 enum-known-operand-2 : tie.Need-enum-known-operand-2
 enum-known-operand-2 c = search needs
 
-select-constant-requires : tie.Need-select-constant-requires
-select-constant-requires c κs = search needs
+select-requires-2 : tie.Need-select-requires-2
+select-requires-2 c κs = search needs
 
 same-length : tie.Need-same-length
 same-length c = search needs
@@ -41,7 +41,7 @@ returns c = let s = c .before .before .before .before .before .before .before .b
     written-as
     (ap (λ (b : calculus.Atom). selectNode (scopeOf (s .args .scope)) (s .args .p) b ∷ []) (read a (c .before .before .before .before .before .before .operand .given .1))
     ∙ ap₂ (λ (x y : ℕ). selectAttribute (s .args .p) (attribute x) o (attribute y) ∷ []) (sym (c .before .before .before .before .before .before .before .before .column-of .ensures)) (sym (c .before .before .before .before .column-of2 .ensures)))
-    (c .before .before .select-attribute .ensures o (s .pre .1 .operator))
+    (c .before .before .select .ensures)
 
 same-length-2 : tie.Need-same-length-2
 same-length-2 c = search needs
@@ -53,7 +53,7 @@ returns-2 c = let s = c .before .before .before .before .before .before .before 
     written-as
     (ap (λ (b : calculus.Atom). selectNode (scopeOf (s .args .scope)) (s .args .p) b ∷ []) (read a (c .before .before .before .before .before .operand2 .given .1))
     ∙ ap (λ (x : ℕ). selectConstant (s .args .p) (attribute x) o (constant (c .before .before .before .before .before .operand2 .given .0 .0 .0)) ∷ []) (sym (c .before .before .before .before .before .before .before .column-of .ensures)))
-    (c .before .before .select-constant .ensures o (s .pre .1 .operator))
+    (c .before .before .select2 .ensures)
 
 pub write-select-spec : {M : Type 1} → statement M
 write-select-spec =
@@ -62,9 +62,9 @@ write-select-spec =
     column-of-requires
     enum-known-operand
     column-of-requires-2
-    select-attribute-requires
+    select-requires
     enum-known-operand-2
-    select-constant-requires
+    select-requires-2
     same-length
     returns
     same-length-2

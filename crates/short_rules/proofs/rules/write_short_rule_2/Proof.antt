@@ -1,11 +1,13 @@
+use Rattle.emission.proofs.NodeListLaws.{names-triples, lists-triples}
+use Rattle.relations.specs.Columns.{Triple}
 use Rattle.short_rules.proofs.RuleLaws.{behind-size}
 use Rattle.emission.proofs.WrittenLaws.{written-then, room-after, last-is, written-as}
 use Rattle.conditions.specs.Leaves.{atomsOf}
 use Rattle.conditions.specs.Scopes.{scopeOf}
 use Rattle.calculus.specs.ShortRules.{triplesOf}
 use Rattle.relations.specs.Nodes.{semijoin}
-use mathlib.Core.List.{[], _∷_}
-use mathlib.Core.Path.{ap}
+use mathlib.Core.List.{List, [], _∷_}
+use mathlib.Core.Path.{ap₂, sym}
 use Prim.Native.Nat.{ℕ}
 use native.Mathlib.Omega.{arith}
 use borrow.Author.Needs.{needs}
@@ -23,7 +25,7 @@ sub-semijoin c = search needs
 
 semijoin-requires : tie.Need-semijoin-requires
 semijoin-requires c κs = let s = c .before .before .before .before .before .before .before .before in
-    room-after 1 (s .pre .0 .room) (c .before .before .before .write-own-selects .ensures) (omega (arith, behind-size (s .args .x) (s .args .width) (atomsOf (s .args .words .now) (s .args .leaves)) (s .args .n)))
+    (room-after 1 (s .pre .0 .room) (c .before .before .before .write-own-selects .ensures) (omega (arith, behind-size (s .args .x) (s .args .width) (atomsOf (s .args .words .now) (s .args .leaves)) (s .args .n))), lists-triples (triplesOf (scopeOf (s .args .scope)) (s .args .x) (atomsOf (s .args .words .now) (s .args .leaves))) (c .before .before .before .before .before .triples-of .ensures))
 
 same-length : tie.Need-same-length
 same-length c = search needs
@@ -33,7 +35,7 @@ returns c = let s = c .before .before .before .before .before .before .before .b
     let atoms = atomsOf (s .args .words .now) (s .args .leaves) in
     let ts = triplesOf (scopeOf (s .args .scope)) (s .args .x) atoms in
     let w = c .before .before .before .before .before .before .write-own-selects .ensures in
-    written-then w (written-as (ap (λ (m : ℕ). semijoin (s .args .p) m ts ∷ []) (last-is w)) (c .before .before .semijoin .ensures ts (c .before .before .before .before .before .before .before .before .triples-of .ensures)))
+    written-then w (written-as (ap₂ (λ (m : ℕ) (l : List Triple). semijoin (s .args .p) m l ∷ []) (last-is w) (sym (names-triples ts (c .before .before .before .before .before .before .before .before .triples-of .ensures)))) (c .before .before .semijoin .ensures))
 
 pub write-short-rule-2-spec : {M : Type 1} → statement M
 write-short-rule-2-spec =

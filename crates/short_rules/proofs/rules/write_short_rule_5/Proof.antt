@@ -1,32 +1,46 @@
 use Rattle.short_rules.proofs.RuleLaws.{dividend-size, division-written, outside-count, pairs-counted}
-use Rattle.emission.proofs.WrittenLaws.{room-after, room-less}
+use Rattle.emission.proofs.NodeListLaws.{names-triples, names-pairs, lists-triples, lists-pairs}
+use Rattle.emission.proofs.WrittenLaws.{room-after, room-less, written-as}
+use Rattle.emission.specs.NodeLists.{nodeList}
 use Rattle.conditions.specs.Leaves.{atomsOf}
 use Rattle.conditions.specs.Scopes.{scopeOf}
+use Rattle.calculus.specs.Question.{Atom}
 use Rattle.calculus.specs.ShortRules.{outsideTriples, divisionPairs}
 use Rattle.calculus.specs.Leaves.{equatesWith, equatesOutside}
-use Rattle.relations.specs.Lists.{filter}
+use Rattle.relations.specs.Columns.{Triple, Pair}
+use Rattle.relations.specs.Lists.{filter, flat}
+use Rattle.relations.specs.Nodes.{divide, semijoin, antijoin}
+use Rattle.relations.specs.PlanWords.{pairWords}
 use lib.ListN.{length}
-use mathlib.Core.List.{[]}
-use mathlib.Core.Path.{_∙_}
-use Prim.Native.Nat.{suc}
+use mathlib.Core.List.{List, [], _∷_}
+use mathlib.Core.Path.{_≡_, sym, ap, _∙_}
+use Prim.Native.Nat.{suc, _-_}
 use native.Mathlib.Omega.{arith}
 use Rattle.short_rules.proofs.rules.write_short_rule_5.Statement.{statement}
 use Rattle.short_rules.proofs.rules.write_short_rule_5.Tie as tie
+
+abbrev atoms : tie.Start → List Atom
+atoms s = atomsOf (s .args .words .now) (s .args .leaves)
+
+abbrev triples : tie.Start → List Triple
+triples s = outsideTriples (scopeOf (s .args .scope)) (s .args .z) (filter (equatesOutside (s .args .z) (s .args .y)) (atoms s)) 1
+
+abbrev pairs : tie.Start → List Pair
+pairs s = divisionPairs (s .args .z) (filter (equatesWith (s .args .z) (s .args .y)) (atoms s)) (suc (length (filter (equatesOutside (s .args .z) (s .args .y)) (atoms s))))
+
+pairs-listed : (c : tie.After-division-pairs) → c .division-pairs .result ≡ nodeList (flat pairWords (pairs (c .before .before .before .before .before)))
+pairs-listed c = let s = c .before .before .before .before .before in pairs-counted (scopeOf (s .args .scope)) (s .args .z) (s .args .y) (atoms s) (c .before .before .outside-triples .ensures) (c .division-pairs .ensures)
 
 outside-triples-requires : tie.Need-outside-triples-requires
 outside-triples-requires c κs = (c .before .before .pre .0, c .before .before .pre .1 .leaves-fit, c .before .before .pre .1 .few-outside)
 
 add-division-pairs : tie.Need-add-division-pairs
 add-division-pairs c = let s = c .before .before .before .before in
-    let atoms = atomsOf (s .args .words .now) (s .args .leaves) in
-    let outside = c .before .outside-triples .ensures in
-    omega (arith, outside-count (scopeOf (s .args .scope)) (s .args .z) (s .args .y) atoms outside, s .pre .1 .few-outside)
+    omega (arith, outside-count (scopeOf (s .args .scope)) (s .args .z) (s .args .y) (atoms s) (c .before .outside-triples .ensures), s .pre .1 .few-outside)
 
 division-pairs-requires : tie.Need-division-pairs-requires
 division-pairs-requires c κs = let s = c .before .before .before .before in
-    let atoms = atomsOf (s .args .words .now) (s .args .leaves) in
-    let outside = c .before .outside-triples .ensures in
-    (s .pre .1 .leaves-fit, s .pre .1 .few-shared, omega (arith, outside-count (scopeOf (s .args .scope)) (s .args .z) (s .args .y) atoms outside, s .pre .1 .few-outside))
+    (s .pre .1 .leaves-fit, s .pre .1 .few-shared, omega (arith, outside-count (scopeOf (s .args .scope)) (s .args .z) (s .args .y) (atoms s) (c .before .outside-triples .ensures), s .pre .1 .few-outside))
 
 write-dividend-requires : tie.Need-write-dividend-requires
 write-dividend-requires c κs = let d = c .before .before .before .before .before .before .pre .1 in
@@ -37,53 +51,39 @@ sub-divide c = omega (arith, c .before .before .before .before .before .before .
 
 divide-requires : tie.Need-divide-requires
 divide-requires c κs = let s = c .before .before .before .before .before .before .before .before .before .before in
-    let atoms = atomsOf (s .args .words .now) (s .args .leaves) in
-    let r = room-after 4 (s .pre .1 .room) (c .before .before .before .write-dividend .ensures) (omega (arith, dividend-size (s .args .y) (s .args .z) (s .args .width) atoms (s .args .n))) in
-    room-less 1 r (omega arith)
+    let r = room-after 4 (s .pre .1 .room) (c .before .before .before .write-dividend .ensures) (omega (arith, dividend-size (s .args .y) (s .args .z) (s .args .width) (atoms s) (s .args .n))) in
+    (room-less 1 r (omega arith), lists-pairs (pairs s) (pairs-listed (c .before .before .before .before .before)))
 
 semijoin-requires : tie.Need-semijoin-requires
 semijoin-requires c κs = let s = c .before .before .before .before .before .before .before .before .before .before .before .before .before .before in
-    let atoms = atomsOf (s .args .words .now) (s .args .leaves) in
-    let r = room-after 4 (s .pre .1 .room) (c .before .before .before .before .before .before .before .write-dividend .ensures) (omega (arith, dividend-size (s .args .y) (s .args .z) (s .args .width) atoms (s .args .n))) in
-    let outside = c .before .before .before .before .before .before .before .before .before .before .before .outside-triples .ensures in
-    let P = divisionPairs (s .args .z) (filter (equatesWith (s .args .z) (s .args .y)) atoms) (suc (length (filter (equatesOutside (s .args .z) (s .args .y)) atoms))) in
-    let e = pairs-counted (scopeOf (s .args .scope)) (s .args .z) (s .args .y) atoms outside (c .before .before .before .before .before .before .before .before .before .division-pairs .ensures) in
-    room-after 1 r (c .before .before .before .divide .ensures P e) (omega arith)
+    let r = room-after 4 (s .pre .1 .room) (c .before .before .before .before .before .before .before .write-dividend .ensures) (omega (arith, dividend-size (s .args .y) (s .args .z) (s .args .width) (atoms s) (s .args .n))) in
+    (room-after 1 r (c .before .before .before .divide .ensures) (omega arith), lists-triples (triples s) (c .before .before .before .before .before .before .before .before .before .before .before .outside-triples .ensures))
 
 no-list-requires : tie.Need-no-list-requires
 no-list-requires c κs = tt
 
 antijoin-requires : tie.Need-antijoin-requires
 antijoin-requires c κs = let s = c .before .before .before .before .before .before .before .before .before .before .before .before .before .before .before .before .before .before .before in
-    let atoms = atomsOf (s .args .words .now) (s .args .leaves) in
-    let r = room-after 4 (s .pre .1 .room) (c .before .before .before .before .before .before .before .before .before .before .before .before .write-dividend .ensures) (omega (arith, dividend-size (s .args .y) (s .args .z) (s .args .width) atoms (s .args .n))) in
-    let outside = c .before .before .before .before .before .before .before .before .before .before .before .before .before .before .before .before .outside-triples .ensures in
-    let P = divisionPairs (s .args .z) (filter (equatesWith (s .args .z) (s .args .y)) atoms) (suc (length (filter (equatesOutside (s .args .z) (s .args .y)) atoms))) in
-    let T = outsideTriples (scopeOf (s .args .scope)) (s .args .z) (filter (equatesOutside (s .args .z) (s .args .y)) atoms) 1 in
-    let e = pairs-counted (scopeOf (s .args .scope)) (s .args .z) (s .args .y) atoms outside (c .before .before .before .before .before .before .before .before .before .before .before .before .before .before .division-pairs .ensures) in
-    room-after 1 (room-after 3 r (c .before .before .before .before .before .before .before .before .divide .ensures P e) (omega arith)) (c .before .before .before .before .semijoin .ensures T outside) (omega arith)
+    let r = room-after 4 (s .pre .1 .room) (c .before .before .before .before .before .before .before .before .before .before .before .before .write-dividend .ensures) (omega (arith, dividend-size (s .args .y) (s .args .z) (s .args .width) (atoms s) (s .args .n))) in
+    (room-after 1 (room-after 3 r (c .before .before .before .before .before .before .before .before .divide .ensures) (omega arith)) (c .before .before .before .before .semijoin .ensures) (omega arith), lists-triples [] (c .no-list .ensures))
 
 unite-requires : tie.Need-unite-requires
 unite-requires c κs = let s = c .before .before .before .before .before .before .before .before .before .before .before .before .before .before .before .before .before .before .before .before .before .before .before in
-    let atoms = atomsOf (s .args .words .now) (s .args .leaves) in
-    let r = room-after 4 (s .pre .1 .room) (c .before .before .before .before .before .before .before .before .before .before .before .before .before .before .before .before .write-dividend .ensures) (omega (arith, dividend-size (s .args .y) (s .args .z) (s .args .width) atoms (s .args .n))) in
-    let outside = c .before .before .before .before .before .before .before .before .before .before .before .before .before .before .before .before .before .before .before .before .outside-triples .ensures in
-    let P = divisionPairs (s .args .z) (filter (equatesWith (s .args .z) (s .args .y)) atoms) (suc (length (filter (equatesOutside (s .args .z) (s .args .y)) atoms))) in
-    let T = outsideTriples (scopeOf (s .args .scope)) (s .args .z) (filter (equatesOutside (s .args .z) (s .args .y)) atoms) 1 in
-    let e = pairs-counted (scopeOf (s .args .scope)) (s .args .z) (s .args .y) atoms outside (c .before .before .before .before .before .before .before .before .before .before .before .before .before .before .before .before .before .before .division-pairs .ensures) in
-    room-after 1 (room-after 2 (room-after 3 r (c .before .before .before .before .before .before .before .before .before .before .before .before .divide .ensures P e) (omega arith)) (c .before .before .before .before .before .before .before .before .semijoin .ensures T outside) (omega arith)) (c .before .before .before .antijoin .ensures [] (c .before .before .before .before .no-list .ensures)) (omega arith)
+    let r = room-after 4 (s .pre .1 .room) (c .before .before .before .before .before .before .before .before .before .before .before .before .before .before .before .before .write-dividend .ensures) (omega (arith, dividend-size (s .args .y) (s .args .z) (s .args .width) (atoms s) (s .args .n))) in
+    room-after 1 (room-after 2 (room-after 3 r (c .before .before .before .before .before .before .before .before .before .before .before .before .divide .ensures) (omega arith)) (c .before .before .before .before .before .before .before .before .semijoin .ensures) (omega arith)) (c .before .before .before .antijoin .ensures) (omega arith)
 
 same-length : tie.Need-same-length
 same-length c = (((c .before .before .unite .kept .0 ∙ c .before .before .before .before .before .before .antijoin .kept .0) ∙ c .before .before .before .before .before .before .before .before .before .before .before .semijoin .kept .0) ∙ c .before .before .before .before .before .before .before .before .before .before .before .before .before .before .before .divide .kept .0) ∙ c .before .before .before .before .before .before .before .before .before .before .before .before .before .before .before .before .before .before .before .write-dividend .kept .1 .1 .1 .1 .1 .0
 
 returns : tie.Need-returns
 returns c = let s = c .before .before .before .before .before .before .before .before .before .before .before .before .before .before .before .before .before .before .before .before .before .before .before .before .before .before in
-    let atoms = atomsOf (s .args .words .now) (s .args .leaves) in
-    let outside = c .before .before .before .before .before .before .before .before .before .before .before .before .before .before .before .before .before .before .before .before .before .before .before .outside-triples .ensures in
-    let P = divisionPairs (s .args .z) (filter (equatesWith (s .args .z) (s .args .y)) atoms) (suc (length (filter (equatesOutside (s .args .z) (s .args .y)) atoms))) in
-    let T = outsideTriples (scopeOf (s .args .scope)) (s .args .z) (filter (equatesOutside (s .args .z) (s .args .y)) atoms) 1 in
-    let e = pairs-counted (scopeOf (s .args .scope)) (s .args .z) (s .args .y) atoms outside (c .before .before .before .before .before .before .before .before .before .before .before .before .before .before .before .before .before .before .before .before .before .division-pairs .ensures) in
-    division-written (c .before .before .before .before .before .before .before .before .before .before .before .before .before .before .before .before .before .before .before .write-dividend .ensures) (c .before .before .before .before .before .before .before .before .before .before .before .before .before .before .before .divide .ensures P e) (c .before .before .before .before .before .before .before .before .before .before .before .semijoin .ensures T outside) (c .before .before .before .before .before .before .antijoin .ensures [] (c .before .before .before .before .before .before .before .no-list .ensures)) (c .before .before .unite .ensures)
+    let q = c .before .before .before .before .before .before .before .before .before .before .before .before .before .before .before .before .before .before .before .write-dividend .result in
+    division-written
+    (c .before .before .before .before .before .before .before .before .before .before .before .before .before .before .before .before .before .before .before .write-dividend .ensures)
+    (written-as (ap (λ (l : List Pair). divide (q - 1) (s .args .k) l ∷ []) (sym (names-pairs (pairs s) (pairs-listed (c .before .before .before .before .before .before .before .before .before .before .before .before .before .before .before .before .before .before .before .before .before))))) (c .before .before .before .before .before .before .before .before .before .before .before .before .before .before .before .divide .ensures))
+    (written-as (ap (λ (l : List Triple). semijoin (s .args .p) q l ∷ []) (sym (names-triples (triples s) (c .before .before .before .before .before .before .before .before .before .before .before .before .before .before .before .before .before .before .before .before .before .before .before .outside-triples .ensures)))) (c .before .before .before .before .before .before .before .before .before .before .before .semijoin .ensures))
+    (written-as (ap (λ (l : List Triple). antijoin (s .args .p) (s .args .k) l ∷ []) (sym (names-triples [] (c .before .before .before .before .before .before .before .no-list .ensures)))) (c .before .before .before .before .before .before .antijoin .ensures))
+    (c .before .before .unite .ensures)
 
 pub write-short-rule-5-spec : {M : Type 1} → statement M
 write-short-rule-5-spec =

@@ -1,0 +1,4 @@
+-- In reading order.
+pub mod Refusals
+pub mod Demands
+pub mod Papers

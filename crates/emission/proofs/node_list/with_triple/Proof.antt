@@ -1,0 +1,21 @@
+use Rattle.emission.proofs.NodeListLaws.{grown-used, grown-then}
+use native.Mathlib.Omega.{arith}
+use borrow.Author.Needs.{needs}
+use Rattle.emission.proofs.node_list.with_triple.Statement.{statement}
+use Rattle.emission.proofs.node_list.with_triple.Tie as tie
+
+with-word-requires : tie.Need-with-word-requires
+with-word-requires c κs = search needs
+
+with-word-requires-2 : tie.Need-with-word-requires-2
+with-word-requires-2 c κs = omega (arith, c .before .pre, grown-used _ _ (c .with-word .ensures))
+
+with-word-requires-3 : tie.Need-with-word-requires-3
+with-word-requires-3 c κs = omega (arith, c .before .before .pre, grown-used _ _ (c .before .with-word .ensures), grown-used _ _ (c .with-word2 .ensures))
+
+returns : tie.Need-returns
+returns c = grown-then _ _ _ (grown-then _ _ _ (c .before .before .with-word .ensures) (c .before .with-word2 .ensures)) (c .with-word3 .ensures)
+
+pub with-triple-spec : {M : Type 1} → statement M
+with-triple-spec =
+    tie.close (tie.spec with-word-requires with-word-requires-2 with-word-requires-3 returns)

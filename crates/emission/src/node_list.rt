@@ -1,0 +1,101 @@
+// A node's list, grown word by word.
+ghost use mathlib.Core.Path.{_≡_};
+ghost use mathlib.Core.Bool.{cond};
+ghost use mathlib.Core.List.{[], _∷_};
+ghost use Prim.Native.Nat.{_+_, _≤_, _<_};
+ghost use lib.ListN.{length};
+ghost use Rattle.relations.specs.Limits.{columnLimit, listWords};
+ghost use Rattle.calculus.specs.Scope.{columnsFrom};
+ghost use Rattle.emission.specs.NodeLists.{nodeList, grownBy, numbersOf};
+use nodes::node::Attribute;
+
+// A node's list: the words used so far, then zeros.
+pub struct NodeList {
+    pub words: [u32; 32],
+    pub used: u32,
+}
+
+pub fn no_list() -> NodeList
+    ensures { λ r. ⌜ r ≡ nodeList [] ⌝ }
+{
+    NodeList {
+        words: [0u32; 32],
+        used: 0,
+    }
+}
+
+pub fn with_word(list: NodeList, word: u32) -> NodeList
+    requires { ⌜ list .used < listWords ⌝ }
+    ensures { λ r. ⌜ r ≡ grownBy list (word ∷ []) ⌝ }
+{
+    let mut longer = list;
+    longer.words[list.used as usize] = word;
+    longer.used = list.used + 1;
+    longer
+}
+
+pub fn with_pair(list: NodeList, left: Attribute, right: Attribute) -> NodeList
+    requires { ⌜ list .used + 2 ≤ listWords ⌝ }
+    ensures { λ r. ⌜ r ≡ grownBy list (left .0 ∷ right .0 ∷ []) ⌝ }
+{
+    with_word(with_word(list, left.0), right.0)
+}
+
+pub fn with_triple(list: NodeList, left: Attribute, operator: u32, right: Attribute) -> NodeList
+    requires { ⌜ list .used + 3 ≤ listWords ⌝ }
+    ensures { λ r. ⌜ r ≡ grownBy list (left .0 ∷ operator ∷ right .0 ∷ []) ⌝ }
+{
+    with_word(with_word(with_word(list, left.0), operator), right.0)
+}
+
+pub fn with_word_if(list: NodeList, test: bool, word: u32) -> NodeList
+    requires { ⌜ list .used + length (cond test (word ∷ []) []) ≤ listWords ⌝ }
+    ensures { λ r. ⌜ r ≡ grownBy list (cond test (word ∷ []) []) ⌝ }
+{
+    if test {
+        return with_word(list, word);
+    }
+    list
+}
+
+pub fn with_pair_if(list: NodeList, test: bool, left: Attribute, right: Attribute) -> NodeList
+    requires { ⌜ list .used + length (cond test (left .0 ∷ right .0 ∷ []) []) ≤ listWords ⌝ }
+    ensures { λ r. ⌜ r ≡ grownBy list (cond test (left .0 ∷ right .0 ∷ []) []) ⌝ }
+{
+    if test {
+        return with_pair(list, left, right);
+    }
+    list
+}
+
+pub fn with_triple_if(
+    list: NodeList,
+    test: bool,
+    left: Attribute,
+    operator: u32,
+    right: Attribute,
+) -> NodeList
+    requires { ⌜ list .used + length (cond test (left .0 ∷ operator ∷ right .0 ∷ []) []) ≤ listWords ⌝ }
+    ensures { λ r. ⌜ r ≡ grownBy list (cond test (left .0 ∷ operator ∷ right .0 ∷ []) []) ⌝ }
+{
+    if test {
+        return with_triple(list, left, operator, right);
+    }
+    list
+}
+
+// So many columns in order, from `first` on, behind those of the list.
+pub fn with_columns(list: NodeList, first: u32, count: u32) -> NodeList
+    requires { ⌜ (list .used + count ≤ listWords) × (first ≤ columnLimit + columnLimit) ⌝ }
+    ensures { λ r. ⌜ r ≡ grownBy list (numbersOf (columnsFrom count first)) ⌝ }
+{
+    let mut longer = list;
+    let mut column = first;
+    let mut left = count;
+    while 0 < left {
+        longer = with_word(longer, column);
+        column += 1;
+        left -= 1;
+    }
+    longer
+}

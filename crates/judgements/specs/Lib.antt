@@ -1,0 +1,3 @@
+-- In reading order.
+pub mod Faults
+pub mod Accepted

@@ -1,0 +1,104 @@
+-- `nodes::node::decode` meets its contract. The six words spell the node, and the two tests decide whether it stands. Assumes nothing.
+use Rattle.nodes.specs.Nodes.{nodeAt}
+use borrow.Author.Needs.{needs}
+use Rattle.nodes.proofs.node.decode.Statement.{statement}
+use Rattle.nodes.proofs.node.decode.Tie as tie
+
+mul-at : tie.Need-mul-at
+mul-at c = search needs
+
+mul-kind : tie.Need-mul-kind
+mul-kind c = search needs
+
+shared-slice-read-kind : tie.Need-shared-slice-read-kind
+shared-slice-read-kind c = search needs
+
+add-a : tie.Need-add-a
+add-a c = search needs
+
+mul-a : tie.Need-mul-a
+mul-a c = search needs
+
+shared-slice-read-a : tie.Need-shared-slice-read-a
+shared-slice-read-a c = search needs
+
+add-b : tie.Need-add-b
+add-b c = search needs
+
+mul-b : tie.Need-mul-b
+mul-b c = search needs
+
+shared-slice-read-b : tie.Need-shared-slice-read-b
+shared-slice-read-b c = search needs
+
+add-c : tie.Need-add-c
+add-c c = search needs
+
+mul-c : tie.Need-mul-c
+mul-c c = search needs
+
+shared-slice-read-c : tie.Need-shared-slice-read-c
+shared-slice-read-c c = search needs
+
+add-d : tie.Need-add-d
+add-d c = search needs
+
+mul-d : tie.Need-mul-d
+mul-d c = search needs
+
+shared-slice-read-d : tie.Need-shared-slice-read-d
+shared-slice-read-d c = search needs
+
+add-e : tie.Need-add-e
+add-e c = search needs
+
+mul-e : tie.Need-mul-e
+mul-e c = search needs
+
+shared-slice-read-e : tie.Need-shared-slice-read-e
+shared-slice-read-e c = search needs
+
+spell-requires : tie.Need-spell-requires
+spell-requires c κs = search needs
+
+unused-zero-requires : tie.Need-unused-zero-requires
+unused-zero-requires c κs = search needs
+
+fits-requires : tie.Need-fits-requires
+fits-requires c κs = search needs
+
+returns : tie.Need-returns
+unfolding nodeAt
+returns c = simp (c .before .before .before .spell .ensures, rw (c .before .before .unused-zero .ensures, c .before .fits2 .ensures, c .before .before .before .spell .ensures) at (c .if1 .taken))
+
+returns-2 : tie.Need-returns-2
+unfolding nodeAt
+returns-2 c = simp (rw (c .before .before .unused-zero .ensures, c .before .fits2 .ensures, c .before .before .before .spell .ensures) at (c .if1 .left))
+
+pub decode-spec : {M : Type 1} → statement M
+decode-spec =
+    tie.close
+    (tie.spec
+    mul-at
+    mul-kind
+    shared-slice-read-kind
+    add-a
+    mul-a
+    shared-slice-read-a
+    add-b
+    mul-b
+    shared-slice-read-b
+    add-c
+    mul-c
+    shared-slice-read-c
+    add-d
+    mul-d
+    shared-slice-read-d
+    add-e
+    mul-e
+    shared-slice-read-e
+    spell-requires
+    unused-zero-requires
+    fits-requires
+    returns
+    returns-2)

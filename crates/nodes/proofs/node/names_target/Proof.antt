@@ -1,0 +1,13 @@
+-- `nodes::node::names_target` meets its contract. The kind that the reference names is compared. Assumes nothing.
+use borrow.Author.Needs.{needs}
+use Rattle.nodes.proofs.node.names_target.Statement.{statement}
+use Rattle.nodes.proofs.node.names_target.Tie as tie
+
+kind-named-requires : tie.Need-kind-named-requires
+kind-named-requires c κs = search needs
+
+returns : tie.Need-returns
+returns c = simp (c .kind-named .ensures)
+
+pub names-target-spec : {M : Type 1} → statement M
+names-target-spec = tie.close (tie.spec kind-named-requires returns)

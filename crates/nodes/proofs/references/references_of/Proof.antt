@@ -1,0 +1,121 @@
+-- `nodes::references::references_of` meets its contract. In each arm the node is the one that the arm names. Assumes nothing.
+use borrow.Author.Needs.{needs}
+use Rattle.nodes.proofs.references.references_of.Statement.{statement}
+use Rattle.nodes.proofs.references.references_of.Tie as tie
+
+enum-told : tie.Need-enum-told
+enum-told c = search needs
+
+enum-known-node : tie.Need-enum-known-node
+enum-known-node c = search needs
+
+enum-known-node-2 : tie.Need-enum-known-node-2
+enum-known-node-2 c = search needs
+
+enum-known-node-3 : tie.Need-enum-known-node-3
+enum-known-node-3 c = search needs
+
+enum-known-node-4 : tie.Need-enum-known-node-4
+enum-known-node-4 c = search needs
+
+enum-known-node-5 : tie.Need-enum-known-node-5
+enum-known-node-5 c = search needs
+
+enum-known-node-6 : tie.Need-enum-known-node-6
+enum-known-node-6 c = search needs
+
+enum-told-2 : tie.Need-enum-told-2
+enum-told-2 c = search needs
+
+enum-known-node-7 : tie.Need-enum-known-node-7
+enum-known-node-7 c = search needs
+
+enum-known-node-8 : tie.Need-enum-known-node-8
+enum-known-node-8 c = search needs
+
+enum-known-node-9 : tie.Need-enum-known-node-9
+enum-known-node-9 c = search needs
+
+enum-known-node-10 : tie.Need-enum-known-node-10
+enum-known-node-10 c = search needs
+
+enum-known-node-11 : tie.Need-enum-known-node-11
+enum-known-node-11 c = search needs
+
+enum-told-3 : tie.Need-enum-told-3
+enum-told-3 c = search needs
+
+returns : tie.Need-returns
+returns c = simp (c .enum-told .given .1)
+
+returns-2 : tie.Need-returns-2
+returns-2 c = simp (c .before .node .given .1)
+
+returns-3 : tie.Need-returns-3
+returns-3 c = simp (c .before .node2 .given .1)
+
+returns-4 : tie.Need-returns-4
+returns-4 c = simp (c .before .node3 .given .1)
+
+returns-5 : tie.Need-returns-5
+returns-5 c = simp (c .before .node4 .given .1)
+
+returns-6 : tie.Need-returns-6
+returns-6 c = simp (c .before .node5 .given .1)
+
+returns-7 : tie.Need-returns-7
+returns-7 c = simp (c .before .node6 .given .1)
+
+returns-8 : tie.Need-returns-8
+returns-8 c = simp (c .enum-told2 .given .1)
+
+returns-9 : tie.Need-returns-9
+returns-9 c = simp (c .before .node7 .given .1)
+
+returns-10 : tie.Need-returns-10
+returns-10 c = simp (c .before .node8 .given .1)
+
+returns-11 : tie.Need-returns-11
+returns-11 c = simp (c .before .node9 .given .1)
+
+returns-12 : tie.Need-returns-12
+returns-12 c = simp (c .before .node10 .given .1)
+
+returns-13 : tie.Need-returns-13
+returns-13 c = simp (c .before .node11 .given .1)
+
+returns-14 : tie.Need-returns-14
+returns-14 c = simp (c .enum-told3 .given .1)
+
+pub references-of-spec : {M : Type 1} → statement M
+references-of-spec =
+    tie.close
+    (tie.spec
+    enum-told
+    enum-known-node
+    enum-known-node-2
+    enum-known-node-3
+    enum-known-node-4
+    enum-known-node-5
+    enum-known-node-6
+    enum-told-2
+    enum-known-node-7
+    enum-known-node-8
+    enum-known-node-9
+    enum-known-node-10
+    enum-known-node-11
+    enum-told-3
+    returns
+    returns-2
+    returns-3
+    returns-4
+    returns-5
+    returns-6
+    returns-7
+    returns-8
+    returns-9
+    returns-10
+    returns-11
+    returns-12
+    returns-13
+    returns-14)

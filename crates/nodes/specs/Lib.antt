@@ -1,0 +1,7 @@
+-- In reading order. Document 01, "The question".
+pub mod Limits
+pub mod Roles
+pub mod Nodes
+pub mod References
+-- What the code keeps instead
+pub mod Marks

@@ -1,0 +1,146 @@
+-- Document 01, "The question": the node that six words spell, and its form (refusal 2). Assumes nothing.
+use Prim.Native.Nat.{ℕ, _+_, _*_, _-_, _/_, _<_}
+use mathlib.Core.List.{List}
+use mathlib.Core.Bool.{Bool, true, false, cond, _&&_, _||_}
+use lib.ListN.{getD, length}
+use lib.Dec.{ltb, leb, eqb}
+use Rattle.relations.specs.Limits.{columnLimit, questionNodeWords}
+use Rattle.nodes.specs.Limits.{variableCount, operatorCount}
+use Rattle.nodes.specs.Roles.{Role, stored, alpha, takes, binds, sides, compares, joins, roleOf}
+use Rattle.nodes.specs.declared.node.Operand.{Operand}
+use Rattle.nodes.specs.declared.node.Operand.the-variants.{Of, Fixed}
+use Rattle.nodes.specs.declared.node.Atom.{Atom}
+use Rattle.nodes.specs.declared.node.Node.{Node}
+use Rattle.nodes.specs.declared.node.Node.the-variants.{Table, Alpha, Target, Binding, RangeOr, RangeAnd, RangeAndNot, Atom as AtomNode, And, Or, Not, Some, Every, IllFormed}
+
+-- how many whole nodes there are
+abbrev pub nodeCount : List ℕ → ℕ
+nodeCount words = length words / questionNodeWords
+
+-- the sorts of nodes, by their kinds: "A range is kind 1, 2, 5, 6 or 7; a condition 8 to 14."
+abbrev pub isTarget : ℕ → Bool
+isTarget kind = eqb kind 3
+
+abbrev pub isBinding : ℕ → Bool
+isBinding kind = eqb kind 4
+
+abbrev pub isRange : ℕ → Bool
+isRange kind = eqb kind 1 || eqb kind 2 || (leb 5 kind && leb kind 7)
+
+abbrev pub isCondition : ℕ → Bool
+isCondition kind = leb 8 kind && leb kind 14
+
+-- "A reference is node number plus one and points to a lower node": the kind of the node that a reference of node i names, or 0, which is no kind
+unfoldable pub kindNamed : List ℕ → ℕ → ℕ → ℕ
+kindNamed words i reference =
+    cond (leb 1 reference && leb reference i) (getD words ((reference - 1) * questionNodeWords) 0) 0
+
+-- the table of kinds: how many of the words a to e have a meaning
+unfoldable pub usedWords : ℕ → ℕ
+usedWords kind =
+    cond (eqb kind 1 || eqb kind 12) 1
+    (cond (leb 5 kind && leb kind 7 || eqb kind 10 || eqb kind 11) 2
+    (cond (eqb kind 8) 4
+    (cond (eqb kind 9) 5 3)))
+
+-- "Unused words are 0."
+abbrev pub unusedZero : (kind b c d e : ℕ) → Bool
+unusedZero kind b c d e =
+    (leb 2 (usedWords kind) || eqb b 0) && (leb 3 (usedWords kind) || eqb c 0) && (leb 4 (usedWords kind) || eqb d 0) && (leb 5 (usedWords kind) || eqb e 0)
+
+-- the table of kinds: which field each word is
+unfoldable pub spelled : (kind a b c d e : ℕ) → Node
+spelled kind a b c d e =
+    cond (eqb kind 1) (Table a)
+    (cond (eqb kind 2) (Alpha a b c)
+    (cond (eqb kind 3) (Target a b c)
+    (cond (eqb kind 4) (Binding a b c)
+    (cond (eqb kind 5) (RangeOr a b)
+    (cond (eqb kind 6) (RangeAnd a b)
+    (cond (eqb kind 7) (RangeAndNot a b)
+    (cond (eqb kind 8) (AtomNode (record { variable = a; attribute = record { 0 = b }; operator = c; operand = Fixed (record { 0 = d }) }))
+    (cond (eqb kind 9) (AtomNode (record { variable = a; attribute = record { 0 = b }; operator = c; operand = Of d (record { 0 = e }) }))
+    (cond (eqb kind 10) (And a b)
+    (cond (eqb kind 11) (Or a b)
+    (cond (eqb kind 12) (Not a)
+    (cond (eqb kind 13) (Some a b c)
+    (cond (eqb kind 14) (Every a b c)
+    IllFormed)))))))))))))
+
+-- "Variables are 0 to 25, attributes 1 to 32. Operators: 1 .. 6"
+abbrev pub operandFits : Operand → Bool
+operandFits (Of variable attribute) = ltb variable variableCount && leb 1 (attribute .0) && leb (attribute .0) columnLimit
+operandFits (Fixed constant) = true
+
+abbrev pub atomFits : Atom → Bool
+atomFits atom =
+    ltb (atom .variable) variableCount && leb 1 (atom .attribute .0) && leb (atom .attribute .0) columnLimit && leb 1 (atom .operator) && leb (atom .operator) operatorCount && operandFits (atom .operand)
+
+-- a node's fields are within their bounds, where `kind` says what each reference names: "Each reference names a node of its field's sort",
+-- and "0 means none, only where marked ?"
+module _ (kind : ℕ → ℕ) where
+  abbrev pub quantifierFits : (variable range condition : ℕ) → Bool
+  quantifierFits variable range condition = ltb variable variableCount && isRange (kind range) && isCondition (kind condition)
+
+  abbrev pub fits : Node → Bool
+  fits (Table relation) = true
+  fits (Alpha target binding condition) = isTarget (kind target) && isBinding (kind binding) && (eqb condition 0 || isCondition (kind condition))
+  fits (Target variable attribute next) = ltb variable variableCount && leb attribute columnLimit && (eqb next 0 || isTarget (kind next))
+  fits (Binding variable range next) = ltb variable variableCount && isRange (kind range) && (eqb next 0 || isBinding (kind next))
+  fits (RangeOr left right) = isRange (kind left) && isRange (kind right)
+  fits (RangeAnd left right) = isRange (kind left) && isRange (kind right)
+  fits (RangeAndNot left right) = isRange (kind left) && isRange (kind right)
+  fits (AtomNode atom) = atomFits atom
+  fits (And left right) = isCondition (kind left) && isCondition (kind right)
+  fits (Or left right) = isCondition (kind left) && isCondition (kind right)
+  fits (Not inner) = isCondition (kind inner)
+  fits (Some variable range condition) = quantifierFits variable range condition
+  fits (Every variable range condition) = quantifierFits variable range condition
+  fits IllFormed = true
+
+-- word j of node i
+abbrev pub wordOf : List ℕ → ℕ → ℕ → ℕ
+wordOf words i j = getD words (i * questionNodeWords + j) 0
+
+-- the node that six words spell, at node i
+abbrev pub formed : List ℕ → ℕ → (kind a b c d e : ℕ) → Node
+formed words i kind a b c d e =
+    cond (unusedZero kind b c d e && fits (kindNamed words i) (spelled kind a b c d e)) (spelled kind a b c d e) IllFormed
+
+-- node i of the table
+unfoldable pub nodeAt : List ℕ → ℕ → Node
+nodeAt words i =
+    formed words i (getD words (i * questionNodeWords) 0) (wordOf words i 1) (wordOf words i 2) (wordOf words i 3) (wordOf words i 4) (wordOf words i 5)
+
+abbrev pub isIllFormed : Node → Bool
+isIllFormed (Table relation) = false
+isIllFormed (Alpha target binding condition) = false
+isIllFormed (Target variable attribute next) = false
+isIllFormed (Binding variable range next) = false
+isIllFormed (RangeOr left right) = false
+isIllFormed (RangeAnd left right) = false
+isIllFormed (RangeAndNot left right) = false
+isIllFormed (AtomNode atom) = false
+isIllFormed (And left right) = false
+isIllFormed (Or left right) = false
+isIllFormed (Not inner) = false
+isIllFormed (Some variable range condition) = false
+isIllFormed (Every variable range condition) = false
+isIllFormed IllFormed = true
+
+-- the variables that a node speaks of are there
+abbrev pub OperandVariableFits : Operand → Type 0
+OperandVariableFits (Of variable attribute) = variable < variableCount
+OperandVariableFits (Fixed constant) = Unit {0}
+
+abbrev pub RoleFits : Role → Type 0
+RoleFits (stored relation) = Unit {0}
+RoleFits alpha = Unit {0}
+RoleFits (takes operand) = OperandVariableFits operand
+RoleFits (binds variable) = variable < variableCount
+RoleFits sides = Unit {0}
+RoleFits (compares left right) = OperandVariableFits left × OperandVariableFits right
+RoleFits joins = Unit {0}
+
+abbrev pub VariableFits : Node → Type 0
+VariableFits node = RoleFits (roleOf node)

@@ -1,0 +1,148 @@
+-- What the code keeps instead of specs/Faults: one walk over the tree, which carries a scope down and brings widths and the lowest places of 5 and 6 up, and the
+-- judgement that it gives. Contracts of inner code: once 7 is past the judgement is the one by faults (`FaultsDecide`, specs/Accepted), and no promise of
+-- `translate`, `run` or `answer` mentions any of this. Assumes nothing.
+use Prim.Native.Nat.{ℕ, suc, _+_, min, max}
+use mathlib.Core.List.{List}
+use mathlib.Core.Bool.{Bool, false, cond, not, _||_}
+use lib.Dec.{ltb, eqb}
+use lib.ListN.{getD, set, replicate}
+use Rattle.relations.specs.Limits.{columnLimit, questionNodeLimit}
+use Rattle.catalogue.specs.Stored.{columnsOf}
+use Rattle.nodes.specs.Limits.{variableCount}
+use Rattle.nodes.specs.Roles.{Role, stored, alpha, takes, binds, sides, compares, joins, roleOf}
+use Rattle.nodes.specs.Nodes.{nodeCount, nodeAt}
+use Rattle.question.specs.Trees.{Tree, nothing, branch, questionTree}
+use Rattle.question.specs.Judgement.{countOk, isAlpha, lowestIllFormed, lastNode, lowestNotOnce, lowestUnknown}
+use Rattle.nodes.specs.declared.node.Operand.{Operand}
+use Rattle.nodes.specs.declared.node.Operand.the-variants.{Of, Fixed}
+use Rattle.nodes.specs.declared.node.Node.{Node}
+use Rattle.question.specs.declared.scope.ScopeWidths.{ScopeWidths}
+use Rattle.question.specs.declared.scope.Found.{Found}
+use Rattle.question.specs.declared.judgement.Judgement.{Judgement}
+use Rattle.question.specs.declared.judgement.Judgement.the-variants.{Accepted, Refused}
+
+-- A scope has for each variable the width of its rows, 0 where it is not in scope.
+abbrev pub widthKept : ScopeWidths → ℕ → ℕ
+widthKept scope variable = getD (scope .widths) variable 0
+
+abbrev pub noWidths : ScopeWidths
+noWidths = record { widths = replicate variableCount 0; columns = 0 }
+
+-- a sum over 32 counts as 33, which changes no place
+unfoldable pub addWidths : ℕ → ℕ → ℕ
+addWidths a b = min (suc columnLimit) (a + b)
+
+-- A bound variable is in scope, also where its range has no columns: only a fault makes such a range (a whole row of a variable
+-- that is not in scope, say), and no fault makes another.
+abbrev pub boundWidth : ℕ → ℕ
+boundWidth width = max 1 width
+
+abbrev pub bind : ScopeWidths → ℕ → ℕ → ScopeWidths
+bind scope variable width = record { widths = set (scope .widths) variable (boundWidth width); columns = addWidths (scope .columns) width }
+
+abbrev pub operandUnboundAt : ScopeWidths → Operand → Bool
+operandUnboundAt scope (Of variable attribute) = eqb (widthKept scope variable) 0
+operandUnboundAt scope (Fixed constant) = false
+
+abbrev pub operandUnfitAt : ScopeWidths → Operand → Bool
+operandUnfitAt scope (Of variable attribute) = ltb (widthKept scope variable) (attribute .0)
+operandUnfitAt scope (Fixed constant) = false
+
+abbrev pub targetWidthKept : ScopeWidths → (variable attribute : ℕ) → ℕ
+targetWidthKept scope variable attribute = cond (eqb attribute 0) (widthKept scope variable) 1
+
+abbrev pub takenWidth : ScopeWidths → Operand → ℕ
+takenWidth scope (Of variable attribute) = targetWidthKept scope variable (attribute .0)
+takenWidth scope (Fixed constant) = 1
+
+-- What the walk asks of a node that stands in a scope.
+pub record Step : Type 0 where
+  -- the scope of its first part, and that of the others, from what the first one gave
+  pub opening : ScopeWidths
+  pub inside : Found → ScopeWidths
+  -- whether it is at fault by 5; by 6, from the widths of its first two parts
+  pub unbound : Bool
+  pub unfit : (first second : ℕ) → Bool
+  -- its width as a range, or as targets from it on, from those widths and the catalogue's columns
+  pub width : (columns : ℕ → ℕ) (first second : ℕ) → ℕ
+
+-- a node whose parts see what it sees
+abbrev pub stay : ScopeWidths → Bool → ((first second : ℕ) → Bool) → ((columns : ℕ → ℕ) (first second : ℕ) → ℕ) → Step
+stay scope unbound unfit width = record { opening = scope; inside = λ first. scope; unbound = unbound; unfit = unfit; width = width }
+
+abbrev pub stepOf : ScopeWidths → Role → Step
+stepOf scope (stored relation) = stay scope false (λ first second. false) (λ columns first second. columns relation)
+stepOf scope alpha = record { opening = noWidths; inside = λ first. first .scope; unbound = false; unfit = λ first second. ltb columnLimit second; width = λ columns first second. second }
+stepOf scope (takes operand) = stay scope (operandUnboundAt scope operand) (λ first second. operandUnfitAt scope operand) (λ columns first second. addWidths (takenWidth scope operand) first)
+stepOf scope (binds variable) =
+    record {
+      opening = scope;
+      inside = λ first. bind scope variable (first .width);
+      unbound = ltb 0 (widthKept scope variable);
+      unfit = λ first second. ltb columnLimit (addWidths (scope .columns) first);
+      width = λ columns first second. 0;
+    }
+stepOf scope sides = stay scope false (λ first second. not (eqb first second)) (λ columns first second. first)
+stepOf scope (compares left right) = stay scope (operandUnboundAt scope left || operandUnboundAt scope right) (λ first second. operandUnfitAt scope left || operandUnfitAt scope right) (λ columns first second. 0)
+stepOf scope joins = stay scope false (λ first second. false) (λ columns first second. 0)
+
+-- its parts, each the contract of a function
+abbrev pub opening : Node → ScopeWidths → ScopeWidths
+opening node scope = stepOf scope (roleOf node) .opening
+
+abbrev pub inside : Node → ScopeWidths → Found → ScopeWidths
+inside node scope first = stepOf scope (roleOf node) .inside first
+
+abbrev pub unboundAt : Node → ScopeWidths → Bool
+unboundAt node scope = stepOf scope (roleOf node) .unbound
+
+abbrev pub unfitAt : Node → ScopeWidths → (first second : ℕ) → Bool
+unfitAt node scope first second = stepOf scope (roleOf node) .unfit first second
+
+abbrev pub widthFound : (ℕ → ℕ) → Node → ScopeWidths → (first second : ℕ) → ℕ
+widthFound columns node scope first second = stepOf scope (roleOf node) .width columns first second
+
+-- the lowest of a node's own place, where it is at fault, and those found below
+abbrev pub lowestOf : Bool → (i first second third : ℕ) → ℕ
+lowestOf fault i first second third = min (cond fault i questionNodeLimit) (min first (min second third))
+
+abbrev pub foundAt : (ℕ → ℕ) → ℕ → Node → ScopeWidths → (first second third : Found) → Found
+foundAt columns i node scope first second third =
+    record {
+      unbound = lowestOf (unboundAt node scope) i (first .unbound) (second .unbound) (third .unbound);
+      unfit = lowestOf (unfitAt node scope (first .width) (second .width)) i (first .unfit) (second .unfit) (third .unfit);
+      width = widthFound columns node scope (first .width) (second .width);
+      scope = second .scope;
+    }
+
+-- All faults of the tree are looked for, so none hides another; behind the last binding the scope is what all bound.
+unfoldable pub walk : (ℕ → ℕ) → Tree → ScopeWidths → Found
+walk columns nothing scope = record { unbound = questionNodeLimit; unfit = questionNodeLimit; width = 0; scope = scope }
+walk columns (branch i node first second third) scope =
+    foundAt columns i node scope
+    (walk columns first (opening node scope))
+    (walk columns second (inside node scope (walk columns first (opening node scope))))
+    (walk columns third (inside node scope (walk columns first (opening node scope))))
+
+module _ (catalogue words : List ℕ) where
+  abbrev pub faultsFound : Found
+  faultsFound = walk (columnsOf catalogue) (questionTree words) noWidths
+
+  -- each refusal is looked for over the whole table before the next: 4, 5, 6 of a table that is a tree
+  unfoldable pub judgeTree : Judgement
+  judgeTree =
+      cond (ltb (lowestUnknown catalogue words) (nodeCount words)) (Refused 4 (lowestUnknown catalogue words))
+      (cond (ltb (faultsFound .unbound) questionNodeLimit) (Refused 5 (faultsFound .unbound))
+      (cond (ltb (faultsFound .unfit) questionNodeLimit) (Refused 6 (faultsFound .unfit))
+      Accepted))
+
+  -- 2 and 3 before them
+  unfoldable pub judgeNodes : Judgement
+  judgeNodes =
+      cond (ltb (lowestIllFormed words) (nodeCount words)) (Refused 2 (lowestIllFormed words))
+      (cond (ltb (lowestNotOnce words) (lastNode words)) (Refused 3 (lowestNotOnce words))
+      (cond (isAlpha (nodeAt words (lastNode words))) judgeTree (Refused 3 (lastNode words))))
+
+  -- and 1 before all
+  unfoldable pub judgedByWalk : Judgement
+  judgedByWalk = cond (countOk words) judgeNodes (Refused 1 0)
