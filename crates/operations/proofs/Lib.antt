@@ -1,5 +1,6 @@
 -- In reading order.
 pub mod ListLaws
+pub mod BoundSteps
 pub mod RowSteps
 pub mod FillSteps
 pub mod TestLaws

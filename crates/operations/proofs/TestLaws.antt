@@ -5,7 +5,6 @@ use mathlib.Core.List.{List, [], _∷_}
 use Prim.Native.Nat.{ℕ, _+_, _*_, _≤_, _<_}
 use native.Mathlib.Omega.{arith}
 use lib.ListN.{length}
-use Rattle.relations.specs.Limits.{columnLimit}
 use Rattle.relations.specs.Lists.{filter}
 use Rattle.relations.specs.Rows.{Row}
 use Rattle.relations.specs.Values.{Rows, Ascending}
@@ -15,15 +14,12 @@ use Rattle.values.proofs.FillLaws.{Filled, filled-rows}
 use Rattle.operations.proofs.FillSteps.{filled-row}
 use Rattle.operations.specs.Tests.{rightOf, keeps, Fits}
 use Rattle.operations.specs.declared.keep.Test.{Test}
-use Rattle.operations.specs.declared.keep.Test.the-variants.{Constant, Attribute, Meets, MeetsNone, In, NotIn, Key}
+use Rattle.operations.specs.declared.keep.Test.the-variants.{Constant, Attribute, Meets, In, NotIn}
 
 -- what a test fits is known by its form
 module _ (out : ℕ) (list work : List ℕ) {test : Test} {right : Value} where
-  pub fits-meets : {count : ℕ} → test ≡ Meets count right → Fits test out list work → (count * 3 ≤ length list) × (end right ≤ out) × Ascending (rowsOf right work)
-  fits-meets {count} e f = let g : Fits (Meets count right) out list work = rw e at f in (g .1, g .0, g .2)
-
-  pub fits-none : {count : ℕ} → test ≡ MeetsNone count right → Fits test out list work → (count * 3 ≤ length list) × (end right ≤ out) × Ascending (rowsOf right work)
-  fits-none {count} e f = let g : Fits (MeetsNone count right) out list work = rw e at f in (g .1, g .0, g .2)
+  pub fits-meets : {count : ℕ} {wanted : Bool} → test ≡ Meets count right wanted → Fits test out list work → (count * 3 ≤ length list) × (end right ≤ out) × Ascending (rowsOf right work)
+  fits-meets {count} {wanted} e f = let g : Fits (Meets count right wanted) out list work = rw e at f in (g .1, g .0, g .2)
 
   pub fits-in : test ≡ In right → Fits test out list work → (end right ≤ out) × Ascending (rowsOf right work)
   fits-in e f = let g : Fits (In right) out list work = rw e at f in g
@@ -31,38 +27,28 @@ module _ (out : ℕ) (list work : List ℕ) {test : Test} {right : Value} where
   pub fits-not-in : test ≡ NotIn right → Fits test out list work → (end right ≤ out) × Ascending (rowsOf right work)
   fits-not-in e f = let g : Fits (NotIn right) out list work = rw e at f in g
 
-pub fits-key : (out : ℕ) (list work : List ℕ) {test : Test} {right : Value} {count : ℕ} {wanted : Bool} → test ≡ Key count right wanted → Fits test out list work
-    → (count ≤ columnLimit) × (count * 3 ≤ length list) × (end right ≤ out) × Ascending (rowsOf right work)
-fits-key out list work {test} {right} {count} {wanted} e f = let g : Fits (Key count right wanted) out list work = rw e at f in (g .1, g .2, g .0, g .3)
-
 pub fits-later : (test : Test) (out later : ℕ) (list work : List ℕ) → Fits test out list work → out ≤ later → Fits test later list work
 fits-later (Constant a o k) out later list work f h = tt
 fits-later (Attribute a o b) out later list work f h = tt
-fits-later (Meets count right) out later list work f h = (omega (arith, f .0), f .1, f .2)
-fits-later (MeetsNone count right) out later list work f h = (omega (arith, f .0), f .1, f .2)
+fits-later (Meets count right wanted) out later list work f h = (omega (arith, f .0), f .1, f .2)
 fits-later (In right) out later list work f h = (omega (arith, f .0), f .1)
 fits-later (NotIn right) out later list work f h = (omega (arith, f .0), f .1)
-fits-later (Key count right wanted) out later list work f h = (omega (arith, f .0), f .1, f .2, f .3)
 
 module _ {w out rows made : ℕ} {all todo : Rows} {before now : List ℕ} (f : Filled w out rows made all todo before now) where
   -- a test's right value is as it was
   pub right-now : (test : Test) (list : List ℕ) → Fits test out list before → rightOf test now ≡ rightOf test before
   right-now (Constant a o k) list h = refl
   right-now (Attribute a o b) list h = refl
-  right-now (Meets count right) list h = filled-rows f (right .width) (right .rows) (right .base) (h .0)
-  right-now (MeetsNone count right) list h = filled-rows f (right .width) (right .rows) (right .base) (h .0)
+  right-now (Meets count right wanted) list h = filled-rows f (right .width) (right .rows) (right .base) (h .0)
   right-now (In right) list h = filled-rows f (right .width) (right .rows) (right .base) (h .0)
   right-now (NotIn right) list h = filled-rows f (right .width) (right .rows) (right .base) (h .0)
-  right-now (Key count right wanted) list h = filled-rows f (right .width) (right .rows) (right .base) (h .0)
 
   pub fits-now : (test : Test) (list : List ℕ) → Fits test out list before → Fits test out list now
   fits-now (Constant a o k) list h = tt
   fits-now (Attribute a o b) list h = tt
-  fits-now (Meets count right) list h = (h .0, h .1, rw (filled-rows f (right .width) (right .rows) (right .base) (h .0)) (h .2))
-  fits-now (MeetsNone count right) list h = (h .0, h .1, rw (filled-rows f (right .width) (right .rows) (right .base) (h .0)) (h .2))
+  fits-now (Meets count right wanted) list h = (h .0, h .1, rw (filled-rows f (right .width) (right .rows) (right .base) (h .0)) (h .2))
   fits-now (In right) list h = (h .0, rw (filled-rows f (right .width) (right .rows) (right .base) (h .0)) (h .1))
   fits-now (NotIn right) list h = (h .0, rw (filled-rows f (right .width) (right .rows) (right .base) (h .0)) (h .1))
-  fits-now (Key count right wanted) list h = (h .0, h .1, h .2, rw (filled-rows f (right .width) (right .rows) (right .base) (h .0)) (h .3))
 
   -- the candidates of one left row, as they were
   pub kept-now : (test : Test) (list : List ℕ) (at width : ℕ) → Fits test out list before → at + width ≤ out

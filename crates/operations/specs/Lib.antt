@@ -1,5 +1,6 @@
 -- In reading order.
 pub mod Lists
 pub mod Keys
+pub mod Bounds
 pub mod Tests
 pub mod Joins

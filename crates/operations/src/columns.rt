@@ -1,6 +1,8 @@
 // Attributes, constants and comparisons, as a plan node's list words name them.
 ghost use mathlib.Core.Path.{_≡_};
 ghost use Prim.Native.Nat.{ℕ, _+_, _*_, _≤_};
+ghost use mathlib.Core.List.{[], _∷_};
+ghost use lib.Dec.{eqb};
 ghost use lib.ListN.{length, drop};
 ghost use Rattle.relations.specs.Comparison as comparison;
 ghost use Rattle.relations.specs.Columns as meaning;
@@ -103,26 +105,38 @@ pub fn pair_at(list: &[u32], at: usize) -> Pair
     }
 }
 
-// Whether two rows meet all of so many triples.
-pub fn meets(list: &[u32], count: usize, left: &[u32], right: &[u32]) -> bool
-    requires { ⌜ count * 3 ≤ length (now list) ⌝ }
-    ensures { λ r. ⌜ r ≡ meaning.meets (triplesIn count (now (list .entry))) (now (left .entry)) (now (right .entry)) ⌝ }
+// Whether two rows meet the triple that starts at the word `at` of the list.
+fn meets_at(list: &[u32], at: usize, left: &[u32], right: &[u32]) -> bool
+    requires { ⌜ at + 3 ≤ length (now list) ⌝ }
+    ensures { λ r. ⌜ r ≡ meaning.meets (firstTriple (drop at (now (list .entry))) ∷ []) (now (left .entry)) (now (right .entry)) ⌝ }
 {
-    let mut at: usize = 0;
-    let mut more = count;
-    while 0 < more {
-        let triple = triple_at(list, at);
-        let operator = triple.operator;
-        if holds(
-            operator,
-            column_of(left, triple.left),
-            column_of(right, triple.right),
-        ) {
-            at += 3;
-            more -= 1;
-        } else {
-            return false;
+    let triple = triple_at(list, at);
+    let operator = triple.operator;
+    holds(
+        operator,
+        column_of(left, triple.left),
+        column_of(right, triple.right),
+    )
+}
+
+// A triple of so many that two rows do not meet, by its number from 0, or `count` where they meet them all. The likely one is tried first.
+pub fn failing(list: &[u32], count: usize, likely: usize, left: &[u32], right: &[u32]) -> usize
+    requires { ⌜ count * 3 ≤ length (now list) ⌝ }
+    ensures { λ r. ⌜ eqb r count ≡ meaning.meets (triplesIn count (now (list .entry))) (now (left .entry)) (now (right .entry)) ⌝ }
+{
+    if likely < count {
+        if !meets_at(list, likely * 3, left, right) {
+            return likely;
         }
     }
-    true
+    let mut at: usize = 0;
+    let mut i: usize = 0;
+    while i < count {
+        if !meets_at(list, at, left, right) {
+            return i;
+        }
+        at += 3;
+        i += 1;
+    }
+    count
 }

@@ -12,7 +12,7 @@ ghost use Rattle.values.specs.Words.{rowIn, rowsAt, rowsOf, end};
 ghost use Rattle.values.specs.Building.{Builds};
 ghost use Rattle.operations.specs.Lists.{triplesIn};
 ghost use Rattle.operations.specs.Joins.{joined};
-use crate::columns::meets;
+use crate::columns::failing;
 use crate::made::pair_row;
 use values::placing::Placed;
 use values::placing::place_row;
@@ -32,12 +32,14 @@ fn rows_meet(
     requires { ⌜ count * 3 ≤ length (now list) ⌝ }
     ensures { λ r. ⌜ r ≡ meaning.meets (triplesIn count (now (list .entry))) (rowIn (now (work .entry)) a width) (rowIn (now (work .entry)) b more) ⌝ }
 {
-    meets(
+    failing(
         list,
+        count,
         count,
         row(work, work, true, a, width),
         row(work, work, true, b, more),
     )
+        == count
 }
 
 // The left row at `a` with the right row at `b` behind it, if they meet, is put into the value of `made` rows at `out`.

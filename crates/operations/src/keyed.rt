@@ -1,19 +1,22 @@
-// Semijoin and antijoin. Where their triples are equations only, the right value's equated columns are made a value of their own, the keys, and each
-// left row's key is sought there by halving; where there is no room for that, or no need, each left row is tested as it comes.
+// Semijoin and antijoin. A left row's partners are sought by halving where the triples equate or compare the first right columns. Where they name others, these are
+// made a value of their own, the keys, equated columns first; where there is no room for that, the right value itself is searched.
 ghost use mathlib.Core.Path.{_≡_};
-ghost use mathlib.Core.Bool.{true};
+ghost use mathlib.Core.List.{map};
 ghost use Prim.Native.Nat.{ℕ, _+_, _*_, _≤_, _<_};
-ghost use lib.ListN.{length, take};
+ghost use lib.ListN.{length};
 ghost use Rattle.relations.specs.Limits.{columnLimit};
 ghost use Rattle.relations.specs.Values.{Ascending};
-ghost use Rattle.relations.specs.Operations.{semijoinCandidates, antijoinCandidates};
+ghost use Rattle.relations.specs.Columns.{attribute};
+ghost use Rattle.relations.specs.Operations.{projectCandidates, semijoinCandidates, antijoinCandidates};
 ghost use Rattle.values.specs.Words.{rowsOf, end};
 ghost use Rattle.values.specs.Building.{Blank, Makes};
 ghost use Rattle.operations.specs.Lists.{triplesIn};
-ghost use Rattle.operations.specs.Keys.{equates, rightNumbers, wantedRows, Tried};
+ghost use Rattle.operations.specs.Keys.{renumbers, wantedRows, Tried};
+use crate::bounds::triple_with;
+use crate::columns::Attribute;
 use crate::columns::COLUMNS;
+use crate::columns::column_of;
 use crate::keep::Test;
-use crate::keep::equates_first;
 use crate::keep::keep;
 use crate::project::project;
 use values::clearing::clear_from;
@@ -23,16 +26,126 @@ use values::placing::Placed;
 use values::placing::move_down;
 use values::rows::Value;
 
-// Whether so many triples are equations.
-fn equations_only(list: &[u32], count: usize) -> bool
+// Some right columns, by their numbers.
+struct Columns {
+    numbers: [u32; COLUMNS],
+    count: usize,
+}
+
+// When a triple's right column comes among the keys' columns: equated ones first, then those that are compared by order.
+fn rank(operator: u32) -> usize {
+    match operator {
+        1 => 0,
+        2 => 2,
+        _ => 1,
+    }
+}
+
+// Where a number stands among the columns, or how many they are.
+fn place_among(columns: Columns, number: u32) -> usize
+    requires { ⌜ columns .count ≤ columnLimit ⌝ }
+    ensures { λ r. ⌜ r ≤ columns .count ⌝ }
+{
+    let numbers = columns.numbers;
+    let count = columns.count;
+    let mut i: usize = 0;
+    while i < count {
+        if numbers[i] == number {
+            return i;
+        }
+        i += 1;
+    }
+    count
+}
+
+// A triple's right column put behind the columns, if the triple is of the rank and the column is not there.
+fn with_triple(list: &[u32], triple: usize, columns: Columns, wanted: usize) -> Columns
+    requires { ⌜ (triple * 3 + 3 ≤ length (now list)) × (columns .count ≤ columnLimit) ⌝ }
+    ensures { λ r. ⌜ r .count ≤ columnLimit ⌝ }
+{
+    let number = list[triple * 3 + 2];
+    let mut numbers = columns.numbers;
+    let count = columns.count;
+    if rank(list[triple * 3 + 1]) != wanted {
+        return columns;
+    }
+    if place_among(columns, number) < count {
+        return columns;
+    }
+    if COLUMNS <= count {
+        return columns;
+    }
+    numbers[count] = number;
+    Columns {
+        numbers,
+        count: count + 1,
+    }
+}
+
+// The right columns of the triples of a rank, behind the columns that there are.
+fn with_rank(list: &[u32], count: usize, columns: Columns, wanted: usize) -> Columns
+    requires { ⌜ (count * 3 ≤ length (now list)) × (columns .count ≤ columnLimit) ⌝ }
+    ensures { λ r. ⌜ r .count ≤ columnLimit ⌝ }
+{
+    let mut all = columns;
+    let mut i: usize = 0;
+    while i < count {
+        all = with_triple(list, i, all, wanted);
+        i += 1;
+    }
+    all
+}
+
+// The columns that the triples name.
+fn named_columns(list: &[u32], count: usize) -> Columns
     requires { ⌜ count * 3 ≤ length (now list) ⌝ }
-    ensures { λ r. ⌜ r ≡ equates count (now (list .entry)) ⌝ }
+    ensures { λ r. ⌜ r .count ≤ columnLimit ⌝ }
+{
+    let none = Columns {
+        numbers: [0u32; COLUMNS],
+        count: 0,
+    };
+    let equated = with_rank(list, count, none, 0);
+    let ordered = with_rank(list, count, equated, 1);
+    with_rank(list, count, ordered, 2)
+}
+
+// The columns' numbers alone.
+fn numbers_of(columns: Columns) -> [u32; COLUMNS] {
+    columns.numbers
+}
+
+// The triples, with the places of their right attributes among the columns.
+fn renumbered(list: &[u32], count: usize, columns: Columns) -> [u32; COLUMNS]
+    requires { ⌜ (count * 3 ≤ length (now list)) × (count * 3 ≤ columnLimit) × (columns .count ≤ columnLimit) ⌝ }
+{
+    let mut made = [0u32; COLUMNS];
+    let mut i: usize = 0;
+    while i < count {
+        let at = i * 3;
+        made[at] = list[at];
+        made[at + 1] = list[at + 1];
+        made[at + 2] = place_among(columns, list[at + 2]) as u32 + 1;
+        i += 1;
+    }
+    made
+}
+
+// Whether other triples are those of the list, with places among the columns as their right attributes.
+fn are_renumbered(list: &[u32], count: usize, columns: &[u32], other: &[u32]) -> bool
+    requires { ⌜ (count * 3 ≤ length (now list)) × (count * 3 ≤ length (now other)) ⌝ }
+    ensures { λ r. ⌜ r ≡ renumbers count (now (columns .entry)) (now (list .entry)) (now (other .entry)) ⌝ }
 {
     let mut at: usize = 0;
     let mut more = count;
     while 0 < more {
-        let operator = list[at + 1];
-        if operator != 1 {
+        if other[at] != list[at] {
+            return false;
+        }
+        if other[at + 1] != list[at + 1] {
+            return false;
+        }
+        if column_of(columns, Attribute(other[at + 2])) != list[at + 2] {
             return false;
         }
         at += 3;
@@ -41,47 +154,32 @@ fn equations_only(list: &[u32], count: usize) -> bool
     true
 }
 
-// The triples' right attributes.
-fn right_columns(list: &[u32], count: usize) -> [u32; COLUMNS]
-    requires { ⌜ (count ≤ columnLimit) × (count * 3 ≤ length (now list)) ⌝ }
-    ensures { λ r. ⌜ take count r ≡ rightNumbers count (now (list .entry)) ⌝ }
-{
-    let mut made = [0u32; COLUMNS];
-    let mut at: usize = 0;
-    let mut i: usize = 0;
-    while i < count {
-        made[i] = list[at + 2];
-        at += 3;
-        i += 1;
-    }
-    made
-}
-
-// The wanted left rows by their keys, if the keys and these rows have room together: the rows are made behind the keys and
-// moved down. Where they have none, all is as it was.
+// The wanted left rows by keys, the listed right columns, if these and the rows have room together: the rows are made behind the
+// keys and moved down. Where they have none, all is as it was.
 fn keep_by_key(
     list: &[u32],
     count: usize,
+    columns: &[u32],
     work: &mut [u32],
     left: Value,
     right: Value,
     wanted: bool,
     out: usize,
 ) -> Placed
-    requires { ⌜ (0 < count) × (count ≤ columnLimit) × (count * 3 ≤ length (now list)) × (equates count (now list) ≡ true) × (0 < left .width) × (end left ≤ out) × (end right ≤ out) × (out ≤ length (now work)) × Blank out (now work) ⌝ }
-    ensures { λ r. ⌜ Tried (left .width) out (wantedRows wanted (triplesIn count (now (list .entry))) (rowsOf left (now (work .entry))) (rowsOf right (now (work .entry)))) (now (work .entry)) (now (work .exit)) r ⌝ }
+    requires { ⌜ (count * 3 ≤ length (now list)) × (0 < length (now columns)) × (length (now columns) ≤ columnLimit) × (0 < left .width) × (end left ≤ out) × (end right ≤ out) × (out ≤ length (now work)) × Blank out (now work) ⌝ }
+    ensures { λ r. ⌜ Tried (left .width) out (wantedRows wanted (triplesIn count (now (list .entry))) (rowsOf left (now (work .entry))) (projectCandidates (map attribute (now (columns .entry))) (rowsOf right (now (work .entry))))) (now (work .entry)) (now (work .exit)) r ⌝ }
 {
     let width = left.width;
-    let columns = right_columns(list, count);
-    match project(&columns, count, work, right, out) {
+    let key_width = columns.len();
+    match project(columns, key_width, work, right, out) {
         Placed::Rows(keys) => {
-            let behind = out + keys * count;
+            let behind = out + keys * key_width;
             let value = Value {
                 base: out,
                 rows: keys,
-                width: count,
+                width: key_width,
             };
-            match keep(list, work, left, Test::Key(count, value, wanted), behind) {
+            match keep(list, work, left, Test::Meets(count, value, wanted), behind) {
                 Placed::Rows(rows) => {
                     let words = rows * width;
                     let end = out + words;
@@ -103,25 +201,63 @@ fn keep_by_key(
     }
 }
 
-// Whether keys are worth their making: the triples are equations, and not with the first right columns, which need none.
-fn needs_keys(list: &[u32], count: usize) -> bool
+// How many of the first right columns are equated.
+fn equated(list: &[u32], count: usize) -> u32
     requires { ⌜ count * 3 ≤ length (now list) ⌝ }
-    ensures { λ r. ⌜ (r ≡ true → (0 < count) × (count ≤ columnLimit) × (equates count (now (list .entry)) ≡ true)) ⌝ }
+    ensures { λ r. ⌜ r ≤ columnLimit ⌝ }
 {
-    if count == 0 {
-        return false;
+    let mut number: u32 = 0;
+    while number < 32 {
+        if count <= triple_with(list, count, 1, number + 1) {
+            return number;
+        }
+        number += 1;
     }
-    if COLUMNS < count {
-        return false;
-    }
-    if equates_first(list, count) {
-        return false;
-    }
-    equations_only(list, count)
+    number
 }
 
-// The wanted left rows, each tested as it comes.
-fn keep_tested(
+// Whether the columns are all those of a value of that width, in their order.
+fn are_all(columns: Columns, width: usize) -> bool
+    requires { ⌜ columns .count ≤ columnLimit ⌝ }
+{
+    let numbers = columns.numbers;
+    let count = columns.count;
+    let mut number: u32 = 1;
+    let mut i: usize = 0;
+    while i < count {
+        if numbers[i] != number {
+            return false;
+        }
+        number += 1;
+        i += 1;
+    }
+    count == width
+}
+
+// Whether the triples name a right column beyond the one behind those that are equated, or differ from that one where it is not the
+// last; but not where keys would be the right value itself.
+fn names_others(list: &[u32], count: usize, width: usize) -> bool
+    requires { ⌜ count * 3 ≤ length (now list) ⌝ }
+{
+    if are_all(named_columns(list, count), width) {
+        return false;
+    }
+    let next = equated(list, count) + 1;
+    let mut i: usize = 0;
+    while i < count {
+        if next < list[i * 3 + 2] {
+            return true;
+        }
+        i += 1;
+    }
+    if (next as usize) < width {
+        return triple_with(list, count, 2, next) < count;
+    }
+    false
+}
+
+// The wanted left rows by keys, where these are worth their making.
+fn try_keys(
     list: &[u32],
     count: usize,
     work: &mut [u32],
@@ -130,21 +266,38 @@ fn keep_tested(
     wanted: bool,
     out: usize,
 ) -> Placed
-    requires { ⌜ (0 < left .width) × (end left ≤ out) × (out ≤ length (now work)) × (end right ≤ out) × (count * 3 ≤ length (now list)) × Ascending (rowsOf right (now work)) × Blank out (now work) ⌝ }
-    ensures { λ r. ⌜ Makes (left .width) out (wantedRows wanted (triplesIn count (now (list .entry))) (rowsOf left (now (work .entry))) (rowsOf right (now (work .entry)))) (now (work .entry)) (now (work .exit)) r ⌝ }
+    requires { ⌜ (count * 3 ≤ length (now list)) × (0 < left .width) × (end left ≤ out) × (end right ≤ out) × (out ≤ length (now work)) × Blank out (now work) ⌝ }
+    ensures { λ r. ⌜ Tried (left .width) out (wantedRows wanted (triplesIn count (now (list .entry))) (rowsOf left (now (work .entry))) (rowsOf right (now (work .entry)))) (now (work .entry)) (now (work .exit)) r ⌝ }
 {
-    if wanted {
-        finish(
-            keep(list, work, left, Test::Meets(count, right), out),
+    if left.rows < 4 {
+        return Placed::Full;
+    }
+    if COLUMNS < count * 3 {
+        return Placed::Full;
+    }
+    if !names_others(list, count, right.width) {
+        return Placed::Full;
+    }
+    let columns = named_columns(list, count);
+    let other = renumbered(list, count, columns);
+    let numbers = numbers_of(columns);
+    let key_width = columns.count;
+    if key_width == 0 {
+        return Placed::Full;
+    }
+    if are_renumbered(list, count, &numbers[..key_width], &other) {
+        keep_by_key(
+            &other,
+            count,
+            &numbers[..key_width],
             work,
+            left,
+            right,
+            wanted,
             out,
         )
     } else {
-        finish(
-            keep(list, work, left, Test::MeetsNone(count, right), out),
-            work,
-            out,
-        )
+        Placed::Full
     }
 }
 
@@ -161,13 +314,13 @@ fn keep_wanted(
     requires { ⌜ (0 < left .width) × (end left ≤ out) × (out ≤ length (now work)) × (end right ≤ out) × (count * 3 ≤ length (now list)) × Ascending (rowsOf right (now work)) × Blank out (now work) ⌝ }
     ensures { λ r. ⌜ Makes (left .width) out (wantedRows wanted (triplesIn count (now (list .entry))) (rowsOf left (now (work .entry))) (rowsOf right (now (work .entry)))) (now (work .entry)) (now (work .exit)) r ⌝ }
 {
-    if needs_keys(list, count) {
-        match keep_by_key(list, count, work, left, right, wanted, out) {
-            Placed::Rows(rows) => Placed::Rows(rows),
-            Placed::Full => keep_tested(list, count, work, left, right, wanted, out),
-        }
-    } else {
-        keep_tested(list, count, work, left, right, wanted, out)
+    match try_keys(list, count, work, left, right, wanted, out) {
+        Placed::Rows(rows) => Placed::Rows(rows),
+        Placed::Full => finish(
+            keep(list, work, left, Test::Meets(count, right, wanted), out),
+            work,
+            out,
+        ),
     }
 }
 

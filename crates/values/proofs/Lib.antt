@@ -9,4 +9,4 @@ pub mod FillLaws
 pub mod PutLaws
 pub mod ClearLaws
 pub mod MakeLaws
-pub mod BeginLaws
+pub mod BoundLaws

@@ -1,5 +1,4 @@
 // Values in the work area: rows of one width, one after another, ascending and without repeats. Reading a row, finding one, placing one.
-pub mod beginning;
 pub mod clearing;
 pub mod placing;
 pub mod rows;

@@ -1,6 +1,8 @@
-use lib.ListN.{length}
-use Rattle.operations.proofs.TestLaws.{fits-meets, fits-none, fits-in, fits-not-in, fits-key}
-use mathlib.Core.Path.{_≡_, sym, ap, _∙_}
+use mathlib.Core.Path.{_≡_, refl, sym, ap, ap₂, _∙_}
+use Prim.Native.Nat.{ℕ, _+_, _*_, _-_, _≤_, _<_}
+use lib.ListN.{length, getD, take, drop, length-set}
+use Rattle.relations.specs.Limits.{columnLimit}
+use Rattle.operations.proofs.TestLaws.{fits-meets, fits-in, fits-not-in}
 use native.Mathlib.Omega.{arith}
 use borrow.Author.Needs.{needs}
 use Rattle.operations.proofs.keep.passes.Statement.{statement}
@@ -10,106 +12,88 @@ use Rattle.operations.proofs.keep.passes.Lts as lts
 use Rattle.operations.proofs.columns.column_of.Reads as column-of-reads
 use Rattle.operations.proofs.columns.holds.Reads as holds-reads
 use Rattle.operations.proofs.keep.meets_some.Reads as meets-some-reads
-use Rattle.operations.proofs.keep.has_key.Reads as has-key-reads
 use Rattle.values.proofs.rows.row.Reads as row-reads
 use Rattle.values.proofs.search.has_row.Reads as has-row-reads
 
--- src/keep.rt:59:9
+-- src/keep.rt:102:9
 row-requires : tie.Need-row-requires
 row-requires c κs = search needs
 
--- src/keep.rt:61:24
+-- src/keep.rt:104:24
 enum-known-test : tie.Need-enum-known-test
 enum-known-test c = search needs
 
--- src/keep.rt:61:66
+-- src/keep.rt:104:66
 column-of-requires : tie.Need-column-of-requires
 column-of-requires c κs = search needs
 
--- src/keep.rt:61:50
+-- src/keep.rt:104:50
 holds-requires : tie.Need-holds-requires
 holds-requires c κs = search needs
 
--- src/keep.rt:62:25
+-- src/keep.rt:105:25
 enum-known-test-2 : tie.Need-enum-known-test-2
 enum-known-test-2 c = search needs
 
--- src/keep.rt:62:60
+-- src/keep.rt:105:60
 column-of-requires-2 : tie.Need-column-of-requires-2
 column-of-requires-2 c κs = search needs
 
--- src/keep.rt:62:80
+-- src/keep.rt:105:80
 column-of-requires-3 : tie.Need-column-of-requires-3
 column-of-requires-3 c κs = search needs
 
--- src/keep.rt:62:44
+-- src/keep.rt:105:44
 holds-requires-2 : tie.Need-holds-requires-2
 holds-requires-2 c κs = search needs
 
--- src/keep.rt:63:21
+-- src/keep.rt:106:21
 enum-known-test-3 : tie.Need-enum-known-test-3
 enum-known-test-3 c = search needs
 
--- src/keep.rt:63:38
+-- src/keep.rt:107:17
 meets-some-requires : tie.Need-meets-some-requires
 meets-some-requires c κs = let s = c .before .before .before .before .before .before .args in fits-meets (length (s .work .now)) (s .list .now) (s .work .now) (c .before .test3 .given .1) (c .before .before .before .before .before .before .pre)
 
--- src/keep.rt:64:25
+-- src/keep.rt:110:18
 enum-known-test-4 : tie.Need-enum-known-test-4
 enum-known-test-4 c = search needs
 
--- src/keep.rt:64:43
-meets-some-requires-2 : tie.Need-meets-some-requires-2
-meets-some-requires-2 c κs = let s = c .before .before .before .before .before .before .args in fits-none (length (s .work .now)) (s .list .now) (s .work .now) (c .before .test4 .given .1) (c .before .before .before .before .before .before .pre)
+-- src/keep.rt:110:28
+has-row-requires : tie.Need-has-row-requires
+has-row-requires c κs = let s = c .before .before .before .before .before .before .args in fits-in (length (s .work .now)) (s .list .now) (s .work .now) (c .before .test4 .given .1) (c .before .before .before .before .before .before .pre)
 
--- src/keep.rt:65:18
+-- src/keep.rt:111:21
 enum-known-test-5 : tie.Need-enum-known-test-5
 enum-known-test-5 c = search needs
 
--- src/keep.rt:65:28
-has-row-requires : tie.Need-has-row-requires
-has-row-requires c κs = let s = c .before .before .before .before .before .before .args in fits-in (length (s .work .now)) (s .list .now) (s .work .now) (c .before .test5 .given .1) (c .before .before .before .before .before .before .pre)
-
--- src/keep.rt:66:21
-enum-known-test-6 : tie.Need-enum-known-test-6
-enum-known-test-6 c = search needs
-
--- src/keep.rt:66:32
+-- src/keep.rt:111:32
 has-row-requires-2 : tie.Need-has-row-requires-2
-has-row-requires-2 c κs = let s = c .before .before .before .before .before .before .args in fits-not-in (length (s .work .now)) (s .list .now) (s .work .now) (c .before .test6 .given .1) (c .before .before .before .before .before .before .pre)
+has-row-requires-2 c κs = let s = c .before .before .before .before .before .before .args in fits-not-in (length (s .work .now)) (s .list .now) (s .work .now) (c .before .test5 .given .1) (c .before .before .before .before .before .before .pre)
 
--- src/keep.rt:55:1
+-- src/keep.rt:98:1
 returns : tie.Need-returns
 returns c = rw (c .before .before .before .test .given .1) (c .holds .ensures ∙ rw (c .before .column-of .ensures, c .before .before .before .before .before .row .ensures))
 
--- src/keep.rt:55:1
+-- src/keep.rt:98:1
 returns-2 : tie.Need-returns-2
 returns-2 c = rw (c .before .before .before .before .test2 .given .1) (c .holds2 .ensures ∙ rw (c .before .before .column-of2 .ensures, c .before .column-of3 .ensures, c .before .before .before .before .before .before .row .ensures))
 
--- src/keep.rt:55:1
+-- src/keep.rt:98:1
 returns-3 : tie.Need-returns-3
-returns-3 c = rw (c .before .before .test3 .given .1) (c .meets-some .ensures ∙ rw (c .before .before .before .before .row .ensures))
+returns-3 c = rw (c .before .before .before .test3 .given .1, c .if1 .taken) (c .before .meets-some .ensures ∙ rw (c .before .before .before .before .before .row .ensures))
 
--- src/keep.rt:55:1
+-- src/keep.rt:98:1
 returns-4 : tie.Need-returns-4
-returns-4 c = rw (c .before .before .test4 .given .1) (rw (c .meets-some2 .ensures, c .before .before .before .before .row .ensures))
+returns-4 c = rw (c .before .before .before .test3 .given .1, c .if1 .left) (rw (c .before .meets-some .ensures, c .before .before .before .before .before .row .ensures))
 
--- src/keep.rt:55:1
+-- src/keep.rt:98:1
 returns-5 : tie.Need-returns-5
-returns-5 c = rw (c .before .before .test5 .given .1) (c .has-row .ensures ∙ rw (c .before .before .before .before .row .ensures))
+returns-5 c = rw (c .before .before .test4 .given .1) (c .has-row .ensures ∙ rw (c .before .before .before .before .row .ensures))
 
--- src/keep.rt:55:1
+-- src/keep.rt:98:1
 returns-6 : tie.Need-returns-6
-returns-6 c = rw (c .before .before .test6 .given .1) (rw (c .has-row2 .ensures, c .before .before .before .before .row .ensures))
-
-enum-known-test-7 : tie.Need-enum-known-test-7
-enum-known-test-7 c = search needs
-
-has-key-requires : tie.Need-has-key-requires
-has-key-requires c κs = let s = c .before .before .before .before .before .before .args in fits-key (length (s .work .now)) (s .list .now) (s .work .now) (c .before .test7 .given .1) (c .before .before .before .before .before .before .pre)
-
-returns-7 : tie.Need-returns-7
-returns-7 c = rw (c .before .before .test7 .given .1) (c .has-key .ensures ∙ rw (c .before .before .before .before .row .ensures))
+returns-6 c = rw (c .before .before .test5 .given .1) (rw (c .has-row2 .ensures, c .before .before .before .before .row .ensures))
 
 pub passes-spec : {M : Type 1} → statement M
 passes-spec =
@@ -126,17 +110,12 @@ passes-spec =
     enum-known-test-3
     meets-some-requires
     enum-known-test-4
-    meets-some-requires-2
-    enum-known-test-5
     has-row-requires
-    enum-known-test-6
+    enum-known-test-5
     has-row-requires-2
-    enum-known-test-7
-    has-key-requires
     returns
     returns-2
     returns-3
     returns-4
     returns-5
-    returns-6
-    returns-7)
+    returns-6)

@@ -1,3 +1,8 @@
+use mathlib.Core.Path.{_≡_, refl, sym, ap, ap₂, _∙_}
+use Prim.Native.Nat.{ℕ, _+_, _*_, _-_, _≤_, _<_}
+use lib.ListN.{length, getD, take, drop, length-set}
+use Rattle.relations.specs.Limits.{columnLimit}
+use Rattle.values.proofs.MakeLaws.{builds-makes}
 use Rattle.operations.proofs.TriedLaws.{tried-told}
 use native.Mathlib.Omega.{arith}
 use borrow.Author.Needs.{needs}
@@ -5,71 +10,54 @@ use Rattle.operations.proofs.keyed.keep_wanted.Statement.{statement}
 use Rattle.operations.proofs.keyed.keep_wanted.Tie as tie
 use Rattle.operations.proofs.keyed.keep_wanted.Reads as reads
 use Rattle.operations.proofs.keyed.keep_wanted.Lts as lts
-use Rattle.operations.proofs.keyed.keep_by_key.Reads as keep-by-key-reads
-use Rattle.operations.proofs.keyed.keep_tested.Reads as keep-tested-reads
-use Rattle.operations.proofs.keyed.needs_keys.Reads as needs-keys-reads
+use Rattle.operations.proofs.keep.keep.Reads as keep-reads
+use Rattle.operations.proofs.keyed.try_keys.Reads as try-keys-reads
 
--- src/keyed.rt:142:8
-needs-keys-requires : tie.Need-needs-keys-requires
-needs-keys-requires c κs = search needs
+-- src/keyed.rt:276:11
+try-keys-requires : tie.Need-try-keys-requires
+try-keys-requires c κs = search needs
 
--- src/keyed.rt:143:15
-keep-by-key-requires : tie.Need-keep-by-key-requires
-keep-by-key-requires c κs = let p = c .before .before .before .before .before .pre in let k = c .before .before .needs-keys .ensures (c .before .if1 .taken) in (k .0, k .1, p .4, k .2, p .0, p .1, p .3, p .2, p .6)
-
--- src/keyed.rt:144:26
+-- src/keyed.rt:277:22
 enum-known-rows : tie.Need-enum-known-rows
 enum-known-rows c = search needs
 
--- src/keyed.rt:145:54
+-- src/keyed.rt:278:36
 enum-told : tie.Need-enum-told
 enum-told c = search needs
 
--- src/keyed.rt:145:29
-keep-tested-requires : tie.Need-keep-tested-requires
-keep-tested-requires c κs = let p = c .before .before .before .before .before .before .before .before .before .before .before .pre in let e = rw (c .before .enum-told .given .1) at (c .before .before .before .before .before .keep-by-key .ensures) in (p .0, p .1, rw e (p .2), p .3, p .4, rw e (p .5), rw e (p .6))
+-- src/keyed.rt:278:25
+keep-requires : tie.Need-keep-requires
+keep-requires c κs = let p = c .before .before .before .before .before .before .before .before .before .pre in let e = rw (c .before .enum-told .given .1) at (c .before .before .before .before .before .try-keys .ensures) in (p .0, p .1, rw e (p .2), (p .3, p .4, rw e (p .5)))
 
--- src/keyed.rt:148:9
-keep-tested-requires-2 : tie.Need-keep-tested-requires-2
-keep-tested-requires-2 c κs = search needs
+-- src/keyed.rt:264:1
+finish-requires : tie.Need-finish-requires
+finish-requires c κs = omega arith
 
--- src/keyed.rt:130:1
 same-length : tie.Need-same-length
 same-length c = search needs
 
--- src/keyed.rt:130:1
+-- src/keyed.rt:264:1
 returns : tie.Need-returns
-returns c = tried-told (c .before .before .before .before .before .keep-by-key .ensures) (c .before .rows .given .1)
+returns c = tried-told (c .before .before .before .before .before .try-keys .ensures) (c .before .rows .given .1)
 
--- src/keyed.rt:130:1
+-- src/keyed.rt:264:1
 same-length-2 : tie.Need-same-length-2
 same-length-2 c = search needs
 
--- src/keyed.rt:130:1
+-- src/keyed.rt:264:1
 returns-2 : tie.Need-returns-2
-returns-2 c = rw (rw (c .before .before .before .before .enum-told .given .1) at (c .before .before .before .before .before .before .before .before .keep-by-key .ensures)) at (c .before .before .keep-tested .ensures)
-
--- src/keyed.rt:130:1
-same-length-3 : tie.Need-same-length-3
-same-length-3 c = search needs
-
--- src/keyed.rt:130:1
-returns-3 : tie.Need-returns-3
-returns-3 c = c .before .before .keep-tested2 .ensures
+returns-2 c = let p = c .before .before .before .before .before .before .before .before .before .before .before .before .before .before .before .before .pre in let e = rw (c .before .before .before .before .before .before .before .before .enum-told .given .1) at (c .before .before .before .before .before .before .before .before .before .before .before .before .try-keys .ensures) in rw e at (builds-makes (rw e (p .2)) (rw e (p .6)) (c .before .before .before .before .before .before .keep .ensures) (c .before .before .finish .ensures))
 
 pub keep-wanted-spec : {M : Type 1} → statement M
 keep-wanted-spec =
     tie.close
     (tie.spec
-    needs-keys-requires
-    keep-by-key-requires
+    try-keys-requires
     enum-known-rows
     enum-told
-    keep-tested-requires
-    keep-tested-requires-2
+    keep-requires
+    finish-requires
     same-length
     returns
     same-length-2
-    returns-2
-    same-length-3
-    returns-3)
+    returns-2)
