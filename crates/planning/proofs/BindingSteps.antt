@@ -23,7 +23,7 @@ use Rattle.planning.specs.Translating.{withBindings, RangeReady, RangeDo
 use Rattle.emission.specs.Written.{Room, Written}
 use Rattle.conditions.specs.declared.scope.Scope.{Scope}
 use Rattle.planning.specs.declared.translate.Bound.{Bound}
-use Rattle.planning.specs.declared.translate.Made.{Made}
+use Rattle.planning.specs.declared.translate.MadeRange.{MadeRange}
 use Rattle.conditions.proofs.Readings.{Below, fits-in, bindings-is}
 use Rattle.planning.proofs.RangeSteps.{lower-call, range-wide}
 use Rattle.emission.proofs.WrittenLaws.{written-nothing, written-then, room-after, room-less, written-as, going-on}
@@ -61,7 +61,7 @@ unfolding bindingNodes
 bind-size variable range rest = refl
 
 -- from what the chain was asked with: the call on its range, room for the product, the longer scope, the call on the next bindings, and what is left
-module _ {words : List ℕ} {reference variable range next : ℕ} (link : Chain words reference variable range next) {catalogue plan : List ℕ} {t n : ℕ} {scope : Scope} (asked : (3 * reference ≡ t) × (Inside words reference × BindingsReady catalogue plan (bindingsAt words reference) scope n)) where
+module _ {words : List ℕ} {reference variable range next : ℕ} (link : Chain words reference variable range next) {catalogue plan : List ℕ} {t n : ℕ} {scope : Scope} (asked : (2 * reference ≡ t) × (Inside words reference × BindingsReady catalogue plan (bindingsAt words reference) scope n)) where
   abbrev first : Range
   first = rangeAt words range
 
@@ -71,11 +71,11 @@ module _ {words : List ℕ} {reference variable range next : ℕ} (link : Chain 
   ready : BindingsReady catalogue plan (bind variable first rest) scope n
   ready = subst (λ bindings. BindingsReady catalogue plan bindings scope n) (link .reads) (asked .1 .1)
 
-  pub call-bound : (3 * range < t) × (Names words range × RangeReady catalogue plan first n)
+  pub call-bound : (2 * range < t) × (Names words range × RangeReady catalogue plan first n)
   call-bound =
       lower-call words (omega (arith, asked .0)) (link .named, asked .1 .0) (link .range-below) (record { good = parts ready .range-good; stored = ready .stored; room = room-less _ (ready .room) (omega (arith, bind-size variable first rest)) })
 
-  module _ {short : Bool} {middle : List ℕ} {made : Made} (r : RangeDone catalogue short plan first n middle made) where
+  module _ {short : Bool} {middle : List ℕ} {made : MadeRange} (r : RangeDone catalogue short plan first n middle made) where
     room-bound : Room middle (made .count) (4 * bindingNodes rest + 1)
     room-bound = room-after _ (ready .room) (r .written) (omega (arith, bind-size variable first rest, range-size (columnsOf catalogue) short first n))
 
@@ -89,7 +89,7 @@ module _ {words : List ℕ} {reference variable range next : ℕ} (link : Chain 
       stands : scopeOf longer ≡ extend (scopeOf scope) variable (widthOfRange (columnsOf catalogue) first)
       stands = grown .stands ∙ ap (extend (scopeOf scope) variable) (r .width)
 
-      pub call-next : (3 * next < t) × (Inside words next × BindingsReady catalogue later rest longer count)
+      pub call-next : (2 * next < t) × (Inside words next × BindingsReady catalogue later rest longer count)
       call-next = (
         omega (arith, asked .0, link .named, link .next-below),
         (

@@ -7,11 +7,11 @@ use Rattle.calculus.specs.Question.{Range, Bindings}
 use Rattle.conditions.specs.declared.scope.Scope.{Scope}
 use Rattle.emission.proofs.WrittenLaws.{written-unique}
 use Rattle.planning.specs.Translating.{RangeDone, BindingsDone}
-use Rattle.planning.specs.declared.translate.Made.{Made}
+use Rattle.planning.specs.declared.translate.MadeRange.{MadeRange}
 use Rattle.planning.specs.declared.translate.Bound.{Bound}
 
 module _ {catalogue : List ℕ} {short : Bool} {before after other : List ℕ} {n : ℕ} where
-  pub range-unique : {range : Range} {made as-well : Made} → RangeDone catalogue short before range n after made → RangeDone catalogue short before range n other as-well → (after ≡ other) × (made ≡ as-well)
+  pub range-unique : {range : Range} {made as-well : MadeRange} → RangeDone catalogue short before range n after made → RangeDone catalogue short before range n other as-well → (after ≡ other) × (made ≡ as-well)
   range-unique d e =
       let one = written-unique (d .written) (e .written) in
       (one .0, ap₂ (λ (count width : ℕ). record { count = count; width = width }) (one .1) (d .width ∙ sym (e .width)))

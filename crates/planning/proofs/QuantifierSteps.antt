@@ -13,7 +13,7 @@ use Rattle.calculus.specs.Scope.{columnsIn, allColumns, columnsFrom}
 use Rattle.calculus.specs.Scope as calculus
 use Rattle.calculus.specs.Form.{widthOfRange, GoodRange, GoodMaybe, GoodCondition}
 use Rattle.calculus.specs.Leaves.{isAndTree, isOrTree, leaves, oppositeAtom, aloneOn, comparesWithOther}
-use Rattle.calculus.specs.ShortRules.{lastNumber, shortRule2Atoms, shortRule2Fits, triplesOf, shortRule4Fits, shortRule5Fits}
+use Rattle.calculus.specs.ShortRules.{lastNumber, shortRule2Atoms, shortRule2Fits, triplesOf, shortRule2Nodes, shortRule3Nodes, shortRule4Fits, shortRule5Fits}
 use Rattle.calculus.specs.Translation.{itself, itsOpposite, divisionBy, translateRange, translateMaybe, translateCondition}
 use Rattle.calculus.proofs.LegalColumns.{few, few-opposite}
 use Rattle.calculus.proofs.SizeTheorem.{filter-size, leaves-size, range-size, condition-size}
@@ -22,14 +22,15 @@ use Rattle.question.specs.Accepted.{HasColumns}
 use Rattle.conditions.specs.Leaves.{atomsOf, LeavesFit, LeavesOf, opposites}
 use Rattle.emission.specs.NodeLists.{nodeList, grownBy, numbersOf, attributesIn, ListsAttributes}
 use Rattle.conditions.specs.Readings.{conditionAt, restrictionAt}
-use Rattle.short_rules.specs.Rules.{selectsBehind, semijoinBehind, antijoinBehind, RuleFits}
+use Rattle.short_rules.specs.Rules.{RuleFits}
+use Rattle.short_rules.proofs.RuleLaws.{rule-behind}
 use Rattle.conditions.specs.Scopes.{scopeOf, ScopeFits, Extended}
-use Rattle.planning.specs.Translating.{RangeReady, RangeDone, ConditionReady, InsideReady, DivisionReady}
+use Rattle.planning.specs.Translating.{RangeReady, RangeDone, ConditionReady, DivisionReady}
 use Rattle.emission.specs.Written.{Room, Written}
 use Rattle.emission.specs.declared.node_list.NodeList.{NodeList}
 use Rattle.conditions.specs.declared.leaves.Leaves.{Leaves}
 use Rattle.conditions.specs.declared.scope.Scope.{Scope}
-use Rattle.planning.specs.declared.translate.Made.{Made}
+use Rattle.planning.specs.declared.translate.MadeRange.{MadeRange}
 use Rattle.conditions.proofs.LeafLaws.{opposite-atoms}
 use Rattle.conditions.proofs.OtherNodes.{restriction-good}
 use Rattle.emission.proofs.NodeListLaws.{grown-list, names-attributes, lists-attributes}
@@ -38,6 +39,17 @@ use Rattle.calculus.proofs.ScopeLaws.{columns-length}
 use Rattle.emission.proofs.WrittenLaws.{written-then, room-after, room-less, pred-is, written-as}
 use Rattle.planning.proofs.RangeSteps.{range-wide}
 use Rattle.planning.proofs.ConditionSteps.{chosen, passed-over}
+
+module _ (catalogue : List ℕ) where
+  -- a condition on the product of P with a range of x, which stands before node n
+  pub record InsideReady (plan : List ℕ) (x width : ℕ) (f : Condition) (scope : Scope) (n : ℕ) : Type 0 where
+    pub good : GoodCondition (columnsOf catalogue) (relationsOf catalogue) f (calculus.extend (scopeOf scope) x width)
+    pub fits : ScopeFits scope
+    pub some-columns : 1 ≤ width
+    pub few-columns : scope .columns + width ≤ columnLimit
+    pub stored : HasColumns catalogue
+    pub some-nodes : 1 ≤ n
+    pub room : Room plan n (4 * conditionNodes f + 1)
 
 pub inside-restricts : (words : List ℕ) (reference : ℕ) {catalogue plan : List ℕ} {x width : ℕ} {scope : Scope} {n : ℕ} → InsideReady catalogue plan x width (conditionAt words reference) scope n → restrictionAt words reference ≡ onCondition (conditionAt words reference)
 inside-restricts words reference {catalogue} {x = x} {width = width} {scope = scope} r = restriction-good (columnsOf catalogue) (relationsOf catalogue) (calculus.extend (scopeOf scope) x width) words reference (r .good)
@@ -102,7 +114,7 @@ module _ {catalogue plan : List ℕ} {x : ℕ} {range : Range} {f : Condition} {
   few-nodes = omega (arith, r .room .nodes)
 
   -- behind the range
-  module _ {short : Bool} {after : List ℕ} {made : Made} (done : RangeDone catalogue short plan range n after made) where
+  module _ {short : Bool} {after : List ℕ} {made : MadeRange} (done : RangeDone catalogue short plan range n after made) where
     pub some-columns : 1 ≤ made .width
     some-columns = omega (arith, done .width, range-wide catalogue (r .stored) range (r .good-range))
 
@@ -131,7 +143,7 @@ module _ {catalogue plan : List ℕ} {x : ℕ} {range : Range} {f : Condition} {
         }
 
 -- below a "some" or an "every" in P's own scope
-module _ {catalogue plan : List ℕ} {x : ℕ} {range : Range} {f : Condition} {scope : Scope} {n extra : ℕ} (r : QuantifierReady catalogue plan x range f scope (scopeOf scope) n extra) {short : Bool} {after : List ℕ} {made : Made} (done : RangeDone catalogue short plan range n after made) where
+module _ {catalogue plan : List ℕ} {x : ℕ} {range : Range} {f : Condition} {scope : Scope} {n extra : ℕ} (r : QuantifierReady catalogue plan x range f scope (scopeOf scope) n extra) {short : Bool} {after : List ℕ} {made : MadeRange} (done : RangeDone catalogue short plan range n after made) where
   pub inside-ready : InsideReady catalogue after x (made .width) f scope (made .count)
   inside-ready =
       record {
@@ -196,7 +208,7 @@ module _ {words : List ℕ} {f : Condition} {collected : Leaves} (found : Leaves
       ap (λ b. short && (b && shortRule2Atoms x (leaves f))) (sym e) ∙ ap (λ atoms. short && (kind && shortRule2Atoms x atoms)) (sym (found .atoms)) ∙ ap (λ b. short && b) (sym d) ∙ h
 
 -- what S2, S3 and S4 ask for behind the range
-module _ {catalogue plan : List ℕ} {x : ℕ} {range : Range} {f : Condition} {scope : Scope} {n extra : ℕ} {s : calculus.Scope} (r : QuantifierReady catalogue plan x range f scope s n extra) {short : Bool} {after : List ℕ} {made : Made} (done : RangeDone catalogue short plan range n after made) {words : List ℕ} {collected : Leaves} (found : LeavesOf words f collected) where
+module _ {catalogue plan : List ℕ} {x : ℕ} {range : Range} {f : Condition} {scope : Scope} {n extra : ℕ} {s : calculus.Scope} (r : QuantifierReady catalogue plan x range f scope s n extra) {short : Bool} {after : List ℕ} {made : MadeRange} (done : RangeDone catalogue short plan range n after made) {words : List ℕ} {collected : Leaves} (found : LeavesOf words f collected) where
   pub rule-2-ready : shortRule2Fits x f ≡ true → RuleFits words after scope collected x (made .width) (made .count) 1 × (length (filter (comparesWithOther x) (atomsOf words collected)) ≤ tripleLimit)
   rule-2-ready h =
       (rule-fits r done words collected (found .fits) (leaves-few found), omega (arith, few (isAndTree f) x (leaves f) h, ap (λ atoms. length (filter (comparesWithOther x) atoms)) (found .atoms)))
@@ -205,13 +217,7 @@ module _ {catalogue plan : List ℕ} {x : ℕ} {range : Range} {f : Condition} {
   rule-4-ready h =
       (rule-fits r done words (opposites collected) (opposites-fit found) (opposites-few found), omega (arith, few (isOrTree f) x (leaves f) h, few-opposite x (leaves f), ap (λ atoms. length (filter (comparesWithOther x) atoms)) (opposites-are found)))
 
--- nodes that go by the count of those before them, behind a range and more
-pub behind-range : (first more : List Node) (n : ℕ) (nodes : ℕ → List Node) → (first ++ more) ++ nodes (n + length (first ++ more)) ≡ first ++ (more ++ nodes (n + length first + length more))
-behind-range first more n nodes =
-    let e : n + length (first ++ more) ≡ n + length first + length more = omega (arith, length-append first more) in
-    append-assoc first more _ ∙ ap (λ (m : ℕ). first ++ (more ++ nodes m)) e
-
-module _ {catalogue : List ℕ} {short : Bool} {plan : List ℕ} {range : Range} {n : ℕ} {after : List ℕ} {made : Made} (done : RangeDone catalogue short plan range n after made) where
+module _ {catalogue : List ℕ} {short : Bool} {plan : List ℕ} {range : Range} {n : ℕ} {after : List ℕ} {made : MadeRange} (done : RangeDone catalogue short plan range n after made) where
   abbrev first : List Node
   first = translateRange (columnsOf catalogue) short range n
 
@@ -224,29 +230,29 @@ module _ {catalogue : List ℕ} {short : Bool} {plan : List ℕ} {range : Range}
       written-then (done .written) (written-as (ap (λ (k : ℕ). nodes width others k) (sym (done .written .counted)) ∙ ap (λ (a : List Atom). nodes width a (made .count)) (sym e) ∙ ap (λ (k : ℕ). nodes k atoms (made .count)) (sym (done .width))) w)
 
   module _ {words : List ℕ} {f : Condition} {collected : Leaves} (found : LeavesOf words f collected) (x : ℕ) (s : calculus.Scope) (p : ℕ) {end : List ℕ} {count : ℕ} where
-    pub some-by-rule-2 : (short && shortRule2Fits x f) ≡ true → Written after (made .count) (semijoinBehind s x (made .width) (atomsOf words collected) p (made .count)) end count
+    pub some-by-rule-2 : (short && shortRule2Fits x f) ≡ true → Written after (made .count) (shortRule2Nodes s x (made .width) (atomsOf words collected) [] p (made .count)) end count
         → Written plan n (translateCondition (columnsOf catalogue) short (forSome x range f) itself s p n) end count
     unfolding translateCondition
     some-by-rule-2 h w =
         written-as
-        (chosen _ _ (short && shortRule2Fits x f) h ∙ behind-range first (selectsBehind x width (leaves f) (n + length first)) n (λ m. semijoin p (pred m) (triplesOf s x (leaves f)) ∷ []))
-        (written-behind (λ k atoms q. semijoinBehind s x k atoms p q) (found .atoms) w)
+        (chosen _ _ (short && shortRule2Fits x f) h ∙ rule-behind first x width (leaves f) n (λ m. semijoin p (pred m) (triplesOf s x (leaves f)) ∷ []))
+        (written-behind (λ k atoms q. shortRule2Nodes s x k atoms [] p q) (found .atoms) w)
 
-    pub some-by-rule-3 : {g : Condition} → g ≡ forSome x range f → Written after (made .count) (antijoinBehind s x (made .width) (atomsOf words collected) p (made .count)) end count
+    pub some-by-rule-3 : {g : Condition} → g ≡ forSome x range f → Written after (made .count) (shortRule3Nodes s x (made .width) (atomsOf words collected) [] p (made .count)) end count
         → Written plan n (translateCondition (columnsOf catalogue) short g itsOpposite s p n) end count
     unfolding translateCondition
     some-by-rule-3 e w =
         written-as
-        (ap (λ (g : Condition). translateCondition (columnsOf catalogue) short g itsOpposite s p n) e ∙ behind-range first (selectsBehind x width (leaves f) (n + length first)) n (λ m. antijoin p (pred m) (triplesOf s x (leaves f)) ∷ []))
-        (written-behind (λ k atoms q. antijoinBehind s x k atoms p q) (found .atoms) w)
+        (ap (λ (g : Condition). translateCondition (columnsOf catalogue) short g itsOpposite s p n) e ∙ rule-behind first x width (leaves f) n (λ m. antijoin p (pred m) (triplesOf s x (leaves f)) ∷ []))
+        (written-behind (λ k atoms q. shortRule3Nodes s x k atoms [] p q) (found .atoms) w)
 
-    pub every-by-rule-4 : (short && shortRule4Fits x f) ≡ true → Written after (made .count) (antijoinBehind s x (made .width) (atomsOf words (opposites collected)) p (made .count)) end count
+    pub every-by-rule-4 : (short && shortRule4Fits x f) ≡ true → Written after (made .count) (shortRule3Nodes s x (made .width) (atomsOf words (opposites collected)) [] p (made .count)) end count
         → Written plan n (translateCondition (columnsOf catalogue) short (forEvery x range f) itself s p n) end count
     unfolding translateCondition
     every-by-rule-4 h w =
         written-as
-        (chosen _ _ (short && shortRule4Fits x f) h ∙ behind-range first (selectsBehind x width (map oppositeAtom (leaves f)) (n + length first)) n (λ m. antijoin p (pred m) (triplesOf s x (map oppositeAtom (leaves f))) ∷ []))
-        (written-behind (λ k atoms q. antijoinBehind s x k atoms p q) (opposites-are found) w)
+        (chosen _ _ (short && shortRule4Fits x f) h ∙ rule-behind first x width (map oppositeAtom (leaves f)) n (λ m. antijoin p (pred m) (triplesOf s x (map oppositeAtom (leaves f))) ∷ []))
+        (written-behind (λ k atoms q. shortRule3Nodes s x k atoms [] p q) (opposites-are found) w)
 
   -- the division by the range
   pub every-by-rule-5 : (f : Condition) (x : ℕ) (s : calculus.Scope) (p : ℕ) {end : List ℕ} {count : ℕ} → (short && shortRule4Fits x f) ≡ false → (short && shortRule5Fits x f) ≡ true

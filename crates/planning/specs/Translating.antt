@@ -13,7 +13,7 @@ use Rattle.question.specs.Accepted.{HasColumns}
 use Rattle.conditions.specs.Scopes.{scopeOf, ScopeFits, withVariable}
 use Rattle.emission.specs.Written.{Room, Written}
 use Rattle.conditions.specs.declared.scope.Scope.{Scope}
-use Rattle.planning.specs.declared.translate.Made.{Made}
+use Rattle.planning.specs.declared.translate.MadeRange.{MadeRange}
 use Rattle.planning.specs.declared.translate.Bound.{Bound}
 
 -- Each node of the question has room for four of the plan.
@@ -23,7 +23,7 @@ module _ (catalogue : List ℕ) where
     pub stored : HasColumns catalogue
     pub room : Room plan n (4 * rangeNodes range)
 
-  pub record RangeDone (short : Bool) (before : List ℕ) (range : Range) (n : ℕ) (after : List ℕ) (made : Made) : Type 0 where
+  pub record RangeDone (short : Bool) (before : List ℕ) (range : Range) (n : ℕ) (after : List ℕ) (made : MadeRange) : Type 0 where
     pub written : Written before n (translateRange (columnsOf catalogue) short range n) after (made .count)
     pub width : made .width ≡ widthOfRange (columnsOf catalogue) range
     pub more : n < made .count
@@ -52,16 +52,6 @@ module _ (catalogue : List ℕ) where
     pub stored : HasColumns catalogue
     pub some-nodes : 1 ≤ n
     pub room : Room plan n (4 * maybeNodes restriction)
-
-  -- a condition on the product of P with a range of x, which stands before node n
-  pub record InsideReady (plan : List ℕ) (x width : ℕ) (f : Condition) (scope : Scope) (n : ℕ) : Type 0 where
-    pub good : GoodCondition (columnsOf catalogue) (relationsOf catalogue) f (extend (scopeOf scope) x width)
-    pub fits : ScopeFits scope
-    pub some-columns : 1 ≤ width
-    pub few-columns : scope .columns + width ≤ columnLimit
-    pub stored : HasColumns catalogue
-    pub some-nodes : 1 ≤ n
-    pub room : Room plan n (4 * conditionNodes f + 1)
 
   -- a "some" below an "every y" that S5 fits: y is in scope there, but its columns are not among P's; two nodes are of the room of the "every"
   pub record DivisionReady (plan : List ℕ) (y : ℕ) (f : Condition) (scope : Scope) (n : ℕ) : Type 0 where

@@ -7,7 +7,7 @@ ghost use Rattle.relations.specs.Limits.{columnLimit, listWords, tripleLimit, p
 ghost use Rattle.relations.specs.Lists.{flat, filter};
 ghost use Rattle.relations.specs.PlanWords.{tripleWords, pairWords};
 ghost use Rattle.calculus.specs.Leaves.{aloneOn, comparesWithOther, equatesWith, equatesOutside, ownAttribute};
-ghost use Rattle.calculus.specs.ShortRules.{selectNode, selectNodes, projectNodes, triplesOf, outsideTriples, divisionPairs, shortRule6Nodes};
+ghost use Rattle.calculus.specs.ShortRules.{selectNode, selectNodes, projectNodes, triplesOf, restrictedRange, shortRule2Nodes, shortRule3Nodes, outsideTriples, divisionPairs, shortRule5Nodes, shortRule6Nodes};
 ghost use Rattle.question.specs.Trees.{atomOf};
 ghost use Rattle.conditions.specs.Scopes.{scopeOf, ScopeFits};
 ghost use Rattle.conditions.specs.Atoms.{AtomNarrow};
@@ -16,7 +16,7 @@ ghost use Rattle.conditions.specs.Leaves as specs;
 ghost use Rattle.short_rules.specs.Rules as rules;
 ghost use Rattle.emission.specs.NodeLists.{nodeList, grownBy, numbersOf, attributesIn, ListsAttributes};
 ghost use Rattle.emission.specs.Written.{Room, Written};
-ghost use Rattle.short_rules.specs.Rules.{selectsBehind, semijoinBehind, antijoinBehind, dividendBehind, divisionBehind, RuleFits, DividendFits};
+ghost use Rattle.short_rules.specs.Rules.{dividendNodes, RuleFits, DividendFits};
 use crate::fits::once;
 use crate::fits::short_rule_1_fits;
 use conditions::atom::alone_on;
@@ -148,7 +148,7 @@ fn write_own_selects(
     n: u32,
 ) -> u32
     requires { ⌜ LeavesFit (now words) leaves × (1 ≤ width) × (width ≤ columnLimit) × (1 ≤ n) × Room (now plan) n (length (filter (aloneOn x) (atomsOf (now words) leaves))) ⌝ }
-    ensures { λ r. ⌜ Written (now (plan .entry)) n (selectsBehind x width (atomsOf (now (words .entry)) leaves) n) (now (plan .exit)) r ⌝ }
+    ensures { λ r. ⌜ Written (now (plan .entry)) n (restrictedRange x width (atomsOf (now (words .entry)) leaves) [] n) (now (plan .exit)) r ⌝ }
 {
     let own = extend(empty(), x, width);
     write_selects(words, own, x, leaves, plan, n)
@@ -166,7 +166,7 @@ pub fn write_short_rule_2(
     n: u32,
 ) -> u32
     requires { ⌜ RuleFits (now words) (now plan) scope leaves x width n 1 × (length (filter (comparesWithOther x) (atomsOf (now words) leaves)) ≤ tripleLimit) ⌝ }
-    ensures { λ r. ⌜ Written (now (plan .entry)) n (semijoinBehind (scopeOf scope) x width (atomsOf (now (words .entry)) leaves) p n) (now (plan .exit)) r ⌝ }
+    ensures { λ r. ⌜ Written (now (plan .entry)) n (shortRule2Nodes (scopeOf scope) x width (atomsOf (now (words .entry)) leaves) [] p n) (now (plan .exit)) r ⌝ }
 {
     let triples = triples_of(words, scope, x, leaves);
     let count = write_own_selects(words, x, width, leaves, plan, n);
@@ -185,7 +185,7 @@ pub fn write_short_rule_3(
     n: u32,
 ) -> u32
     requires { ⌜ RuleFits (now words) (now plan) scope leaves x width n 1 × (length (filter (comparesWithOther x) (atomsOf (now words) leaves)) ≤ tripleLimit) ⌝ }
-    ensures { λ r. ⌜ Written (now (plan .entry)) n (antijoinBehind (scopeOf scope) x width (atomsOf (now (words .entry)) leaves) p n) (now (plan .exit)) r ⌝ }
+    ensures { λ r. ⌜ Written (now (plan .entry)) n (shortRule3Nodes (scopeOf scope) x width (atomsOf (now (words .entry)) leaves) [] p n) (now (plan .exit)) r ⌝ }
 {
     let triples = triples_of(words, scope, x, leaves);
     let count = write_own_selects(words, x, width, leaves, plan, n);
@@ -204,7 +204,7 @@ pub fn write_short_rule_4(
     n: u32,
 ) -> u32
     requires { ⌜ RuleFits (now words) (now plan) scope (specs.opposites leaves) x width n 1 × (length (filter (comparesWithOther x) (atomsOf (now words) (specs.opposites leaves))) ≤ tripleLimit) ⌝ }
-    ensures { λ r. ⌜ Written (now (plan .entry)) n (antijoinBehind (scopeOf scope) x width (atomsOf (now (words .entry)) (specs.opposites leaves)) p n) (now (plan .exit)) r ⌝ }
+    ensures { λ r. ⌜ Written (now (plan .entry)) n (shortRule3Nodes (scopeOf scope) x width (atomsOf (now (words .entry)) (specs.opposites leaves)) [] p n) (now (plan .exit)) r ⌝ }
 {
     write_short_rule_3(words, scope, x, width, opposites(leaves), p, plan, n)
 }
@@ -323,7 +323,7 @@ fn write_dividend(
     n: u32,
 ) -> u32
     requires { ⌜ DividendFits (now words) (now plan) leaves y z width n 1 ⌝ }
-    ensures { λ r. ⌜ Written (now (plan .entry)) n (dividendBehind y z width (atomsOf (now (words .entry)) leaves) n) (now (plan .exit)) r ⌝ }
+    ensures { λ r. ⌜ Written (now (plan .entry)) n (dividendNodes y z width (atomsOf (now (words .entry)) leaves) n) (now (plan .exit)) r ⌝ }
 {
     let outside = with_own_columns(words, true, z, y, leaves, no_list());
     let columns = with_own_columns(words, false, z, y, leaves, outside);
@@ -345,7 +345,7 @@ pub fn write_short_rule_5(
     n: u32,
 ) -> u32
     requires { ⌜ ScopeFits scope × DividendFits (now words) (now plan) leaves y z width n 5 ⌝ }
-    ensures { λ r. ⌜ Written (now (plan .entry)) n (divisionBehind (scopeOf scope) y k z width (atomsOf (now (words .entry)) leaves) p n) (now (plan .exit)) r ⌝ }
+    ensures { λ r. ⌜ Written (now (plan .entry)) n (shortRule5Nodes (scopeOf scope) y k z width (atomsOf (now (words .entry)) leaves) [] p n) (now (plan .exit)) r ⌝ }
 {
     let triples = outside_triples(words, scope, z, y, leaves);
     let pairs = division_pairs(words, z, y, leaves, triples.used / 3 + 1);

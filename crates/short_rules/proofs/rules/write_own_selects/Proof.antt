@@ -1,3 +1,4 @@
+use Rattle.short_rules.proofs.RuleLaws.{own-selects}
 use Rattle.emission.proofs.WrittenLaws.{written-as}
 use Rattle.conditions.proofs.ScopeLaws.{empty-fits}
 use Rattle.conditions.specs.declared.scope.Scope.{Scope}
@@ -29,7 +30,7 @@ same-length c = search needs
 returns : tie.Need-returns
 returns c = let s = c .before .before .before .before .before .before .before .before in
     let e = c .before .before .before .before .extend .ensures .stands ∙ ap (λ (o : Scope). calculus.extend (scopeOf o) (s .args .x) (s .args .width)) (c .before .before .before .before .before .empty .ensures) in
-    written-as (ap (λ (o : calculus.Scope). selectNodes o (filter (aloneOn (s .args .x)) (atomsOf (s .args .words .now) (s .args .leaves))) (pred (s .args .n)) (s .args .n)) (sym e)) (c .before .before .write-selects .ensures)
+    written-as (own-selects (s .args .x) (s .args .width) (atomsOf (s .args .words .now) (s .args .leaves)) (s .args .n) ∙ ap (λ (o : calculus.Scope). selectNodes o (filter (aloneOn (s .args .x)) (atomsOf (s .args .words .now) (s .args .leaves))) (pred (s .args .n)) (s .args .n)) (sym e)) (c .before .before .write-selects .ensures)
 
 pub write-own-selects-spec : {M : Type 1} → statement M
 write-own-selects-spec =

@@ -1,12 +1,14 @@
 use Rattle.emission.proofs.WrittenLaws.{written-as}
 use Rattle.conditions.specs.declared.leaves.Leaves.{Leaves}
-use Rattle.short_rules.specs.Rules.{antijoinBehind, RuleFits}
+use Rattle.short_rules.specs.Rules.{RuleFits}
 use Rattle.conditions.specs.Leaves.{atomsOf}
 use Rattle.conditions.specs.Scopes.{scopeOf}
 use Rattle.calculus.specs.Leaves.{comparesWithOther}
 use Rattle.relations.specs.Lists.{filter}
 use Rattle.relations.specs.Limits.{tripleLimit}
+use Rattle.calculus.specs.ShortRules.{shortRule3Nodes}
 use lib.ListN.{length}
+use mathlib.Core.List.{[]}
 use mathlib.Core.Path.{sym, ap, subst}
 use Prim.Native.Nat.{_≤_}
 use borrow.Author.Needs.{needs}
@@ -25,7 +27,7 @@ same-length c = search needs
 
 returns : tie.Need-returns
 returns c = let s = c .before .before .before .before .before .before .before in
-    written-as (ap (λ (l : Leaves). antijoinBehind (scopeOf (s .args .scope)) (s .args .x) (s .args .width) (atomsOf (s .args .words .now) l) (s .args .p) (s .args .n)) (sym (c .before .before .before .before .opposites .ensures))) (c .before .before .write-short-rule-3 .ensures)
+    written-as (ap (λ (l : Leaves). shortRule3Nodes (scopeOf (s .args .scope)) (s .args .x) (s .args .width) (atomsOf (s .args .words .now) l) [] (s .args .p) (s .args .n)) (sym (c .before .before .before .before .opposites .ensures))) (c .before .before .write-short-rule-3 .ensures)
 
 pub write-short-rule-4-spec : {M : Type 1} → statement M
 write-short-rule-4-spec =
