@@ -22,11 +22,11 @@ use Rattle.question.specs.Trees.{alphaOf}
 use Rattle.question.specs.declared.node.Node.the-variants.{Binding}
 use Rattle.emission.specs.NodeLists.{nodeList, grownBy, numbersOf, attributesIn, ListsAttributes}
 use Rattle.conditions.specs.Readings.{Inside, Names, rangeAt, targetsAt, bindingsAt, restrictionAt}
-use Rattle.conditions.specs.Scopes.{emptyScope, scopeOf, ScopeFits, Extended}
+use Rattle.conditions.specs.Scopes.{noVariables, scopeOf, ScopeFits, Extended}
 use Rattle.planning.specs.Translating.{RangeReady, RangeDone, BindingsReady, BindingsDone, ConditionReady}
 use Rattle.emission.specs.Written.{Room, Written}
 use Rattle.emission.specs.declared.node_list.NodeList.{NodeList}
-use Rattle.conditions.specs.declared.scope.Scope.{Scope}
+use Rattle.conditions.specs.declared.scope.CarriedScope.{CarriedScope}
 use Rattle.planning.specs.declared.translate.Bound.{Bound}
 use Rattle.planning.specs.declared.translate.MadeRange.{MadeRange}
 use Rattle.planning.proofs.BindingSteps.{Chain, chain}
@@ -91,17 +91,17 @@ module _ {catalogue words plan : List ℕ} {t n target binding condition variabl
   call-first =
       lower-call words (omega (arith, asked .measure)) (asked .link .named, asked .binding-inside) (asked .link .range-below) (record { good = good .0; stored = asked .ready .stored; room = room-less _ (asked .ready .room) (omega (arith, size)) })
 
-  module _ {short : Bool} {middle : List ℕ} {made : MadeRange} (r : RangeDone catalogue short plan first n middle made) {none : Scope} (empty : none ≡ emptyScope) where
+  module _ {short : Bool} {middle : List ℕ} {made : MadeRange} (r : RangeDone catalogue short plan first n middle made) {none : CarriedScope} (empty : none ≡ noVariables) where
     pub scope-starts : ScopeFits none × (1 ≤ made .width) × (none .columns + made .width ≤ columnLimit)
     scope-starts =
-        (subst ScopeFits (sym empty) empty-fits, omega (arith, r .width, range-wide catalogue (asked .ready .stored) first (good .0)), omega (arith, ap (λ (scope : Scope). scope .columns) empty, r .width, good .4))
+        (subst ScopeFits (sym empty) empty-fits, omega (arith, r .width, range-wide catalogue (asked .ready .stored) first (good .0)), omega (arith, ap (λ (scope : CarriedScope). scope .columns) empty, r .width, good .4))
 
     room-first : Room middle (made .count) (4 * bindingNodes rest + 4 * maybeNodes restriction + 1)
     room-first = room-after _ (asked .ready .room) (r .written) (omega (arith, size, range-size columns short first n))
 
-    module _ {own : Scope} (grown : Extended none variable (made .width) own) where
+    module _ {own : CarriedScope} (grown : Extended none variable (made .width) own) where
       own-stands : scopeOf own ≡ entry variable (widthOfRange columns first) ∷ []
-      own-stands = grown .stands ∙ ap (λ (scope : Scope). extend (scopeOf scope) variable (made .width)) empty ∙ ap (λ (width : ℕ). entry variable width ∷ []) (r .width)
+      own-stands = grown .stands ∙ ap (λ (scope : CarriedScope). extend (scopeOf scope) variable (made .width)) empty ∙ ap (λ (width : ℕ). entry variable width ∷ []) (r .width)
 
       pub call-rest : (2 * next < t) × (Inside words next × BindingsReady catalogue middle rest own (made .count))
       call-rest = (

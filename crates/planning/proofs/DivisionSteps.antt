@@ -30,7 +30,7 @@ use Rattle.conditions.specs.Scopes.{scopeOf}
 use Rattle.planning.specs.Translating.{RangeDone, DivisionReady}
 use Rattle.emission.specs.Written.{Written}
 use Rattle.conditions.specs.declared.leaves.Leaves.{Leaves}
-use Rattle.conditions.specs.declared.scope.Scope.{Scope}
+use Rattle.conditions.specs.declared.scope.CarriedScope.{CarriedScope}
 use Rattle.planning.specs.declared.translate.MadeRange.{MadeRange}
 use Rattle.conditions.proofs.Readings.{condition-is}
 use Rattle.emission.proofs.WrittenLaws.{room-less, written-as}
@@ -67,7 +67,7 @@ module _ (words : List ℕ) {reference z range condition : ℕ} (named : Names w
   some-is : conditionAt words reference ≡ forSome z (rangeAt words range) (conditionAt words condition)
   some-is = condition-is words reference (Some z range condition) (named .0) e
 
-  module _ {catalogue plan : List ℕ} {y : ℕ} {scope : Scope} {n : ℕ} (r : DivisionReady catalogue plan y (conditionAt words reference) scope n) where
+  module _ {catalogue plan : List ℕ} {y : ℕ} {scope : CarriedScope} {n : ℕ} (r : DivisionReady catalogue plan y (conditionAt words reference) scope n) where
     pub divided-ready : QuantifierReady catalogue plan z (rangeAt words range) (conditionAt words condition) scope (calculus.extend (scopeOf scope) y (r .width)) n 2
     divided-ready = go some-is r
       where

@@ -4,7 +4,7 @@ use mathlib.Core.Path.{_≡_, sym, ap₂, _∙_}
 use mathlib.Core.Bool.{Bool}
 use mathlib.Core.List.{List}
 use Rattle.calculus.specs.Question.{Range, Bindings}
-use Rattle.conditions.specs.declared.scope.Scope.{Scope}
+use Rattle.conditions.specs.declared.scope.CarriedScope.{CarriedScope}
 use Rattle.emission.proofs.WrittenLaws.{written-unique}
 use Rattle.planning.specs.Translating.{RangeDone, BindingsDone}
 use Rattle.planning.specs.declared.translate.MadeRange.{MadeRange}
@@ -16,7 +16,7 @@ module _ {catalogue : List ℕ} {short : Bool} {before after other : List ℕ} {
       let one = written-unique (d .written) (e .written) in
       (one .0, ap₂ (λ (count width : ℕ). record { count = count; width = width }) (one .1) (d .width ∙ sym (e .width)))
 
-  pub bindings-unique : {bindings : Bindings} {scope : Scope} {p : ℕ} {bound as-well : Bound} → BindingsDone catalogue short before bindings scope p n after bound → BindingsDone catalogue short before bindings scope p n other as-well → (after ≡ other) × (bound ≡ as-well)
+  pub bindings-unique : {bindings : Bindings} {scope : CarriedScope} {p : ℕ} {bound as-well : Bound} → BindingsDone catalogue short before bindings scope p n after bound → BindingsDone catalogue short before bindings scope p n other as-well → (after ≡ other) × (bound ≡ as-well)
   bindings-unique d e =
       let one = written-unique (d .written) (e .written) in
-      (one .0, ap₂ (λ (count : ℕ) (scope : Scope). record { count = count; scope = scope }) (one .1) (d .is ∙ sym (e .is)))
+      (one .0, ap₂ (λ (count : ℕ) (scope : CarriedScope). record { count = count; scope = scope }) (one .1) (d .is ∙ sym (e .is)))

@@ -2,11 +2,7 @@
 // twice the reference of the node that it is handed, or one more than twice the greatest of the references of a node's parts.
 ghost use mathlib.Core.Path.{_≡_};
 ghost use mathlib.Core.Bool.{true, _||_};
-ghost use mathlib.Core.List.{[], _∷_};
-ghost use Prim.Native.Nat.{suc, pred};
 ghost use Rattle.calculus.specs.Question as calculus;
-ghost use Rattle.calculus.specs.Scope as scopes;
-ghost use Rattle.relations.specs.Nodes as nodes;
 ghost use Rattle.calculus.specs.ShortRules.{shortRule3Fits, shortRule5Fits, shortRule6Fits};
 ghost use Rattle.calculus.specs.Translation.{itself, itsOpposite, divisionBy, translateMaybe, translateCondition};
 ghost use Rattle.catalogue.specs.Stored.{columnsOf};
@@ -18,7 +14,7 @@ ghost use Rattle.planning.specs.Translating.{RangeReady, RangeDone, Bind
 use crate::targets::with_targets;
 use catalogue::stored::columns_of;
 use conditions::leaves::leaves_of;
-use conditions::scope::Scope;
+use conditions::scope::CarriedScope;
 use conditions::scope::empty;
 use conditions::scope::extend;
 use emission::emit::intersect;
@@ -52,7 +48,7 @@ pub struct MadeRange {
 // How many nodes the plan has behind the products of bindings, and the scope that they make.
 pub struct Bound {
     pub count: u32,
-    pub scope: Scope,
+    pub scope: CarriedScope,
 }
 
 // Table: load.
@@ -187,7 +183,7 @@ fn translate_bindings(
     words: &[u32],
     short: bool,
     reference: u32,
-    scope: Scope,
+    scope: CarriedScope,
     p: u32,
     plan: &mut [u32],
     n: u32,
@@ -221,7 +217,7 @@ fn translate_condition(
     words: &[u32],
     short: bool,
     reference: u32,
-    scope: Scope,
+    scope: CarriedScope,
     p: u32,
     plan: &mut [u32],
     n: u32,
@@ -302,7 +298,7 @@ fn translate_opposite(
     words: &[u32],
     short: bool,
     reference: u32,
-    scope: Scope,
+    scope: CarriedScope,
     p: u32,
     plan: &mut [u32],
     n: u32,
@@ -343,7 +339,7 @@ fn translate_some(
     x: u32,
     range: u32,
     condition: u32,
-    scope: Scope,
+    scope: CarriedScope,
     p: u32,
     plan: &mut [u32],
     n: u32,
@@ -372,7 +368,7 @@ fn translate_division(
     y: u32,
     k: u32,
     reference: u32,
-    scope: Scope,
+    scope: CarriedScope,
     p: u32,
     plan: &mut [u32],
     n: u32,
@@ -414,7 +410,7 @@ fn translate_every(
     x: u32,
     range: u32,
     condition: u32,
-    scope: Scope,
+    scope: CarriedScope,
     p: u32,
     plan: &mut [u32],
     n: u32,

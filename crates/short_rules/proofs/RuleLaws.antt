@@ -12,7 +12,7 @@ use Rattle.relations.specs.Limits.{tripleLimit, listWords}
 use Rattle.relations.specs.Comparison.{Operator, operatorNumber, turned}
 use Rattle.relations.specs.PlanWords.{tripleWords, pairWords}
 use Rattle.relations.proofs.ListLaws.{length-flat}
-use Rattle.calculus.specs.Leaves.{aloneOn, comparesWithOther, ownAttribute, otherVariable, otherAttribute, equatesWith, equatesOutside}
+use Rattle.calculus.specs.Leaves.{oppositeAtom, aloneOn, comparesWithOther, ownAttribute, otherVariable, otherAttribute, equatesWith, equatesOutside}
 use Rattle.calculus.specs.ShortRules.{lastNumber, selectNodes, projectNodes, tripleOf, triplesOf, restrictedRange, outsideTriples, divisionPairs, shortRule5Columns}
 use Rattle.relations.specs.Columns.{Attribute, Triple, Pair}
 use Rattle.relations.specs.Lists.{all, filter, flat}
@@ -20,14 +20,17 @@ use Rattle.relations.specs.Nodes.{Node, semijoin, antijoin, divide, unite}
 use Rattle.calculus.specs.Question as calculus
 use Rattle.calculus.specs.Scope.{entry, Scope, columnNumber}
 use Rattle.conditions.specs.Entries.{entries}
-use Rattle.conditions.specs.Leaves.{leafAt}
+use Rattle.conditions.specs.Leaves.{leafAt, atomsOf, opposites}
+use Rattle.conditions.specs.declared.scope.CarriedScope.{CarriedScope}
+use Rattle.conditions.proofs.LeafLaws.{opposite-atoms}
+use Rattle.calculus.proofs.LegalColumns.{few-opposite}
 use Rattle.emission.specs.NodeLists.{nodeList, numbersOf}
 use Rattle.emission.specs.declared.node_list.NodeList.{NodeList}
 use Rattle.emission.specs.Written.{Written}
-use Rattle.short_rules.specs.Rules.{dividendNodes}
+use Rattle.short_rules.specs.Rules.{dividendNodes, RuleFits}
 use Rattle.conditions.specs.declared.leaves.Leaves.{Leaves}
 use Rattle.conditions.proofs.EntryLaws.{entries-step}
-use Rattle.emission.proofs.WrittenLaws.{written-then, last-is, written-as}
+use Rattle.emission.proofs.WrittenLaws.{written-then, last-is, written-as, room-less}
 
 -- the next leaf of so many
 module _ (words : List ℕ) (collected : Leaves) where
@@ -143,6 +146,36 @@ pairs-size z (a ∷ atoms) column = omega (arith, pairs-size z atoms (suc column
 pub outside-size : (s : Scope) (z : ℕ) (atoms : List calculus.Atom) (column : ℕ) → length (flat tripleWords (outsideTriples s z atoms column)) ≡ 3 * length atoms
 outside-size s z [] column = refl
 outside-size s z (a ∷ atoms) column = omega (arith, outside-size s z atoms (suc column))
+
+-- S4 is S3 on the opposites, which are as many of each kind
+
+alone-opposite : (x : ℕ) (atoms : List calculus.Atom) → length (filter (aloneOn x) (map oppositeAtom atoms)) ≡ length (filter (aloneOn x) atoms)
+alone-opposite x [] = refl
+alone-opposite x (a ∷ atoms) = go a (alone-opposite x atoms)
+  where
+    each : (b : Bool) (p q : calculus.Atom) → length (filter (aloneOn x) (map oppositeAtom atoms)) ≡ length (filter (aloneOn x) atoms) → length (cond b (p ∷ filter (aloneOn x) (map oppositeAtom atoms)) (filter (aloneOn x) (map oppositeAtom atoms))) ≡ length (cond b (q ∷ filter (aloneOn x) atoms) (filter (aloneOn x) atoms))
+    each true p q same = ap suc same
+    each false p q same = same
+
+    go : (b : calculus.Atom) → length (filter (aloneOn x) (map oppositeAtom atoms)) ≡ length (filter (aloneOn x) atoms) → length (filter (aloneOn x) (oppositeAtom b ∷ map oppositeAtom atoms)) ≡ length (filter (aloneOn x) (b ∷ atoms))
+    go (calculus.compare v attribute o (calculus.fixed c)) same = each (aloneOn x (calculus.compare v attribute o (calculus.fixed c))) (oppositeAtom (calculus.compare v attribute o (calculus.fixed c))) (calculus.compare v attribute o (calculus.fixed c)) same
+    go (calculus.compare v attribute o (calculus.ofVariable w other)) same = each (aloneOn x (calculus.compare v attribute o (calculus.ofVariable w other))) (oppositeAtom (calculus.compare v attribute o (calculus.ofVariable w other))) (calculus.compare v attribute o (calculus.ofVariable w other)) same
+
+pub opposites-ready : {words plan : List ℕ} {scope : CarriedScope} {leaves : Leaves} {x width n : ℕ} → RuleFits words plan scope leaves x width n 1 × (length (filter (comparesWithOther x) (atomsOf words leaves)) ≤ tripleLimit) × (leaves .opposite ≡ false)
+    → RuleFits words plan scope (opposites leaves) x width n 1 × (length (filter (comparesWithOther x) (atomsOf words (opposites leaves))) ≤ tripleLimit)
+opposites-ready {words} {leaves = leaves} {x = x} h =
+    let e : atomsOf words (opposites leaves) ≡ map oppositeAtom (atomsOf words leaves) = opposite-atoms words leaves (h .2) in
+    let r = h .0 in (
+      record {
+        scope-fits = r .scope-fits;
+        leaves-fit = record { few = r .leaves-fit .few; inside = r .leaves-fit .inside };
+        some-columns = r .some-columns;
+        few-columns = r .few-columns;
+        some-nodes = r .some-nodes;
+        room = room-less _ (r .room) (omega (arith, ap (λ (atoms : List calculus.Atom). length (filter (aloneOn x) atoms)) e, alone-opposite x (atomsOf words leaves)));
+      },
+      omega (arith, h .1, ap (λ (atoms : List calculus.Atom). length (filter (comparesWithOther x) atoms)) e, few-opposite x (atomsOf words leaves)),
+    )
 
 -- S5's columns: those of the equations with a variable outside stand first
 module _ (s : Scope) (z y : ℕ) (atoms : List calculus.Atom) {triples : NodeList} (outside : triples ≡ nodeList (flat tripleWords (outsideTriples s z (filter (equatesOutside z y) atoms) 1))) where

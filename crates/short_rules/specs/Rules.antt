@@ -12,7 +12,7 @@ use Rattle.calculus.specs.ShortRules.{lastNumber, projectNodes, restrictedRange
 use Rattle.conditions.specs.Scopes as code
 use Rattle.conditions.specs.Leaves.{atomsOf, LeavesFit}
 use Rattle.emission.specs.Written.{Room}
-use Rattle.conditions.specs.declared.scope.Scope as scope
+use Rattle.conditions.specs.declared.scope.CarriedScope as scope
 use Rattle.conditions.specs.declared.leaves.Leaves.{Leaves}
 
 -- S5's two kinds of equations: z = a variable outside, z = y
@@ -26,7 +26,7 @@ dividendNodes y z width atoms n =
     restricted ++ projectNodes true width (lastNumber n restricted) (shortRule5Columns z y atoms)
 
 -- a rule can write, and so many nodes more than its selects
-pub record RuleFits (words plan : List ℕ) (scope : scope.Scope) (leaves : Leaves) (x width n more : ℕ) : Type 0 where
+pub record RuleFits (words plan : List ℕ) (scope : scope.CarriedScope) (leaves : Leaves) (x width n more : ℕ) : Type 0 where
   pub scope-fits : code.ScopeFits scope
   pub leaves-fit : LeavesFit words leaves
   pub some-columns : 1 ≤ width

@@ -61,7 +61,6 @@ use Rattle.planning.proofs.BindingSteps.{Chain, chain, call-bound, room
 use Rattle.planning.proofs.AlphaSteps.{AlphaAsked, alpha-asked, call-first, scope-starts, call-rest, some-joined, call-condition, some-kept, list-targets, room-project, alpha-done, no-alpha}
 use mathlib.Core.Bool.{Bool, true, _&&_}
 use Rattle.relations.proofs.BoolLaws.{and-right, true-and-false}
-use Rattle.calculus.specs.Scope.{columnsIn, allColumns}
 use Rattle.calculus.specs.ShortRules.{shortRule5Fits}
 use Rattle.question.specs.Nodes.{nodeAt}
 use Rattle.conditions.specs.Readings.{Names, conditionAt, rangeAt}
@@ -77,7 +76,7 @@ use Rattle.catalogue.specs.Stored.{relationsOf, columnsOf}
 use Rattle.question.specs.Trees.{atomOf}
 use Rattle.calculus.specs.Question.{Condition, conditionAnd, conditionOr, forSome, forEvery}
 use Rattle.calculus.specs.Form.{GoodCondition}
-use Rattle.conditions.specs.declared.scope.Scope.{Scope}
+use Rattle.conditions.specs.declared.scope.CarriedScope.{CarriedScope}
 use mathlib.Core.List.{List}
 use Rattle.short_rules.proofs.FitLaws.{oppositeFits, some-opposite, not-divided, no-opposite}
 
@@ -369,7 +368,7 @@ translate-bindings-returns-3 t c = no-more-done (bindings-is (c .before .before 
 translate-condition-named : (t : ℕ) (c : translate-condition-lts.Else1 (translate-condition-calls t) (translate-condition-at t) translate-condition.Post) → Names (c .before .before .before .before .args .words .now) (c .before .before .before .before .args .reference)
 translate-condition-named t c = (named (c .if1 .left), c .before .before .before .before .pre .1 .0)
 
-abbrev translate-condition-knows : (t : ℕ) → translate-condition-lts.Start (translate-condition-calls t) (translate-condition-at t) translate-condition.Post → (List ℕ → List ℕ → List ℕ → Scope → ℕ → ℕ → Type 0) → Type 0
+abbrev translate-condition-knows : (t : ℕ) → translate-condition-lts.Start (translate-condition-calls t) (translate-condition-at t) translate-condition.Post → (List ℕ → List ℕ → List ℕ → CarriedScope → ℕ → ℕ → Type 0) → Type 0
 translate-condition-knows t s Known = Known (s .args .catalogue .now) (s .args .words .now) (s .args .plan .now) (s .args .scope) (s .args .reference) (s .args .n)
 
 translate-condition-atom : (t : ℕ) (c : translate-condition-lts.After-known-told (translate-condition-calls t) (translate-condition-at t) translate-condition.Post) → translate-condition-knows t (c .before .before .before .before .before .before .before .before) (AtomHere (c .before .node .given .0 .0))
