@@ -1,5 +1,6 @@
 // Operation 5: each left row before each right row that it meets. With no triple this is the product.
 ghost use mathlib.Core.Path.{_≡_};
+ghost use mathlib.Core.Bool.{true};
 ghost use mathlib.Core.List.{[], _∷_, _++_, map};
 ghost use Prim.Native.Nat.{ℕ, _+_, _*_, _≤_, _<_};
 ghost use lib.ListN.{length};
@@ -9,15 +10,21 @@ ghost use Rattle.relations.specs.Columns as meaning;
 ghost use Rattle.relations.specs.Values.{Ascending};
 ghost use Rattle.relations.specs.Operations.{joinCandidates};
 ghost use Rattle.values.specs.Words.{rowIn, rowsAt, rowsOf, end};
+ghost use Rattle.values.specs.Places.{rowsBefore};
 ghost use Rattle.values.specs.Building.{Builds};
 ghost use Rattle.operations.specs.Lists.{triplesIn};
 ghost use Rattle.operations.specs.Joins.{joined};
+use crate::columns::NO_WORDS;
 use crate::columns::failing;
 use crate::made::pair_row;
 use values::placing::Placed;
 use values::placing::place_row;
+use values::placing::write_row;
+use values::rows::Order;
 use values::rows::Value;
+use values::rows::compare_rows;
 use values::rows::row;
+use values::search::stands_before;
 
 // Whether the rows that start at `a` and at `b` meet the triples.
 fn rows_meet(
@@ -42,10 +49,33 @@ fn rows_meet(
         == count
 }
 
-// The left row at `a` with the right row at `b` behind it, if they meet, is put into the value of `made` rows at `out`.
-fn join_pair(
-    list: &[u32],
-    count: usize,
+// Whether the row at `a` with the row at `b` behind it stands behind all `made` rows at `out`: it does if it stands behind the last.
+fn comes_last(
+    work: &[u32],
+    a: usize,
+    width: usize,
+    b: usize,
+    more: usize,
+    out: usize,
+    made: usize,
+) -> bool
+    requires { ⌜ (a + width ≤ length (now work)) × (b + more ≤ length (now work)) × (out + made * (width + more) ≤ length (now work)) × Ascending (rowsAt (width + more) made out (now work)) ⌝ }
+    ensures { λ r. ⌜ (r ≡ true → rowsBefore (rowIn (now (work .entry)) a width ++ rowIn (now (work .entry)) b more) (rowsAt (width + more) made out (now (work .entry))) ≡ made) ⌝ }
+{
+    if made == 0 {
+        return true;
+    }
+    let last = out + (made - 1) * (width + more);
+    let first = row(work, work, true, last, width);
+    match compare_rows(first, row(work, work, true, a, width)) {
+        Order::Less => true,
+        Order::Equal => stands_before(work, last + width, more, row(work, work, true, b, more)),
+        Order::Greater => false,
+    }
+}
+
+// The row at `a` with the row at `b` behind it is written behind the rows of the value, all of which it stands behind.
+fn append_pair(
     work: &mut [u32],
     a: usize,
     width: usize,
@@ -54,10 +84,36 @@ fn join_pair(
     out: usize,
     made: usize,
 ) -> Placed
-    requires { ⌜ (count * 3 ≤ length (now list)) × (0 < width) × (width + more ≤ columnLimit) × (a + width ≤ length (now work)) × (b + more ≤ length (now work)) × (out + made * (width + more) ≤ length (now work)) × Ascending (rowsAt (width + more) made out (now work)) ⌝ }
-    ensures { λ r. ⌜ Builds (width + more) out made (joined (triplesIn count (now (list .entry))) (rowIn (now (work .entry)) a width) (rowIn (now (work .entry)) b more ∷ [])) (now (work .entry)) (now (work .exit)) r ⌝ }
+    requires { ⌜ (0 < width) × (a + width ≤ out) × (b + more ≤ out) × (out + made * (width + more) ≤ length (now work)) × Ascending (rowsAt (width + more) made out (now work)) × (rowsBefore (rowIn (now work) a width ++ rowIn (now work) b more) (rowsAt (width + more) made out (now work)) ≡ made) ⌝ }
+    ensures { λ r. ⌜ Builds (width + more) out made ((rowIn (now (work .entry)) a width ++ rowIn (now (work .entry)) b more) ∷ []) (now (work .entry)) (now (work .exit)) r ⌝ }
 {
-    if rows_meet(list, count, work, a, width, b, more) {
+    let whole = width + more;
+    let end = out + made * whole;
+    if work.len() - end < whole {
+        return Placed::Full;
+    }
+    let middle = end + width;
+    write_row(&NO_WORDS, work, true, a, width, end);
+    write_row(&NO_WORDS, work, true, b, more, middle);
+    Placed::Rows(made + 1)
+}
+
+// The row at `a` with the row at `b` behind it is put into the value. Rows come in order, so few need a copy aside.
+fn place_pair(
+    work: &mut [u32],
+    a: usize,
+    width: usize,
+    b: usize,
+    more: usize,
+    out: usize,
+    made: usize,
+) -> Placed
+    requires { ⌜ (0 < width) × (width + more ≤ columnLimit) × (a + width ≤ out) × (b + more ≤ out) × (out + made * (width + more) ≤ length (now work)) × Ascending (rowsAt (width + more) made out (now work)) ⌝ }
+    ensures { λ r. ⌜ Builds (width + more) out made ((rowIn (now (work .entry)) a width ++ rowIn (now (work .entry)) b more) ∷ []) (now (work .entry)) (now (work .exit)) r ⌝ }
+{
+    if comes_last(work, a, width, b, more, out, made) {
+        append_pair(work, a, width, b, more, out, made)
+    } else {
         let pair = pair_row(work, a, width, b, more);
         place_row(
             &pair,
@@ -70,6 +126,26 @@ fn join_pair(
                 width: width + more,
             },
         )
+    }
+}
+
+// The left row at `a` with the right row at `b` behind it, if they meet, is put into the value of `made` rows at `out`.
+fn join_pair(
+    list: &[u32],
+    count: usize,
+    work: &mut [u32],
+    a: usize,
+    width: usize,
+    b: usize,
+    more: usize,
+    out: usize,
+    made: usize,
+) -> Placed
+    requires { ⌜ (count * 3 ≤ length (now list)) × (0 < width) × (width + more ≤ columnLimit) × (a + width ≤ out) × (b + more ≤ out) × (out + made * (width + more) ≤ length (now work)) × Ascending (rowsAt (width + more) made out (now work)) ⌝ }
+    ensures { λ r. ⌜ Builds (width + more) out made (joined (triplesIn count (now (list .entry))) (rowIn (now (work .entry)) a width) (rowIn (now (work .entry)) b more ∷ [])) (now (work .entry)) (now (work .exit)) r ⌝ }
+{
+    if rows_meet(list, count, work, a, width, b, more) {
+        place_pair(work, a, width, b, more, out, made)
     } else {
         Placed::Rows(made)
     }
