@@ -43,6 +43,7 @@ fn rows_meet(
         list,
         count,
         count,
+        count,
         row(work, work, true, a, width),
         row(work, work, true, b, more),
     )

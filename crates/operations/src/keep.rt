@@ -40,7 +40,8 @@ pub enum Test {
     NotIn(Value),
 }
 
-// Whether a row meets so many triples with a right row from that number on. The right rows ascend, so the first one that the bound stands before ends the search.
+// Whether a row meets so many triples with a right row from that number on. The right rows ascend, so the first one that the bound stands before ends the search. The triples
+// that failed last are tried first.
 fn meets_from(
     list: &[u32],
     count: usize,
@@ -57,20 +58,24 @@ fn meets_from(
     let mut at = right.base + number * width;
     let mut left = right.rows - number;
     let mut likely: usize = 0;
+    let mut second: usize = 0;
     while 0 < left {
         if stands_behind(work, at, high) {
             return false;
         }
-        likely = failing(
+        let fails = failing(
             list,
             count,
             likely,
+            second,
             sought,
             row(work, work, true, at, width),
         );
-        if likely == count {
+        if fails == count {
             return true;
         }
+        second = likely;
+        likely = fails;
         at += width;
         left -= 1;
     }
