@@ -43,6 +43,13 @@ module _ {w out : ℕ} {cs : Rows} {before after : List ℕ} where
       let room : leb (length (wordsOf (canonical cs))) (length before - out) ≡ false = lt-leb _ _ over in
       record { answers = rw room; words = rw room clear; wide = rw room tt }
 
+-- nothing is left open: two outcomes from one start are the same
+pub builds-unique : {w out rows : ℕ} {cs : Rows} {before after other : List ℕ} {r s : Placed} → Builds w out rows cs before after r → Builds w out rows cs before other s → (after ≡ other) × (r ≡ s)
+builds-unique g h = (g .words ∙ sym (h .words), g .answers ∙ sym (h .answers))
+
+pub makes-unique : {w out : ℕ} {cs : Rows} {before after other : List ℕ} {r s : Placed} → Makes w out cs before after r → Makes w out cs before other s → (after ≡ other) × (r ≡ s)
+makes-unique m n = (m .words ∙ sym (n .words), m .answers ∙ sym (n .answers))
+
 -- the same set of candidates
 pub makes-as : {w out : ℕ} {cs : Rows} {before after : List ℕ} {r : Placed} → Makes w out cs before after r → {others : Rows} → ((row : Row) → member row cs ≡ member row others) → Makes w out others before after r
 makes-as {w} {out} {cs} {before} {after} {r} m {others} h =

@@ -97,6 +97,19 @@ sets-suc l a r i h =
     ∙ sym (sets-append l a (take i r) (getD r i 0 ∷ []))
     ∙ ap (sets l a) (sym t)
 
+-- the same of a row that stands elsewhere, or in front of where it is written
+pub in-turn : (words l now : List ℕ) (start count at i : ℕ) → start + count ≤ length words → i < count → now ≡ sets l at (take i (part start count words))
+    → set now (at + i) (getD words (start + i) 0) ≡ sets l at (take (i + 1) (part start count words))
+in-turn words l now start count at i h m e =
+    let row : List ℕ = part start count words in
+    ap₂ (λ (u : List ℕ) (v : ℕ). set u (at + i) v) e (sym (getD-part start count words i m)) ∙ sets-suc l at row i (omega (arith, length-part start count words h))
+
+pub up-turn : (l now : List ℕ) (start count at i : ℕ) → start + count ≤ at → at ≤ length l → i < count → now ≡ sets l at (take i (part start count l))
+    → set now (at + i) (getD now (start + i) 0) ≡ sets l at (take (i + 1) (part start count l))
+up-turn l now start count at i h k m e =
+    let x : getD now (start + i) 0 ≡ getD l (start + i) 0 = ap (λ (u : List ℕ). getD u (start + i) 0) e ∙ getD-sets-below l at (take i (part start count l)) (start + i) (omega arith) in
+    ap (set now (at + i)) x ∙ in-turn l l now start count at i (omega arith) m e
+
 -- a turn of the loop that moves words up, from the last to the first
 pub shift-suc : (l : List ℕ) (j to w : ℕ) → 0 < j → j ≤ to → to + w ≤ length l
     → set (sets l (j + w) (part j (to - j) l)) (j - 1 + w) (getD (sets l (j + w) (part j (to - j) l)) (j - 1) 0) ≡ sets l (j - 1 + w) (part (j - 1) (to - (j - 1)) l)
