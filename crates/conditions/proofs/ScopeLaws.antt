@@ -12,12 +12,12 @@ use Rattle.relations.specs.Limits.{columnLimit}
 use Rattle.calculus.specs.Scope.{entry, columnsIn, widthIn, columnNumber}
 use Rattle.calculus.proofs.ScopeLaws.{columns-extend}
 use Rattle.conditions.specs.Entries.{entries}
-use Rattle.conditions.specs.Scopes.{emptyScope, entryAt, scopeOf, ScopeFits, withVariable, Extended}
-use Rattle.conditions.specs.declared.scope.Scope.{Scope}
+use Rattle.conditions.specs.Scopes.{noVariables, entryAt, scopeOf, ScopeFits, withVariable, Extended}
+use Rattle.conditions.specs.declared.scope.CarriedScope.{CarriedScope}
 use Rattle.conditions.proofs.EntryLaws.{entries-step, entries-last, entries-same}
 
-module _ (scope : Scope) (v w : ℕ) where
-  abbrev longer : Scope
+module _ (scope : CarriedScope) (v w : ℕ) where
+  abbrev longer : CarriedScope
   longer = withVariable scope v w
 
   pub extended : length (scope .variables) ≡ columnLimit → length (scope .widths) ≡ columnLimit → ScopeFits scope → 1 ≤ w → scope .columns + w ≤ columnLimit → Extended scope v w longer
@@ -33,11 +33,11 @@ module _ (scope : Scope) (v w : ℕ) where
         stands = stands;
       }
 
-pub extended-unique : {scope a b : Scope} {v w : ℕ} → Extended scope v w a → Extended scope v w b → a ≡ b
+pub extended-unique : {scope a b : CarriedScope} {v w : ℕ} → Extended scope v w a → Extended scope v w b → a ≡ b
 extended-unique e f = e .is ∙ sym (f .is)
 
 -- one variable of the scope passed
-module _ (scope : Scope) (v i left : ℕ) (h : 0 < left) where
+module _ (scope : CarriedScope) (v i left : ℕ) (h : 0 < left) where
   first : entries (entryAt scope) i left ≡ entryAt scope i ∷ entries (entryAt scope) (i + 1) (left - 1)
   first = entries-step (entryAt scope) i left h
 
@@ -56,5 +56,5 @@ module _ (scope : Scope) (v i left : ℕ) (h : 0 < left) where
   pub columns-here : columnsIn (entries (entryAt scope) i left) ≡ getD (scope .widths) i 0 + columnsIn (entries (entryAt scope) (i + 1) (left - 1))
   columns-here = ap columnsIn first
 
-pub empty-fits : ScopeFits emptyScope
+pub empty-fits : ScopeFits noVariables
 empty-fits = record { counted = refl; few = omega arith; narrow = omega arith }

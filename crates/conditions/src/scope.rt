@@ -3,21 +3,21 @@ ghost use mathlib.Core.Path.{_≡_};
 ghost use Prim.Native.Nat.{_+_, _≤_};
 ghost use Rattle.relations.specs.Limits.{columnLimit};
 ghost use Rattle.calculus.specs.Scope.{widthIn, columnNumber};
-ghost use Rattle.conditions.specs.Scopes.{emptyScope, scopeOf, ScopeFits, Extended};
+ghost use Rattle.conditions.specs.Scopes.{noVariables, scopeOf, ScopeFits, Extended};
 use nodes::node::Attribute;
 
 // The first `count` variables and widths are in use; `columns` is the sum of these widths.
-pub struct Scope {
+pub struct CarriedScope {
     pub variables: [u32; 32],
     pub widths: [u32; 32],
     pub count: u32,
     pub columns: u32,
 }
 
-pub fn empty() -> Scope
-    ensures { λ r. ⌜ r ≡ emptyScope ⌝ }
+pub fn empty() -> CarriedScope
+    ensures { λ r. ⌜ r ≡ noVariables ⌝ }
 {
-    Scope {
+    CarriedScope {
         variables: [0u32; 32],
         widths: [0u32; 32],
         count: 0,
@@ -25,7 +25,7 @@ pub fn empty() -> Scope
     }
 }
 
-pub fn extend(scope: Scope, variable: u32, width: u32) -> Scope
+pub fn extend(scope: CarriedScope, variable: u32, width: u32) -> CarriedScope
     requires { ⌜ ScopeFits scope × (1 ≤ width) × (scope .columns + width ≤ columnLimit) ⌝ }
     ensures { λ r. ⌜ Extended scope variable width r ⌝ }
 {
@@ -39,7 +39,7 @@ pub fn extend(scope: Scope, variable: u32, width: u32) -> Scope
 }
 
 // The width of a variable's rows; 0 if it is not in scope.
-pub fn width_in(scope: Scope, variable: u32) -> u32
+pub fn width_in(scope: CarriedScope, variable: u32) -> u32
     requires { ⌜ ScopeFits scope ⌝ }
     ensures { λ r. ⌜ r ≡ widthIn (scopeOf scope) variable ⌝ }
 {
@@ -56,7 +56,7 @@ pub fn width_in(scope: Scope, variable: u32) -> u32
 }
 
 // Where the n-th column of a variable stands, both counted from 1.
-pub fn column_number(scope: Scope, variable: u32, n: u32) -> u32
+pub fn column_number(scope: CarriedScope, variable: u32, n: u32) -> u32
     requires { ⌜ ScopeFits scope × (n ≤ columnLimit) ⌝ }
     ensures { λ r. ⌜ r ≡ columnNumber (scopeOf scope) variable n ⌝ }
 {
@@ -74,7 +74,7 @@ pub fn column_number(scope: Scope, variable: u32, n: u32) -> u32
     passed
 }
 
-pub fn column_of(scope: Scope, variable: u32, attribute: Attribute) -> Attribute
+pub fn column_of(scope: CarriedScope, variable: u32, attribute: Attribute) -> Attribute
     requires { ⌜ ScopeFits scope × (attribute .0 ≤ columnLimit) ⌝ }
     ensures { λ r. ⌜ r .0 ≡ columnNumber (scopeOf scope) variable (attribute .0) ⌝ }
 {

@@ -15,13 +15,13 @@ use Rattle.plans.specs.Judging.{judgePlanNodes, nodesIn}
 use Rattle.translation.specs.TranslateCall.{translateOutcome}
 use Rattle.running.specs.RunCall.{fitOf, runOutcome}
 use Rattle.desk.specs.AnswerCall.{answerOutcome}
-use Rattle.text.specs.Reading.{moreDigits, number, numbers, begins, keyedLine, keyedLines, relationOf, tableOf, tablesOf, nodesOf, linesOf, reading as readingOf}
+use Rattle.text.specs.Reading.{moreDigits, number, numbers, begins, keyedLine, keyedLines, relationOf, tableOf, tablesOf, nodesOf, linesOf, bundleIn}
 use Rattle.text.specs.ReadCall.{readOutcome}
 use Rattle.demands.specs.Papers.{papers, Holds, ShownRead, PapersHold}
 
 -- the shown text, read
 shown-read : ShownRead
-unfolding readOutcome readingOf linesOf tablesOf tableOf relationOf nodesOf keyedLines keyedLine begins numbers number moreDigits catalogueWords
+unfolding readOutcome bundleIn linesOf tablesOf tableOf relationOf nodesOf keyedLines keyedLine begins numbers number moreDigits catalogueWords
 shown-read = record { numbers = refl; catalogue = refl; tables = refl; question = refl }
 
 -- each line in the table's order

@@ -8,7 +8,7 @@ use lib.Dec.{eqb}
 use lib.ListN.{length}
 use borrow.Author.Tests.{lt-ltb}
 use Rattle.text.specs.Limits.{byteLimit}
-use Rattle.text.specs.Reading.{Bundle, Next, goesOn, wrongAt, reading}
+use Rattle.text.specs.Reading.{Bundle, Next, goesOn, wrongAt, bundleIn}
 use Rattle.text.specs.ReadCall.{ReadOutcome, readRefused, bundleOutcome, smallBuffers, readOutcome}
 use Rattle.text.specs.Writing.{bundleText}
 use Rattle.text.specs.WriteCall.{WriteOutcome, writeOutcome}
@@ -21,16 +21,16 @@ use Rattle.demands.specs.Demands.{WrongText, readBundle, ReadDemand, ref
 use Rattle.demands.proofs.LineLaws.{answered-exactly}
 
 module _ (text : List ℕ) where
-  right-text : (next : Next) → reading text .next ≡ next → isWrong next ≡ false → (length text ≤ byteLimit) × RightText text
+  right-text : (next : Next) → bundleIn text .next ≡ next → isWrong next ≡ false → (length text ≤ byteLimit) × RightText text
   right-text (wrongAt line) is e = let never : _≡_ {A = ℕ} 0 1 = cc in absurd (omega arith)
   right-text (goesOn line rest) is e =
-      let found : BundleAsText text (reading text) rest = round-trip .text-of-reading text line rest is in (
+      let found : BundleAsText text (bundleIn text) rest = round-trip .text-of-reading text line rest is in (
         found .short-text,
         record {
-          mode = reading text .mode;
-          catalogue = reading text .catalogue;
-          tables = reading text .tables;
-          nodes = reading text .nodes;
+          mode = bundleIn text .mode;
+          catalogue = bundleIn text .catalogue;
+          tables = bundleIn text .tables;
+          nodes = bundleIn text .nodes;
           tables-ok = found .tables-ok;
           nodes-ok = found .nodes-ok;
           tables-32 = found .tables-32;
@@ -39,27 +39,27 @@ module _ (text : List ℕ) where
         },
       )
 
-  not-wrong : length text ≤ byteLimit → RightText text → isWrong (reading text .next) ≡ false
+  not-wrong : length text ≤ byteLimit → RightText text → isWrong (bundleIn text .next) ≡ false
   not-wrong short right =
       rw (← right .text-is)
       (ap (λ (b : Bundle). isWrong (b .next))
       (round-trip .reading-of-text (right .mode) (right .catalogue) (right .tables) (right .nodes) (right .tables-ok) (right .nodes-ok) (right .tables-32) (right .nodes-32) (rw (right .text-is) short)))
 
-  over-limit : byteLimit < length text → placeWrong (reading text .next) ≡ 0
-  unfolding reading
+  over-limit : byteLimit < length text → placeWrong (bundleIn text .next) ≡ 0
+  unfolding bundleIn
   over-limit over = rw (lt-ltb byteLimit (length text) over)
 
-  first-wrong : length text ≤ byteLimit → (next : Next) → reading text .next ≡ next → isWrong next ≡ true → FirstWrong text (placeWrong next)
+  first-wrong : length text ≤ byteLimit → (next : Next) → bundleIn text .next ≡ next → isWrong next ≡ true → FirstWrong text (placeWrong next)
   first-wrong short (goesOn line rest) is e = let never : _≡_ {A = ℕ} 0 1 = cc in absurd (omega arith)
   first-wrong short (wrongAt line) is e = place-is-first-wrong .place text line short is
 
   wrong-text : WrongText text
   wrong-text =
       record {
-        right = right-text (reading text .next) refl;
+        right = right-text (bundleIn text .next) refl;
         passed = not-wrong;
         over = over-limit;
-        first = λ short. first-wrong short (reading text .next) refl;
+        first = λ short. first-wrong short (bundleIn text .next) refl;
       }
 
 -- "mode (1 for short)"
@@ -71,12 +71,12 @@ mode-is (suc (suc more)) few = absurd (omega arith)
 module _ (text catalogue tables question : List ℕ) where
   read-table : readOutcome text catalogue tables question ≡ outcomeBy (readLines text catalogue tables question) (readRefused catalogue tables question) (readBundle text catalogue tables question)
   unfolding readOutcome
-  read-table = ap (cond (smallBuffers catalogue tables question) (readRefused catalogue tables question 14 0)) (go (reading text .next) refl)
+  read-table = ap (cond (smallBuffers catalogue tables question) (readRefused catalogue tables question 14 0)) (go (bundleIn text .next) refl)
     where
-      go : (next : Next) → reading text .next ≡ next
-          → bundleOutcome catalogue tables question (reading text) next ≡ cond (isWrong next) (readRefused catalogue tables question 12 (placeWrong next)) (readBundle text catalogue tables question)
+      go : (next : Next) → bundleIn text .next ≡ next
+          → bundleOutcome catalogue tables question (bundleIn text) next ≡ cond (isWrong next) (readRefused catalogue tables question 12 (placeWrong next)) (readBundle text catalogue tables question)
       go (wrongAt line) is = refl
-      go (goesOn line rest) is = rw (mode-is (reading text .mode) (round-trip .text-of-reading text line rest is .mode-number))
+      go (goesOn line rest) is = rw (mode-is (bundleIn text .mode) (round-trip .text-of-reading text line rest is .mode-number))
 
   pub read-demand : ReadDemand text catalogue tables question
   read-demand =

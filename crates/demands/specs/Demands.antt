@@ -26,7 +26,7 @@ use Rattle.question.specs.declared.judgement.Judgement.the-variants.{Accepted}
 use Rattle.catalogue.specs.Stored.{columnsOf, storedTables}
 use Rattle.plans.specs.Judging.{nodesOfPlan, JudgedExactly}
 use Rattle.text.specs.Limits.{byteLimit}
-use Rattle.text.specs.Reading.{reading}
+use Rattle.text.specs.Reading.{bundleIn}
 use Rattle.text.specs.ReadCall.{ReadOutcome, readRefused, readOutcome}
 use Rattle.text.specs.Writing.{bundleText}
 use Rattle.text.specs.WriteCall.{WriteOutcome, writeOutcome}
@@ -84,7 +84,7 @@ pub record WrongText (text : List ℕ) : Type 0 where
 -- read hands back the bundle that the text is
 abbrev pub readBundle : (text catalogue tables question : List ℕ) → ReadOutcome
 readBundle text catalogue tables question =
-    foundBundle (reading text .mode) (reading text .catalogue) (reading text .tables) (reading text .nodes) catalogue tables question
+    foundBundle (bundleIn text .mode) (bundleIn text .catalogue) (bundleIn text .tables) (bundleIn text .nodes) catalogue tables question
 
 pub record ReadDemand (text catalogue tables question : List ℕ) : Type 0 where
   pub table : readOutcome text catalogue tables question ≡ outcomeBy (readLines text catalogue tables question) (readRefused catalogue tables question) (readBundle text catalogue tables question)

@@ -14,7 +14,7 @@ use Rattle.nodes.specs.References.{lowest}
 use Rattle.question.specs.Judgement.{countOk, isAlpha, lowestIllFormed, lastNode, lowestNotOnce, lowestUnknown}
 use Rattle.judgements.specs.Faults.{lowestUnbound, lowestUnfit}
 use Rattle.plans.specs.Judging.{judgedPlan, nodesOfPlan}
-use Rattle.text.specs.Reading.{Next, goesOn, wrongAt, reading}
+use Rattle.text.specs.Reading.{Next, goesOn, wrongAt, bundleIn}
 use Rattle.text.specs.ReadCall.{smallBuffers}
 use Rattle.text.specs.Writing.{bundleText}
 use Rattle.text.specs.WriteCall.{textFits}
@@ -107,7 +107,7 @@ placeWrong (goesOn at bytes) = 0
 placeWrong (wrongAt at) = at
 
 abbrev pub wrongText : (text : List ℕ) → Line
-wrongText text = line 12 (isWrong (reading text .next)) (placeWrong (reading text .next))
+wrongText text = line 12 (isWrong (bundleIn text .next)) (placeWrong (bundleIn text .next))
 
 -- "text over its buffer or over 65,536 bytes"
 abbrev pub longText : (bytes text : List ℕ) → Line

@@ -10,11 +10,15 @@ use lib.ListN.{length, getD, set, take, drop, length-set, take-append-drop}
 use lib.Seq.{take-suc, take-suc-set, drop-cons, length-take-le}
 use lib.Dec.{eqb}
 use borrow.Author.Tests.{le-ltb, eqb-true, ltb-true, leb-true}
+use mathlib.Core.Logic.{_⊎_, inl, inr}
+use Rattle.relations.specs.Lists.{any, filter}
 use Rattle.relations.specs.Rows.{Row, rowBefore}
+use Rattle.relations.specs.Values.{Rows}
+use Rattle.relations.proofs.BoolLaws.{true-or-false}
 use Rattle.relations.specs.Comparison.{holds}
 use Rattle.relations.specs.Columns.{Triple, attribute, column, meets}
 use Rattle.relations.proofs.RowLaws.{rowBefore-itself, rowBefore-prefix}
-use Rattle.values.specs.Places.{NoneBefore, NoneBehind}
+use Rattle.values.specs.Places.{rowsBefore, NoneBefore, NoneBehind}
 use Rattle.operations.specs.Lists.{operatorNamed, triplesIn}
 use Rattle.operations.specs.Bounds.{bounding, Leads, Least, Most}
 use Rattle.operations.specs.declared.bounds.Bound.{Bound}
@@ -111,3 +115,21 @@ pub times-rest : (m n w : ℕ) → m ≤ n → m * w + (n - m) * w ≡ n * w
 times-rest zero n w h = let e : n - zero ≡ n = omega arith in rw (e, zero-mul) (omega arith)
 times-rest (suc m) zero w h = absurd (omega arith)
 times-rest (suc m) (suc n) w h = let e : suc n - suc m ≡ n - m = omega arith in rw e (omega (arith, suc-mul m w, suc-mul n w, times-rest m n w (omega arith)))
+
+-- none stands before no words
+pub none-before-nothing : (bound : Row) (rows : Rows) → length bound ≡ 0 → rowsBefore bound rows ≡ 0
+none-before-nothing [] [] e = refl
+none-before-nothing [] (first ∷ rows) e = rw (not-before-none first)
+none-before-nothing (x ∷ bound) rows e = absurd (omega arith)
+
+-- some row passes exactly if some row is kept
+any-kept : (test : Row → Bool) (rows : Rows) → any test rows ≡ any (λ row. true) (filter test rows)
+any-kept test [] = refl
+any-kept test (x ∷ rows) = go (true-or-false (test x)) (any-kept test rows)
+  where
+    go : (test x ≡ true) ⊎ (test x ≡ false) → any test rows ≡ any (λ row. true) (filter test rows) → any test (x ∷ rows) ≡ any (λ row. true) (filter test (x ∷ rows))
+    go (inl e) ih = rw e
+    go (inr e) ih = rw e ih
+
+pub any-by-filter : (test : Row → Bool) (rows others : Rows) → filter test rows ≡ filter test others → any test rows ≡ any test others
+any-by-filter test rows others e = any-kept test rows ∙ ap (any (λ row. true)) e ∙ sym (any-kept test others)

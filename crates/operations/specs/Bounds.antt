@@ -2,12 +2,16 @@
 use mathlib.Core.Path.{_≡_}
 use mathlib.Core.Bool.{So}
 use mathlib.Core.List.{List}
-use Prim.Native.Nat.{ℕ, _≤_}
+use Prim.Native.Nat.{ℕ, _+_, _-_, _*_, _≤_}
 use lib.ListN.{length, take}
+use Rattle.relations.specs.Lists.{filter}
 use Rattle.relations.specs.Rows.{Row}
 use Rattle.relations.specs.Columns.{Triple, meets}
+use Rattle.values.specs.Words.{rowsAt, rowsOf}
 use Rattle.values.specs.Places.{NoneBefore, NoneBehind}
+use Rattle.values.specs.declared.rows.Value.{Value}
 use Rattle.operations.specs.declared.bounds.Bound.{Bound}
+use Rattle.operations.specs.declared.partners.Partners.{Partners}
 
 -- a bound's words
 abbrev pub bounding : Bound → Row
@@ -30,3 +34,9 @@ pub record Most (triples : List Triple) (row : Row) (width : ℕ) (bound : Bound
   pub room : bound .count ≤ length (bound .words)
   pub inside : bound .count ≤ width
   pub none : NoneBehind width (bounding bound) (meets triples row)
+
+-- no right row in front of that number meets the row, and the high bound stands before none that does
+pub record PartnersOf (triples : List Triple) (row : Row) (right : Value) (work : List ℕ) (partners : Partners) : Type 0 where
+  pub inside : partners .number ≤ right .rows
+  pub all : filter (meets triples row) (rowsOf right work) ≡ filter (meets triples row) (rowsAt (right .width) (right .rows - partners .number) (right .base + partners .number * right .width) work)
+  pub most : Most triples row (right .width) (partners .high)

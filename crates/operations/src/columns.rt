@@ -119,14 +119,26 @@ fn meets_at(list: &[u32], at: usize, left: &[u32], right: &[u32]) -> bool
     )
 }
 
-// A triple of so many that two rows do not meet, by its number from 0, or `count` where they meet them all. The likely one is tried first.
-pub fn failing(list: &[u32], count: usize, likely: usize, left: &[u32], right: &[u32]) -> usize
+// A triple of so many that two rows do not meet, by its number from 0, or `count` where they meet them all. Two are tried first that are likely to be it.
+pub fn failing(
+    list: &[u32],
+    count: usize,
+    likely: usize,
+    second: usize,
+    left: &[u32],
+    right: &[u32],
+) -> usize
     requires { ⌜ count * 3 ≤ length (now list) ⌝ }
     ensures { λ r. ⌜ eqb r count ≡ meaning.meets (triplesIn count (now (list .entry))) (now (left .entry)) (now (right .entry)) ⌝ }
 {
     if likely < count {
         if !meets_at(list, likely * 3, left, right) {
             return likely;
+        }
+    }
+    if second < count {
+        if !meets_at(list, second * 3, left, right) {
+            return second;
         }
     }
     let mut at: usize = 0;

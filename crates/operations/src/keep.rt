@@ -13,9 +13,6 @@ ghost use Rattle.values.specs.Building.{Builds};
 ghost use Rattle.relations.specs.Operations.{selectConstantCandidates, selectAttributeCandidates, intersectCandidates, subtractCandidates};
 ghost use Rattle.operations.specs.Lists.{attributeIn, constantIn, operatorIn, triplesIn};
 ghost use Rattle.operations.specs.Tests.{rightOf, keeps, Fits};
-use crate::bounds::high_bound;
-use crate::bounds::leading;
-use crate::bounds::low_bound;
 use crate::columns::Attribute;
 use crate::columns::Constant;
 use crate::columns::NO_WORDS;
@@ -23,11 +20,11 @@ use crate::columns::Operator;
 use crate::columns::column_of;
 use crate::columns::failing;
 use crate::columns::holds;
+use crate::partners::partners_of;
 use values::placing::Placed;
 use values::placing::place_row;
 use values::rows::Value;
 use values::rows::row;
-use values::search::count_before;
 use values::search::has_row;
 use values::search::stands_behind;
 
@@ -40,7 +37,8 @@ pub enum Test {
     NotIn(Value),
 }
 
-// Whether a row meets so many triples with a right row from that number on. The right rows ascend, so the first one that the bound stands before ends the search.
+// Whether a row meets so many triples with a right row from that number on. The right rows ascend, so the first one that the bound stands before ends the search. The triples
+// that failed last are tried first.
 fn meets_from(
     list: &[u32],
     count: usize,
@@ -57,40 +55,40 @@ fn meets_from(
     let mut at = right.base + number * width;
     let mut left = right.rows - number;
     let mut likely: usize = 0;
+    let mut second: usize = 0;
     while 0 < left {
         if stands_behind(work, at, high) {
             return false;
         }
-        likely = failing(
+        let fails = failing(
             list,
             count,
             likely,
+            second,
             sought,
             row(work, work, true, at, width),
         );
-        if likely == count {
+        if fails == count {
             return true;
         }
+        second = likely;
+        likely = fails;
         at += width;
         left -= 1;
     }
     false
 }
 
-// Whether a row meets so many triples with some right row: the first that can is found by halving.
-pub fn meets_some(list: &[u32], count: usize, work: &[u32], sought: &[u32], right: Value) -> bool
+// Whether a row meets so many triples with some right row.
+fn meets_some(list: &[u32], count: usize, work: &[u32], sought: &[u32], right: Value) -> bool
     requires { ⌜ (count * 3 ≤ length (now list)) × (end right ≤ length (now work)) × Ascending (rowsOf right (now work)) ⌝ }
     ensures { λ r. ⌜ r ≡ any (meaning.meets (triplesIn count (now (list .entry))) (now (sought .entry))) (rowsOf right (now (work .entry))) ⌝ }
 {
-    let width = right.width;
-    let lead = leading(list, count, sought, width);
-    let low = low_bound(list, count, sought, width, lead);
-    let high = high_bound(list, count, sought, width, lead);
-    let lows = low.count;
+    let found = partners_of(list, count, work, sought, right);
+    let number = found.number;
+    let high = found.high;
     let highs = high.count;
-    let least = low.words;
     let most = high.words;
-    let number = count_before(work, right, &least[..lows]);
     meets_from(list, count, work, sought, right, number, &most[..highs])
 }
 

@@ -6,4 +6,5 @@ pub mod join;
 pub mod keep;
 pub mod keyed;
 pub mod made;
+pub mod partners;
 pub mod project;

@@ -22,13 +22,13 @@ use Rattle.question.specs.Trees.{alphaOf}
 use Rattle.nodes.specs.declared.node.Node.the-variants.{Binding}
 use Rattle.emission.specs.NodeLists.{nodeList, grownBy, numbersOf, attributesIn, ListsAttributes}
 use Rattle.conditions.specs.Readings.{Inside, Names, rangeAt, targetsAt, bindingsAt, restrictionAt}
-use Rattle.conditions.specs.Scopes.{emptyScope, scopeOf, ScopeFits, Extended}
+use Rattle.conditions.specs.Scopes.{noVariables, scopeOf, ScopeFits, Extended}
 use Rattle.planning.specs.Translating.{RangeReady, RangeDone, BindingsReady, BindingsDone, ConditionReady}
 use Rattle.emission.specs.Written.{Room, Written}
 use Rattle.emission.specs.declared.node_list.NodeList.{NodeList}
-use Rattle.conditions.specs.declared.scope.Scope.{Scope}
+use Rattle.conditions.specs.declared.scope.CarriedScope.{CarriedScope}
 use Rattle.planning.specs.declared.translate.Bound.{Bound}
-use Rattle.planning.specs.declared.translate.Made.{Made}
+use Rattle.planning.specs.declared.translate.MadeRange.{MadeRange}
 use Rattle.planning.proofs.BindingSteps.{Chain, chain}
 use Rattle.planning.proofs.RangeSteps.{lower-call, range-wide}
 use Rattle.conditions.proofs.ScopeLaws.{empty-fits}
@@ -38,14 +38,14 @@ use Rattle.emission.proofs.WrittenLaws.{room-after, room-less, written-as, goin
 -- what an alpha was asked with, read by its first binding
 pub record AlphaAsked (catalogue words plan : List ℕ) (t n target binding condition variable range next : ℕ) : Type 0 where
   pub link : Chain words binding variable range next
-  pub measure : 3 * max binding condition + 2 ≡ t
+  pub measure : 2 * max binding condition + 1 ≡ t
   pub target-inside : Inside words target
   pub binding-inside : Inside words binding
   pub condition-inside : Inside words condition
   pub ready : RangeReady catalogue plan (alpha (targetsAt words target) variable (rangeAt words range) (bindingsAt words next) (restrictionAt words condition)) n
 
 pub alpha-asked : {catalogue plan : List ℕ} (words : List ℕ) {t n binding variable range next : ℕ} (target condition : ℕ) → Binding variable range next ≡ nodeAt words (binding - 1)
-    → (3 * max binding condition + 2 ≡ t) × (Inside words target × Names words binding × Inside words condition × RangeReady catalogue plan (alphaOf (targetsAt words target) (bindingsAt words binding) (restrictionAt words condition)) n)
+    → (2 * max binding condition + 1 ≡ t) × (Inside words target × Names words binding × Inside words condition × RangeReady catalogue plan (alphaOf (targetsAt words target) (bindingsAt words binding) (restrictionAt words condition)) n)
     → AlphaAsked catalogue words plan t n target binding condition variable range next
 alpha-asked {catalogue} {plan} words {n = n} target condition e asked =
     let link = chain words (asked .1 .1 .0) e in
@@ -87,23 +87,23 @@ module _ {catalogue words plan : List ℕ} {t n target binding condition variabl
   unfolding rangeNodes
   size = omega arith
 
-  pub call-first : (3 * range < t) × (Names words range × RangeReady catalogue plan first n)
+  pub call-first : (2 * range < t) × (Names words range × RangeReady catalogue plan first n)
   call-first =
       lower-call words (omega (arith, asked .measure)) (asked .link .named, asked .binding-inside) (asked .link .range-below) (record { good = good .0; stored = asked .ready .stored; room = room-less _ (asked .ready .room) (omega (arith, size)) })
 
-  module _ {short : Bool} {middle : List ℕ} {made : Made} (r : RangeDone catalogue short plan first n middle made) {none : Scope} (empty : none ≡ emptyScope) where
+  module _ {short : Bool} {middle : List ℕ} {made : MadeRange} (r : RangeDone catalogue short plan first n middle made) {none : CarriedScope} (empty : none ≡ noVariables) where
     pub scope-starts : ScopeFits none × (1 ≤ made .width) × (none .columns + made .width ≤ columnLimit)
     scope-starts =
-        (subst ScopeFits (sym empty) empty-fits, omega (arith, r .width, range-wide catalogue (asked .ready .stored) first (good .0)), omega (arith, ap (λ (scope : Scope). scope .columns) empty, r .width, good .4))
+        (subst ScopeFits (sym empty) empty-fits, omega (arith, r .width, range-wide catalogue (asked .ready .stored) first (good .0)), omega (arith, ap (λ (scope : CarriedScope). scope .columns) empty, r .width, good .4))
 
     room-first : Room middle (made .count) (4 * bindingNodes rest + 4 * maybeNodes restriction + 1)
     room-first = room-after _ (asked .ready .room) (r .written) (omega (arith, size, range-size columns short first n))
 
-    module _ {own : Scope} (grown : Extended none variable (made .width) own) where
+    module _ {own : CarriedScope} (grown : Extended none variable (made .width) own) where
       own-stands : scopeOf own ≡ entry variable (widthOfRange columns first) ∷ []
-      own-stands = grown .stands ∙ ap (λ (scope : Scope). extend (scopeOf scope) variable (made .width)) empty ∙ ap (λ (width : ℕ). entry variable width ∷ []) (r .width)
+      own-stands = grown .stands ∙ ap (λ (scope : CarriedScope). extend (scopeOf scope) variable (made .width)) empty ∙ ap (λ (width : ℕ). entry variable width ∷ []) (r .width)
 
-      pub call-rest : (3 * next < t) × (Inside words next × BindingsReady catalogue middle rest own (made .count))
+      pub call-rest : (2 * next < t) × (Inside words next × BindingsReady catalogue middle rest own (made .count))
       call-rest = (
         omega (arith, asked .measure, asked .link .named, asked .link .next-below),
         (
@@ -128,7 +128,7 @@ module _ {catalogue words plan : List ℕ} {t n target binding condition variabl
         room-joined : Room later (bound .count) (4 * maybeNodes restriction + 1)
         room-joined = room-after _ room-first (d .written) (omega (arith, bindings-size columns short rest (made .count - 1) (made .count)))
 
-        pub call-condition : (3 * condition < t) × (Inside words condition × ConditionReady catalogue later restriction (bound .scope) (bound .count))
+        pub call-condition : (2 * condition < t) × (Inside words condition × ConditionReady catalogue later restriction (bound .scope) (bound .count))
         call-condition = (
           omega (arith, asked .measure),
           (

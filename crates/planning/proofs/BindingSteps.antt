@@ -21,9 +21,9 @@ use Rattle.conditions.specs.Readings.{Inside, Names, rangeAt, bindingsAt}
 use Rattle.conditions.specs.Scopes.{withVariable, scopeOf, ScopeFits, Extended}
 use Rattle.planning.specs.Translating.{withBindings, RangeReady, RangeDone, BindingsReady, BindingsDone}
 use Rattle.emission.specs.Written.{Room, Written}
-use Rattle.conditions.specs.declared.scope.Scope.{Scope}
+use Rattle.conditions.specs.declared.scope.CarriedScope.{CarriedScope}
 use Rattle.planning.specs.declared.translate.Bound.{Bound}
-use Rattle.planning.specs.declared.translate.Made.{Made}
+use Rattle.planning.specs.declared.translate.MadeRange.{MadeRange}
 use Rattle.conditions.proofs.Readings.{Below, fits-in, bindings-is}
 use Rattle.planning.proofs.RangeSteps.{lower-call, range-wide}
 use Rattle.emission.proofs.WrittenLaws.{written-nothing, written-then, room-after, room-less, written-as, going-on}
@@ -47,12 +47,12 @@ chain words {reference} {variable} {range} {next} named e =
     }
 
 -- the parts of a good chain
-record Parts (catalogue : List ℕ) (scope : Scope) (variable : ℕ) (range : Range) (rest : Bindings) : Type 0 where
+record Parts (catalogue : List ℕ) (scope : CarriedScope) (variable : ℕ) (range : Range) (rest : Bindings) : Type 0 where
   range-good : GoodRange (columnsOf catalogue) (relationsOf catalogue) range
   rest-good : GoodBindings (columnsOf catalogue) (relationsOf catalogue) rest (extend (scopeOf scope) variable (widthOfRange (columnsOf catalogue) range))
   few-columns : columnsIn (scopeOf scope) + widthOfRange (columnsOf catalogue) range ≤ columnLimit
 
-parts : {catalogue plan : List ℕ} {scope : Scope} {n : ℕ} {variable : ℕ} {range : Range} {rest : Bindings} → BindingsReady catalogue plan (bind variable range rest) scope n → Parts catalogue scope variable range rest
+parts : {catalogue plan : List ℕ} {scope : CarriedScope} {n : ℕ} {variable : ℕ} {range : Range} {rest : Bindings} → BindingsReady catalogue plan (bind variable range rest) scope n → Parts catalogue scope variable range rest
 unfolding GoodBindings
 parts ready = record { range-good = ready .good .1; rest-good = ready .good .2; few-columns = ready .good .3 }
 
@@ -61,7 +61,7 @@ unfolding bindingNodes
 bind-size variable range rest = refl
 
 -- from what the chain was asked with: the call on its range, room for the product, the longer scope, the call on the next bindings, and what is left
-module _ {words : List ℕ} {reference variable range next : ℕ} (link : Chain words reference variable range next) {catalogue plan : List ℕ} {t n : ℕ} {scope : Scope} (asked : (3 * reference ≡ t) × (Inside words reference × BindingsReady catalogue plan (bindingsAt words reference) scope n)) where
+module _ {words : List ℕ} {reference variable range next : ℕ} (link : Chain words reference variable range next) {catalogue plan : List ℕ} {t n : ℕ} {scope : CarriedScope} (asked : (2 * reference ≡ t) × (Inside words reference × BindingsReady catalogue plan (bindingsAt words reference) scope n)) where
   abbrev first : Range
   first = rangeAt words range
 
@@ -71,11 +71,11 @@ module _ {words : List ℕ} {reference variable range next : ℕ} (link : Chain 
   ready : BindingsReady catalogue plan (bind variable first rest) scope n
   ready = subst (λ bindings. BindingsReady catalogue plan bindings scope n) (link .reads) (asked .1 .1)
 
-  pub call-bound : (3 * range < t) × (Names words range × RangeReady catalogue plan first n)
+  pub call-bound : (2 * range < t) × (Names words range × RangeReady catalogue plan first n)
   call-bound =
       lower-call words (omega (arith, asked .0)) (link .named, asked .1 .0) (link .range-below) (record { good = parts ready .range-good; stored = ready .stored; room = room-less _ (ready .room) (omega (arith, bind-size variable first rest)) })
 
-  module _ {short : Bool} {middle : List ℕ} {made : Made} (r : RangeDone catalogue short plan first n middle made) where
+  module _ {short : Bool} {middle : List ℕ} {made : MadeRange} (r : RangeDone catalogue short plan first n middle made) where
     room-bound : Room middle (made .count) (4 * bindingNodes rest + 1)
     room-bound = room-after _ (ready .room) (r .written) (omega (arith, bind-size variable first rest, range-size (columnsOf catalogue) short first n))
 
@@ -85,11 +85,11 @@ module _ {words : List ℕ} {reference variable range next : ℕ} (link : Chain 
     pub scope-grows : ScopeFits scope × (1 ≤ made .width) × (scope .columns + made .width ≤ columnLimit)
     scope-grows = (ready .fits, omega (arith, r .width, range-wide catalogue (ready .stored) first (parts ready .range-good)), omega (arith, r .width, ready .fits .counted, parts ready .few-columns))
 
-    module _ {p : ℕ} {later : List ℕ} {count : ℕ} {longer : Scope} (w : Written middle (made .count) (join p (made .count - 1) [] ∷ []) later count) (grown : Extended scope variable (made .width) longer) where
+    module _ {p : ℕ} {later : List ℕ} {count : ℕ} {longer : CarriedScope} (w : Written middle (made .count) (join p (made .count - 1) [] ∷ []) later count) (grown : Extended scope variable (made .width) longer) where
       stands : scopeOf longer ≡ extend (scopeOf scope) variable (widthOfRange (columnsOf catalogue) first)
       stands = grown .stands ∙ ap (extend (scopeOf scope) variable) (r .width)
 
-      pub call-next : (3 * next < t) × (Inside words next × BindingsReady catalogue later rest longer count)
+      pub call-next : (2 * next < t) × (Inside words next × BindingsReady catalogue later rest longer count)
       call-next = (
         omega (arith, asked .0, link .named, link .next-below),
         (
@@ -111,7 +111,7 @@ module _ {words : List ℕ} {reference variable range next : ℕ} (link : Chain 
           written-then (going-on (λ k m. join p k [] ∷ []) (r .written) w) (written-as (ap₂ (λ q m. translateBindings (columnsOf catalogue) short rest q m) (sym (r .written .counted)) (omega (arith, r .written .counted, w .counted))) (d .written)) in
           subst (λ bindings. BindingsDone catalogue short plan bindings scope p n after bound) (sym (link .reads)) (record { written = written; is = d .is ∙ ap (withBindings catalogue rest) (grown .is ∙ ap (withVariable scope variable) (r .width)); fits = d .fits; stands = d .stands ∙ ap (scopeOfBindings (columnsOf catalogue) rest) stands })
 
-pub no-more-done : {catalogue : List ℕ} {short : Bool} {plan : List ℕ} {bindings : Bindings} {scope : Scope} {p n : ℕ} → bindings ≡ noMore → ScopeFits scope → BindingsDone catalogue short plan bindings scope p n plan (record { count = n; scope = scope })
+pub no-more-done : {catalogue : List ℕ} {short : Bool} {plan : List ℕ} {bindings : Bindings} {scope : CarriedScope} {p n : ℕ} → bindings ≡ noMore → ScopeFits scope → BindingsDone catalogue short plan bindings scope p n plan (record { count = n; scope = scope })
 unfolding translateBindings scopeOfBindings withBindings
 no-more-done {catalogue} {short} {plan} {bindings} {scope} {p} {n} e fits =
     subst (λ bindings. BindingsDone catalogue short plan bindings scope p n plan (record { count = n; scope = scope })) (sym e) (record { written = written-nothing plan n; is = refl; fits = fits; stands = refl })

@@ -23,14 +23,14 @@ use Rattle.conditions.specs.Scopes.{scopeOf}
 use Rattle.conditions.specs.Atoms.{AtomNarrow}
 use Rattle.emission.specs.Written.{Room, Written}
 use Rattle.planning.specs.Translating.{ConditionReady}
-use Rattle.conditions.specs.declared.scope.Scope.{Scope}
+use Rattle.conditions.specs.declared.scope.CarriedScope.{CarriedScope}
 use Rattle.conditions.proofs.Readings.{Part, and-parts, or-parts, not-part, some-parts, every-parts, restriction-is}
 use Rattle.conditions.proofs.OtherNodes.{restriction-good}
 use Rattle.conditions.proofs.LeafLaws.{found-narrow}
 use Rattle.emission.proofs.WrittenLaws.{written-then, written-nothing, room-after, room-less, last-is, written-as, going-on}
 
 -- What is ready for a condition is ready for its parts.
-module _ (catalogue : List ℕ) (scope : Scope) where
+module _ (catalogue : List ℕ) (scope : CarriedScope) where
   abbrev pub Good : Condition → Type 0
   Good f = GoodCondition (columnsOf catalogue) (relationsOf catalogue) f (scopeOf scope)
 
@@ -46,7 +46,7 @@ module _ (catalogue : List ℕ) (scope : Scope) where
   abbrev pub BothReady : List ℕ → Condition → Condition → ℕ → Type 0
   BothReady plan f g n = ReadyWith plan f n (4 * conditionNodes g + 4) × Good g
 
-module _ {catalogue : List ℕ} {scope : Scope} where
+module _ {catalogue : List ℕ} {scope : CarriedScope} where
   pub ready-as : {plan : List ℕ} {n : ℕ} {w v : MaybeCondition} → w ≡ v → ConditionReady catalogue plan v scope n → ConditionReady catalogue plan w scope n
   ready-as {plan} {n} e r = subst (λ (m : MaybeCondition). ConditionReady catalogue plan m scope n) (sym e) r
 
@@ -157,33 +157,33 @@ module _ (columns : ℕ → ℕ) (short : Bool) (s : scopes.Scope) (p : ℕ) whe
   atom-opposite-written {n = n} a e w = written-as (ap (λ (f : Condition). translateCondition columns short f itsOpposite s p n) e) w
 
 -- the nodes of a part that was handed down by its reference
-part-written : {catalogue : List ℕ} {scope : Scope} (short : Bool) (p : ℕ) (words : List ℕ) (reference : ℕ) {plan after : List ℕ} {n count : ℕ} → Ready catalogue scope plan (conditionAt words reference) n → WritesMaybe (columnsOf catalogue) short (scopeOf scope) p plan n (restrictionAt words reference) after count → Writes (columnsOf catalogue) short (scopeOf scope) p plan n (conditionAt words reference) after count
+part-written : {catalogue : List ℕ} {scope : CarriedScope} (short : Bool) (p : ℕ) (words : List ℕ) (reference : ℕ) {plan after : List ℕ} {n count : ℕ} → Ready catalogue scope plan (conditionAt words reference) n → WritesMaybe (columnsOf catalogue) short (scopeOf scope) p plan n (restrictionAt words reference) after count → Writes (columnsOf catalogue) short (scopeOf scope) p plan n (conditionAt words reference) after count
 part-written {catalogue} {scope} short p words reference r w =
     written-condition (columnsOf catalogue) short (scopeOf scope) p (restriction-good (columnsOf catalogue) (relationsOf catalogue) (scopeOf scope) words reference (good-of r)) w
 
 -- What is known of each kind of node that a reference names: its reading, its parts, and that they are ready.
 
-pub record AtomHere (found : question-atom.Atom) (catalogue words plan : List ℕ) (scope : Scope) (reference n : ℕ) : Type 0 where
+pub record AtomHere (found : question-atom.Atom) (catalogue words plan : List ℕ) (scope : CarriedScope) (reference n : ℕ) : Type 0 where
   pub reads : restrictionAt words reference ≡ onCondition (calculus.atom (atomOf found))
   pub narrow : AtomNarrow found
   pub room : Room plan n 1
 
-pub record TwoSides (join : Condition → Condition → Condition) (left right : ℕ) (catalogue words plan : List ℕ) (scope : Scope) (reference n : ℕ) : Type 0 where
+pub record TwoSides (join : Condition → Condition → Condition) (left right : ℕ) (catalogue words plan : List ℕ) (scope : CarriedScope) (reference n : ℕ) : Type 0 where
   pub reads : restrictionAt words reference ≡ onCondition (join (conditionAt words left) (conditionAt words right))
   pub parts : Part words reference left × Part words reference right
   pub ready : BothReady catalogue scope plan (conditionAt words left) (conditionAt words right) n
 
-pub record OneInner (inner : ℕ) (catalogue words plan : List ℕ) (scope : Scope) (reference n : ℕ) : Type 0 where
+pub record OneInner (inner : ℕ) (catalogue words plan : List ℕ) (scope : CarriedScope) (reference n : ℕ) : Type 0 where
   pub reads : restrictionAt words reference ≡ onCondition (conditionNot (conditionAt words inner))
   pub part : Part words reference inner
   pub ready : ReadyWith catalogue scope plan (conditionAt words inner) n 4
 
-pub record Quantified (quantify : Range → Condition → Condition) (range condition : ℕ) (catalogue words plan : List ℕ) (scope : Scope) (reference n : ℕ) : Type 0 where
+pub record Quantified (quantify : Range → Condition → Condition) (range condition : ℕ) (catalogue words plan : List ℕ) (scope : CarriedScope) (reference n : ℕ) : Type 0 where
   pub reads : restrictionAt words reference ≡ onCondition (quantify (rangeAt words range) (conditionAt words condition))
   pub parts : Part words reference range × Part words reference condition
   pub ready : Ready catalogue scope plan (quantify (rangeAt words range) (conditionAt words condition)) n
 
-module _ {catalogue words plan : List ℕ} {scope : Scope} {reference n : ℕ} (h : Names words reference) (r : ConditionReady catalogue plan (restrictionAt words reference) scope n) where
+module _ {catalogue words plan : List ℕ} {scope : CarriedScope} {reference n : ℕ} (h : Names words reference) (r : ConditionReady catalogue plan (restrictionAt words reference) scope n) where
   pub atom-step : {found : question-atom.Atom} → AtomNode found ≡ nodeAt words (reference - 1) → AtomHere found catalogue words plan scope reference n
   atom-step {found} e =
       let reads = restriction-is words reference (AtomNode found) (h .0) e in
@@ -215,7 +215,7 @@ module _ {catalogue words plan : List ℕ} {scope : Scope} {reference n : ℕ} (
       record { reads = reads; parts = every-parts words reference h e; ready = ready-as (sym reads) r }
 
 -- the sides of an "and" or an "or", one written behind the other
-module _ {catalogue words plan : List ℕ} {scope : Scope} {join : Condition → Condition → Condition} {reference n left right : ℕ} (b : TwoSides join left right catalogue words plan scope reference n) where
+module _ {catalogue words plan : List ℕ} {scope : CarriedScope} {join : Condition → Condition → Condition} {reference n left right : ℕ} (b : TwoSides join left right catalogue words plan scope reference n) where
   pub left-ready : ConditionReady catalogue plan (restrictionAt words left) scope n
   left-ready = ready-at words left (b .ready .0 .ready)
 
@@ -237,7 +237,7 @@ module _ {catalogue words plan : List ℕ} {scope : Scope} {join : Condition →
       room-behind-both = room-less 1 (room-behind short q right-written right-side) (omega arith)
 
 -- what is below a "not"
-module _ {catalogue words plan : List ℕ} {scope : Scope} {reference n inner : ℕ} (b : OneInner inner catalogue words plan scope reference n) where
+module _ {catalogue words plan : List ℕ} {scope : CarriedScope} {reference n inner : ℕ} (b : OneInner inner catalogue words plan scope reference n) where
   pub inner-ready : ConditionReady catalogue plan (restrictionAt words inner) scope n
   inner-ready = ready-at words inner (b .ready .ready)
 

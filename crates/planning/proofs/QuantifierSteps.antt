@@ -2,7 +2,7 @@
 use Prim.Native.Nat.{ℕ, suc, pred, _+_, _*_, _-_, _≤_}
 use mathlib.Core.Path.{_≡_, refl, sym, ap, subst, _∙_}
 use mathlib.Core.Bool.{Bool, true, false, _&&_}
-use mathlib.Core.List.{List, [], _∷_, _++_, map, append-assoc}
+use mathlib.Core.List.{List, [], _∷_, _++_, map}
 use native.Mathlib.Omega.{arith}
 use lib.ListN.{length, length-append, length-map}
 use Rattle.relations.specs.Limits.{columnLimit, tripleLimit, questionNodeLimit, listWords}
@@ -13,24 +13,24 @@ use Rattle.calculus.specs.Scope.{columnsIn, allColumns, columnsFrom}
 use Rattle.calculus.specs.Scope as calculus
 use Rattle.calculus.specs.Form.{widthOfRange, GoodRange, GoodMaybe, GoodCondition}
 use Rattle.calculus.specs.Leaves.{isAndTree, isOrTree, leaves, oppositeAtom, aloneOn, comparesWithOther}
-use Rattle.calculus.specs.ShortRules.{lastNumber, shortRule2Atoms, shortRule2Fits, triplesOf, shortRule4Fits, shortRule5Fits}
+use Rattle.calculus.specs.ShortRules.{lastNumber, shortRule2Atoms, shortRule2Fits, triplesOf, shortRule2Nodes, shortRule3Nodes, shortRule4Nodes, shortRule4Fits, shortRule5Fits}
 use Rattle.calculus.specs.Translation.{itself, itsOpposite, divisionBy, translateRange, translateMaybe, translateCondition}
-use Rattle.calculus.proofs.LegalColumns.{few, few-opposite}
+use Rattle.calculus.proofs.LegalColumns.{few}
 use Rattle.calculus.proofs.SizeTheorem.{filter-size, leaves-size, range-size, condition-size}
 use Rattle.catalogue.specs.Stored.{relationsOf, columnsOf}
 use Rattle.judgements.specs.Accepted.{HasColumns}
-use Rattle.conditions.specs.Leaves.{atomsOf, LeavesFit, LeavesOf, opposites}
+use Rattle.conditions.specs.Leaves.{atomsOf, LeavesFit, LeavesOf}
 use Rattle.emission.specs.NodeLists.{nodeList, grownBy, numbersOf, attributesIn, ListsAttributes}
 use Rattle.conditions.specs.Readings.{conditionAt, restrictionAt}
-use Rattle.short_rules.specs.Rules.{selectsBehind, semijoinBehind, antijoinBehind, RuleFits}
+use Rattle.short_rules.specs.Rules.{RuleFits}
+use Rattle.short_rules.proofs.RuleLaws.{rule-behind}
 use Rattle.conditions.specs.Scopes.{scopeOf, ScopeFits, Extended}
-use Rattle.planning.specs.Translating.{RangeReady, RangeDone, ConditionReady, InsideReady, DivisionReady}
+use Rattle.planning.specs.Translating.{RangeReady, RangeDone, ConditionReady, DivisionReady}
 use Rattle.emission.specs.Written.{Room, Written}
 use Rattle.emission.specs.declared.node_list.NodeList.{NodeList}
 use Rattle.conditions.specs.declared.leaves.Leaves.{Leaves}
-use Rattle.conditions.specs.declared.scope.Scope.{Scope}
-use Rattle.planning.specs.declared.translate.Made.{Made}
-use Rattle.conditions.proofs.LeafLaws.{opposite-atoms}
+use Rattle.conditions.specs.declared.scope.CarriedScope.{CarriedScope}
+use Rattle.planning.specs.declared.translate.MadeRange.{MadeRange}
 use Rattle.conditions.proofs.OtherNodes.{restriction-good}
 use Rattle.emission.proofs.NodeListLaws.{grown-list, names-attributes, lists-attributes}
 use Rattle.relations.specs.Columns.{Attribute}
@@ -39,11 +39,22 @@ use Rattle.emission.proofs.WrittenLaws.{written-then, room-after, room-less, pr
 use Rattle.planning.proofs.RangeSteps.{range-wide}
 use Rattle.planning.proofs.ConditionSteps.{chosen, passed-over}
 
-pub inside-restricts : (words : List ℕ) (reference : ℕ) {catalogue plan : List ℕ} {x width : ℕ} {scope : Scope} {n : ℕ} → InsideReady catalogue plan x width (conditionAt words reference) scope n → restrictionAt words reference ≡ onCondition (conditionAt words reference)
+module _ (catalogue : List ℕ) where
+  -- a condition on the product of P with a range of x, which stands before node n
+  pub record InsideReady (plan : List ℕ) (x width : ℕ) (f : Condition) (scope : CarriedScope) (n : ℕ) : Type 0 where
+    pub good : GoodCondition (columnsOf catalogue) (relationsOf catalogue) f (calculus.extend (scopeOf scope) x width)
+    pub fits : ScopeFits scope
+    pub some-columns : 1 ≤ width
+    pub few-columns : scope .columns + width ≤ columnLimit
+    pub stored : HasColumns catalogue
+    pub some-nodes : 1 ≤ n
+    pub room : Room plan n (4 * conditionNodes f + 1)
+
+pub inside-restricts : (words : List ℕ) (reference : ℕ) {catalogue plan : List ℕ} {x width : ℕ} {scope : CarriedScope} {n : ℕ} → InsideReady catalogue plan x width (conditionAt words reference) scope n → restrictionAt words reference ≡ onCondition (conditionAt words reference)
 inside-restricts words reference {catalogue} {x = x} {width = width} {scope = scope} r = restriction-good (columnsOf catalogue) (relationsOf catalogue) (calculus.extend (scopeOf scope) x width) words reference (r .good)
 
 -- P's columns, which are those of the scope, listed for a project
-module _ {scope : Scope} (fits : ScopeFits scope) {list : NodeList} (empty : list ≡ nodeList []) where
+module _ {scope : CarriedScope} (fits : ScopeFits scope) {list : NodeList} (empty : list ≡ nodeList []) where
   pub columns-room : (list .used + scope .columns ≤ listWords) × (1 ≤ columnLimit + columnLimit)
   columns-room = (omega (arith, ap (λ (l : NodeList). l .used) empty, fits .narrow), omega arith)
 
@@ -61,7 +72,7 @@ module _ {scope : Scope} (fits : ScopeFits scope) {list : NodeList} (empty : lis
 
 module _ (catalogue : List ℕ) where
   -- "some x" and "every x" ask for the same of a range and a condition on x; `s` is the scope that they stand in, which has P's columns and, for S5, y's
-  pub record QuantifierReady (plan : List ℕ) (x : ℕ) (range : Range) (f : Condition) (scope : Scope) (s : calculus.Scope) (n extra : ℕ) : Type 0 where
+  pub record QuantifierReady (plan : List ℕ) (x : ℕ) (range : Range) (f : Condition) (scope : CarriedScope) (s : calculus.Scope) (n extra : ℕ) : Type 0 where
     pub good-range : GoodRange (columnsOf catalogue) (relationsOf catalogue) range
     pub good-condition : GoodCondition (columnsOf catalogue) (relationsOf catalogue) f (calculus.extend s x (widthOfRange (columnsOf catalogue) range))
     pub narrow : scope .columns + widthOfRange (columnsOf catalogue) range ≤ columnLimit
@@ -70,7 +81,7 @@ module _ (catalogue : List ℕ) where
     pub some-nodes : 1 ≤ n
     pub room : Room plan n (4 * rangeNodes range + (4 * conditionNodes f + 4 + extra))
 
-module _ {catalogue plan : List ℕ} {x : ℕ} {range : Range} {f : Condition} {scope : Scope} {n extra : ℕ} where
+module _ {catalogue plan : List ℕ} {x : ℕ} {range : Range} {f : Condition} {scope : CarriedScope} {n extra : ℕ} where
   pub quantifier-ready : {s : calculus.Scope} → GoodCondition (columnsOf catalogue) (relationsOf catalogue) (forSome x range f) s → columnsIn (scopeOf scope) ≤ columnsIn s → ScopeFits scope → HasColumns catalogue → 1 ≤ n → Room plan n (4 * conditionNodes (forSome x range f) + extra)
       → QuantifierReady catalogue plan x range f scope s n extra
   unfolding GoodCondition conditionNodes
@@ -85,7 +96,7 @@ module _ {catalogue plan : List ℕ} {x : ℕ} {range : Range} {f : Condition} {
         room = room-less _ room (omega arith);
       }
 
-module _ {catalogue plan : List ℕ} {x : ℕ} {range : Range} {f : Condition} {scope : Scope} {n : ℕ} where
+module _ {catalogue plan : List ℕ} {x : ℕ} {range : Range} {f : Condition} {scope : CarriedScope} {n : ℕ} where
   pub some-ready : ConditionReady catalogue plan (onCondition (forSome x range f)) scope n → QuantifierReady catalogue plan x range f scope (scopeOf scope) n 0
   unfolding GoodCondition conditionNodes
   some-ready r = quantifier-ready (r .good) (omega arith) (r .fits) (r .stored) (r .some-nodes) (room-less _ (r .room) (omega arith))
@@ -94,7 +105,7 @@ module _ {catalogue plan : List ℕ} {x : ℕ} {range : Range} {f : Condition} {
   unfolding GoodCondition conditionNodes
   every-ready r = quantifier-ready (r .good) (omega arith) (r .fits) (r .stored) (r .some-nodes) (room-less _ (r .room) (omega arith))
 
-module _ {catalogue plan : List ℕ} {x : ℕ} {range : Range} {f : Condition} {scope : Scope} {s : calculus.Scope} {n extra : ℕ} (r : QuantifierReady catalogue plan x range f scope s n extra) where
+module _ {catalogue plan : List ℕ} {x : ℕ} {range : Range} {f : Condition} {scope : CarriedScope} {s : calculus.Scope} {n extra : ℕ} (r : QuantifierReady catalogue plan x range f scope s n extra) where
   pub range-ready : RangeReady catalogue plan range n
   range-ready = record { good = r .good-range; stored = r .stored; room = room-less _ (r .room) (omega arith) }
 
@@ -102,7 +113,7 @@ module _ {catalogue plan : List ℕ} {x : ℕ} {range : Range} {f : Condition} {
   few-nodes = omega (arith, r .room .nodes)
 
   -- behind the range
-  module _ {short : Bool} {after : List ℕ} {made : Made} (done : RangeDone catalogue short plan range n after made) where
+  module _ {short : Bool} {after : List ℕ} {made : MadeRange} (done : RangeDone catalogue short plan range n after made) where
     pub some-columns : 1 ≤ made .width
     some-columns = omega (arith, done .width, range-wide catalogue (r .stored) range (r .good-range))
 
@@ -131,7 +142,7 @@ module _ {catalogue plan : List ℕ} {x : ℕ} {range : Range} {f : Condition} {
         }
 
 -- below a "some" or an "every" in P's own scope
-module _ {catalogue plan : List ℕ} {x : ℕ} {range : Range} {f : Condition} {scope : Scope} {n extra : ℕ} (r : QuantifierReady catalogue plan x range f scope (scopeOf scope) n extra) {short : Bool} {after : List ℕ} {made : Made} (done : RangeDone catalogue short plan range n after made) where
+module _ {catalogue plan : List ℕ} {x : ℕ} {range : Range} {f : Condition} {scope : CarriedScope} {n extra : ℕ} (r : QuantifierReady catalogue plan x range f scope (scopeOf scope) n extra) {short : Bool} {after : List ℕ} {made : MadeRange} (done : RangeDone catalogue short plan range n after made) where
   pub inside-ready : InsideReady catalogue after x (made .width) f scope (made .count)
   inside-ready =
       record {
@@ -156,7 +167,7 @@ module _ {catalogue plan : List ℕ} {x : ℕ} {range : Range} {f : Condition} {
       }
 
 -- the product of P with the range of x, and the condition on it
-module _ {catalogue plan : List ℕ} {x width : ℕ} {f : Condition} {scope : Scope} {n : ℕ} (r : InsideReady catalogue plan x width f scope n) {restriction : MaybeCondition} (e : restriction ≡ onCondition f) {inner : Scope} (extended : Extended scope x width inner) {p : ℕ} {after : List ℕ} {count : ℕ} (product : Written plan n (join p (n - 1) [] ∷ []) after count) where
+module _ {catalogue plan : List ℕ} {x width : ℕ} {f : Condition} {scope : CarriedScope} {n : ℕ} (r : InsideReady catalogue plan x width f scope n) {restriction : MaybeCondition} (e : restriction ≡ onCondition f) {inner : CarriedScope} (extended : Extended scope x width inner) {p : ℕ} {after : List ℕ} {count : ℕ} (product : Written plan n (join p (n - 1) [] ∷ []) after count) where
   pub inside-condition-ready : ConditionReady catalogue after restriction inner count
   unfolding GoodMaybe maybeNodes
   inside-condition-ready =
@@ -176,19 +187,10 @@ module _ {catalogue plan : List ℕ} {x width : ℕ} {f : Condition} {scope : Sc
       let same : translateCondition (columnsOf catalogue) short f itself (calculus.extend (scopeOf scope) x width) n (suc n) ≡ translateMaybe (columnsOf catalogue) short restriction (scopeOf inner) n count = rw (e, extended .stands, next) in
       written-as (ap (λ (m : ℕ). join p m [] ∷ translateCondition (columnsOf catalogue) short f itself (calculus.extend (scopeOf scope) x width) n (suc n)) (pred-is n) ∙ ap (λ (rest : List Node). join p (n - 1) [] ∷ rest) same) (written-then product w)
 
--- the leaves that were collected, and their opposites
+-- the leaves that were collected
 module _ {words : List ℕ} {f : Condition} {collected : Leaves} (found : LeavesOf words f collected) where
   pub leaves-few : length (atomsOf words collected) ≤ conditionNodes f
   leaves-few = omega (arith, ap length (found .atoms), leaves-size f)
-
-  opposites-fit : LeavesFit words (opposites collected)
-  opposites-fit = record { few = found .fits .few; inside = found .fits .inside }
-
-  opposites-are : atomsOf words (opposites collected) ≡ map oppositeAtom (leaves f)
-  opposites-are = opposite-atoms words collected (found .straight) ∙ ap (map oppositeAtom) (found .atoms)
-
-  opposites-few : length (atomsOf words (opposites collected)) ≤ conditionNodes f
-  opposites-few = omega (arith, ap length opposites-are, length-map (leaves f) oppositeAtom, leaves-size f)
 
   -- S2 and S4 by the kind of tree that the code has met and by its atoms
   pub rule-test : (x : ℕ) (short : Bool) {tree kind fits answer : Bool} → kind ≡ tree → fits ≡ (kind && shortRule2Atoms x (atomsOf words collected)) → (short && fits) ≡ answer → (short && (tree && shortRule2Atoms x (leaves f))) ≡ answer
@@ -196,22 +198,16 @@ module _ {words : List ℕ} {f : Condition} {collected : Leaves} (found : Leaves
       ap (λ b. short && (b && shortRule2Atoms x (leaves f))) (sym e) ∙ ap (λ atoms. short && (kind && shortRule2Atoms x atoms)) (sym (found .atoms)) ∙ ap (λ b. short && b) (sym d) ∙ h
 
 -- what S2, S3 and S4 ask for behind the range
-module _ {catalogue plan : List ℕ} {x : ℕ} {range : Range} {f : Condition} {scope : Scope} {n extra : ℕ} {s : calculus.Scope} (r : QuantifierReady catalogue plan x range f scope s n extra) {short : Bool} {after : List ℕ} {made : Made} (done : RangeDone catalogue short plan range n after made) {words : List ℕ} {collected : Leaves} (found : LeavesOf words f collected) where
+module _ {catalogue plan : List ℕ} {x : ℕ} {range : Range} {f : Condition} {scope : CarriedScope} {n extra : ℕ} {s : calculus.Scope} (r : QuantifierReady catalogue plan x range f scope s n extra) {short : Bool} {after : List ℕ} {made : MadeRange} (done : RangeDone catalogue short plan range n after made) {words : List ℕ} {collected : Leaves} (found : LeavesOf words f collected) where
   pub rule-2-ready : shortRule2Fits x f ≡ true → RuleFits words after scope collected x (made .width) (made .count) 1 × (length (filter (comparesWithOther x) (atomsOf words collected)) ≤ tripleLimit)
   rule-2-ready h =
       (rule-fits r done words collected (found .fits) (leaves-few found), omega (arith, few (isAndTree f) x (leaves f) h, ap (λ atoms. length (filter (comparesWithOther x) atoms)) (found .atoms)))
 
-  pub rule-4-ready : shortRule4Fits x f ≡ true → RuleFits words after scope (opposites collected) x (made .width) (made .count) 1 × (length (filter (comparesWithOther x) (atomsOf words (opposites collected))) ≤ tripleLimit)
+  pub rule-4-ready : shortRule4Fits x f ≡ true → RuleFits words after scope collected x (made .width) (made .count) 1 × (length (filter (comparesWithOther x) (atomsOf words collected)) ≤ tripleLimit) × (collected .opposite ≡ false)
   rule-4-ready h =
-      (rule-fits r done words (opposites collected) (opposites-fit found) (opposites-few found), omega (arith, few (isOrTree f) x (leaves f) h, few-opposite x (leaves f), ap (λ atoms. length (filter (comparesWithOther x) atoms)) (opposites-are found)))
+      (rule-fits r done words collected (found .fits) (leaves-few found), omega (arith, few (isOrTree f) x (leaves f) h, ap (λ atoms. length (filter (comparesWithOther x) atoms)) (found .atoms)), found .straight)
 
--- nodes that go by the count of those before them, behind a range and more
-pub behind-range : (first more : List Node) (n : ℕ) (nodes : ℕ → List Node) → (first ++ more) ++ nodes (n + length (first ++ more)) ≡ first ++ (more ++ nodes (n + length first + length more))
-behind-range first more n nodes =
-    let e : n + length (first ++ more) ≡ n + length first + length more = omega (arith, length-append first more) in
-    append-assoc first more _ ∙ ap (λ (m : ℕ). first ++ (more ++ nodes m)) e
-
-module _ {catalogue : List ℕ} {short : Bool} {plan : List ℕ} {range : Range} {n : ℕ} {after : List ℕ} {made : Made} (done : RangeDone catalogue short plan range n after made) where
+module _ {catalogue : List ℕ} {short : Bool} {plan : List ℕ} {range : Range} {n : ℕ} {after : List ℕ} {made : MadeRange} (done : RangeDone catalogue short plan range n after made) where
   abbrev first : List Node
   first = translateRange (columnsOf catalogue) short range n
 
@@ -224,29 +220,29 @@ module _ {catalogue : List ℕ} {short : Bool} {plan : List ℕ} {range : Range}
       written-then (done .written) (written-as (ap (λ (k : ℕ). nodes width others k) (sym (done .written .counted)) ∙ ap (λ (a : List Atom). nodes width a (made .count)) (sym e) ∙ ap (λ (k : ℕ). nodes k atoms (made .count)) (sym (done .width))) w)
 
   module _ {words : List ℕ} {f : Condition} {collected : Leaves} (found : LeavesOf words f collected) (x : ℕ) (s : calculus.Scope) (p : ℕ) {end : List ℕ} {count : ℕ} where
-    pub some-by-rule-2 : (short && shortRule2Fits x f) ≡ true → Written after (made .count) (semijoinBehind s x (made .width) (atomsOf words collected) p (made .count)) end count
+    pub some-by-rule-2 : (short && shortRule2Fits x f) ≡ true → Written after (made .count) (shortRule2Nodes s x (made .width) (atomsOf words collected) [] p (made .count)) end count
         → Written plan n (translateCondition (columnsOf catalogue) short (forSome x range f) itself s p n) end count
     unfolding translateCondition
     some-by-rule-2 h w =
         written-as
-        (chosen _ _ (short && shortRule2Fits x f) h ∙ behind-range first (selectsBehind x width (leaves f) (n + length first)) n (λ m. semijoin p (pred m) (triplesOf s x (leaves f)) ∷ []))
-        (written-behind (λ k atoms q. semijoinBehind s x k atoms p q) (found .atoms) w)
+        (chosen _ _ (short && shortRule2Fits x f) h ∙ rule-behind first x width (leaves f) n (λ m. semijoin p (pred m) (triplesOf s x (leaves f)) ∷ []))
+        (written-behind (λ k atoms q. shortRule2Nodes s x k atoms [] p q) (found .atoms) w)
 
-    pub some-by-rule-3 : {g : Condition} → g ≡ forSome x range f → Written after (made .count) (antijoinBehind s x (made .width) (atomsOf words collected) p (made .count)) end count
+    pub some-by-rule-3 : {g : Condition} → g ≡ forSome x range f → Written after (made .count) (shortRule3Nodes s x (made .width) (atomsOf words collected) [] p (made .count)) end count
         → Written plan n (translateCondition (columnsOf catalogue) short g itsOpposite s p n) end count
     unfolding translateCondition
     some-by-rule-3 e w =
         written-as
-        (ap (λ (g : Condition). translateCondition (columnsOf catalogue) short g itsOpposite s p n) e ∙ behind-range first (selectsBehind x width (leaves f) (n + length first)) n (λ m. antijoin p (pred m) (triplesOf s x (leaves f)) ∷ []))
-        (written-behind (λ k atoms q. antijoinBehind s x k atoms p q) (found .atoms) w)
+        (ap (λ (g : Condition). translateCondition (columnsOf catalogue) short g itsOpposite s p n) e ∙ rule-behind first x width (leaves f) n (λ m. antijoin p (pred m) (triplesOf s x (leaves f)) ∷ []))
+        (written-behind (λ k atoms q. shortRule3Nodes s x k atoms [] p q) (found .atoms) w)
 
-    pub every-by-rule-4 : (short && shortRule4Fits x f) ≡ true → Written after (made .count) (antijoinBehind s x (made .width) (atomsOf words (opposites collected)) p (made .count)) end count
+    pub every-by-rule-4 : (short && shortRule4Fits x f) ≡ true → Written after (made .count) (shortRule4Nodes s x (made .width) (atomsOf words collected) [] p (made .count)) end count
         → Written plan n (translateCondition (columnsOf catalogue) short (forEvery x range f) itself s p n) end count
     unfolding translateCondition
     every-by-rule-4 h w =
         written-as
-        (chosen _ _ (short && shortRule4Fits x f) h ∙ behind-range first (selectsBehind x width (map oppositeAtom (leaves f)) (n + length first)) n (λ m. antijoin p (pred m) (triplesOf s x (map oppositeAtom (leaves f))) ∷ []))
-        (written-behind (λ k atoms q. antijoinBehind s x k atoms p q) (opposites-are found) w)
+        (chosen _ _ (short && shortRule4Fits x f) h ∙ rule-behind first x width (map oppositeAtom (leaves f)) n (λ m. antijoin p (pred m) (triplesOf s x (map oppositeAtom (leaves f))) ∷ []))
+        (written-behind (λ k atoms q. shortRule4Nodes s x k atoms [] p q) (found .atoms) w)
 
   -- the division by the range
   pub every-by-rule-5 : (f : Condition) (x : ℕ) (s : calculus.Scope) (p : ℕ) {end : List ℕ} {count : ℕ} → (short && shortRule4Fits x f) ≡ false → (short && shortRule5Fits x f) ≡ true

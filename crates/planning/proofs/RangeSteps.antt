@@ -24,7 +24,7 @@ use Rattle.nodes.proofs.Forms.{lower, second-of, references-lower}
 use Rattle.conditions.specs.Readings.{Inside, Names, rangeAt, targetsAt, bindingsAt, restrictionAt}
 use Rattle.planning.specs.Translating.{RangeReady, RangeDone}
 use Rattle.emission.specs.Written.{Room, Written}
-use Rattle.planning.specs.declared.translate.Made.{Made}
+use Rattle.planning.specs.declared.translate.MadeRange.{MadeRange}
 use Rattle.conditions.proofs.Readings.{Below, fits-in, two-lower, range-is}
 use Rattle.emission.proofs.WrittenLaws.{room-after, room-less, last-is, written-as, going-on}
 
@@ -48,7 +48,7 @@ range-wide catalogue stored (rangeAnd a b) good = range-wide catalogue stored a 
 range-wide catalogue stored (rangeAndNot a b) good = range-wide catalogue stored a (good .0)
 
 -- a call on a reference of a node
-pub lower-call : (words : List ℕ) {t reference lower : ℕ} {Ready : Type 0} → 3 * reference ≤ t → Names words reference → Below reference lower → Ready → (3 * lower < t) × (Names words lower × Ready)
+pub lower-call : (words : List ℕ) {t reference lower : ℕ} {Ready : Type 0} → 2 * reference ≤ t → Names words reference → Below reference lower → Ready → (2 * lower < t) × (Names words lower × Ready)
 lower-call words h names below ready = (omega (arith, names .0, below .1), ((below .0, omega (arith, names .1, below .1)), ready))
 
 -- a range of two ranges, whose node in a plan is `node`
@@ -92,23 +92,23 @@ module _ (catalogue words : List ℕ) where
     and-not-sides e = sides-as (range-is words reference (RangeAndNot left right) named e) (fits-in words (reference - 1) e) refl refl (λ g. (g .0, g .1)) (λ short n. refl)
 
 -- from what the whole was asked with: the calls on the two sides, room for the node behind them, and what is left
-module _ {catalogue words : List ℕ} {t reference n left right : ℕ} {plan : List ℕ} {node : ℕ → ℕ → Node} (sides : Sides catalogue words node reference left right) (asked : (3 * reference ≡ t) × (Names words reference × RangeReady catalogue plan (rangeAt words reference) n)) where
+module _ {catalogue words : List ℕ} {t reference n left right : ℕ} {plan : List ℕ} {node : ℕ → ℕ → Node} (sides : Sides catalogue words node reference left right) (asked : (2 * reference ≡ t) × (Names words reference × RangeReady catalogue plan (rangeAt words reference) n)) where
   abbrev ready : RangeReady catalogue plan (rangeAt words reference) n
   ready = asked .1 .1
 
-  pub call-left : (3 * left < t) × (Names words left × RangeReady catalogue plan (rangeAt words left) n)
+  pub call-left : (2 * left < t) × (Names words left × RangeReady catalogue plan (rangeAt words left) n)
   call-left =
       lower-call words (omega (arith, asked .0)) (asked .1 .0) (sides .left-below) (record { good = sides .good (ready .good) .0; stored = ready .stored; room = room-less _ (ready .room) (omega (arith, sides .size)) })
 
-  module _ {short : Bool} {middle : List ℕ} {first : Made} (l : RangeDone catalogue short plan (rangeAt words left) n middle first) where
+  module _ {short : Bool} {middle : List ℕ} {first : MadeRange} (l : RangeDone catalogue short plan (rangeAt words left) n middle first) where
     room-right : Room middle (first .count) (4 * rangeNodes (rangeAt words right) + 1)
     room-right = room-after _ (ready .room) (l .written) (omega (arith, sides .size, range-size (columnsOf catalogue) short (rangeAt words left) n))
 
-    pub call-right : (3 * right < t) × (Names words right × RangeReady catalogue middle (rangeAt words right) (first .count))
+    pub call-right : (2 * right < t) × (Names words right × RangeReady catalogue middle (rangeAt words right) (first .count))
     call-right =
         lower-call words (omega (arith, asked .0)) (asked .1 .0) (sides .right-below) (record { good = sides .good (ready .good) .1; stored = ready .stored; room = room-less _ room-right (omega arith) })
 
-    module _ {later : List ℕ} {second : Made} (r : RangeDone catalogue short middle (rangeAt words right) (first .count) later second) where
+    module _ {later : List ℕ} {second : MadeRange} (r : RangeDone catalogue short middle (rangeAt words right) (first .count) later second) where
       pub room-last : Room later (second .count) 1
       room-last = room-after 1 room-right (r .written) (omega (arith, range-size (columnsOf catalogue) short (rangeAt words right) (first .count)))
 
@@ -128,11 +128,11 @@ module _ {catalogue words : List ℕ} {t reference n left right : ℕ} {plan : L
 pub room-one : {catalogue plan : List ℕ} {range : Range} {n : ℕ} → RangeReady catalogue plan range n → Room plan n 1
 room-one {range = range} ready = room-less 1 (ready .room) (omega (arith, some-nodes range))
 
-pub done-as : {catalogue before after : List ℕ} {short : Bool} {n : ℕ} {made : Made} {whole range : Range} → whole ≡ range → RangeDone catalogue short before range n after made → RangeDone catalogue short before whole n after made
+pub done-as : {catalogue before after : List ℕ} {short : Bool} {n : ℕ} {made : MadeRange} {whole range : Range} → whole ≡ range → RangeDone catalogue short before range n after made → RangeDone catalogue short before whole n after made
 done-as {catalogue} {before} {after} {short} {n} {made} e done = subst (λ range. RangeDone catalogue short before range n after made) (sym e) done
 
-pub call-alpha : (catalogue words : List ℕ) {t reference n target binding condition : ℕ} {plan : List ℕ} → Alpha target binding condition ≡ nodeAt words (reference - 1) → (3 * reference ≡ t) × (Names words reference × RangeReady catalogue plan (rangeAt words reference) n)
-    → (3 * max binding condition + 2 < t) × (Inside words target × Names words binding × Inside words condition × RangeReady catalogue plan (alphaOf (targetsAt words target) (bindingsAt words binding) (restrictionAt words condition)) n)
+pub call-alpha : (catalogue words : List ℕ) {t reference n target binding condition : ℕ} {plan : List ℕ} → Alpha target binding condition ≡ nodeAt words (reference - 1) → (2 * reference ≡ t) × (Names words reference × RangeReady catalogue plan (rangeAt words reference) n)
+    → (2 * max binding condition + 1 < t) × (Inside words target × Names words binding × Inside words condition × RangeReady catalogue plan (alphaOf (targetsAt words target) (bindingsAt words binding) (restrictionAt words condition)) n)
 call-alpha catalogue words {t} {reference} {n} {target} {binding} {condition} {plan} e asked =
     let i : ℕ = reference - 1 in
     let names = asked .1 .0 in

@@ -2,7 +2,7 @@
 use Rattle.emission.proofs.NodeListLaws.{numbers-append}
 use Prim.Native.Nat.{ℕ, zero, suc}
 use mathlib.Core.Path.{_≡_, refl, ap}
-use mathlib.Core.List.{List, [], _∷_, _++_}
+use mathlib.Core.List.{List, _∷_, _++_}
 use Rattle.relations.specs.Lists.{flat}
 use Rattle.relations.specs.Columns.{attribute}
 use Rattle.calculus.specs.Question.{Target, wholeRow, oneAttribute}

@@ -10,7 +10,7 @@ ghost use Rattle.question.specs.Trees.{targetOf};
 ghost use Rattle.conditions.specs.Readings.{Inside, targetsAt};
 ghost use Rattle.conditions.specs.Scopes.{scopeOf, ScopeFits};
 ghost use Rattle.emission.specs.NodeLists.{grownBy, numbersOf};
-use conditions::scope::Scope;
+use conditions::scope::CarriedScope;
 use conditions::scope::column_number;
 use conditions::scope::width_in;
 use emission::node_list::NodeList;
@@ -20,7 +20,7 @@ use nodes::node::Node;
 use nodes::node::decode;
 
 // A target's columns behind those of the list; attribute 0 is the whole row.
-fn with_target(scope: Scope, variable: u32, attribute: u32, list: NodeList) -> NodeList
+fn with_target(scope: CarriedScope, variable: u32, attribute: u32, list: NodeList) -> NodeList
     requires { ⌜ ScopeFits scope × GoodTarget (scopeOf scope) (targetOf variable attribute) × (list .used + length (targetColumns (scopeOf scope) (targetOf variable attribute)) ≤ listWords) ⌝ }
     ensures { λ r. ⌜ r ≡ grownBy list (numbersOf (targetColumns (scopeOf scope) (targetOf variable attribute))) ⌝ }
 {
@@ -34,7 +34,7 @@ fn with_target(scope: Scope, variable: u32, attribute: u32, list: NodeList) -> N
     with_word(list, column_number(scope, variable, attribute))
 }
 
-pub fn with_targets(words: &[u32], reference: u32, scope: Scope, list: NodeList) -> NodeList
+pub fn with_targets(words: &[u32], reference: u32, scope: CarriedScope, list: NodeList) -> NodeList
     requires { ⌜ Inside (now words) reference × ScopeFits scope × All (GoodTarget (scopeOf scope)) (targetsAt (now words) reference) × (list .used + length (flat (targetColumns (scopeOf scope)) (targetsAt (now words) reference)) ≤ listWords) ⌝ }
     ensures { λ r. ⌜ r ≡ grownBy list (numbersOf (flat (targetColumns (scopeOf scope)) (targetsAt (now (words .entry)) reference))) ⌝ }
 {

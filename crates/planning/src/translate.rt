@@ -1,12 +1,8 @@
 // Translation: a range, the parts of an alpha and a condition call each other. Each function has a number of its own that falls at each call:
-// three times the greatest reference that it is handed, and one or two more where it hands that reference on.
+// twice the reference of the node that it is handed, or one more than twice the greatest of the references of a node's parts.
 ghost use mathlib.Core.Path.{_≡_};
 ghost use mathlib.Core.Bool.{true, _||_};
-ghost use mathlib.Core.List.{[], _∷_};
-ghost use Prim.Native.Nat.{suc, pred};
 ghost use Rattle.calculus.specs.Question as calculus;
-ghost use Rattle.calculus.specs.Scope as scopes;
-ghost use Rattle.relations.specs.Nodes as nodes;
 ghost use Rattle.calculus.specs.ShortRules.{shortRule3Fits, shortRule5Fits, shortRule6Fits};
 ghost use Rattle.calculus.specs.Translation.{itself, itsOpposite, divisionBy, translateMaybe, translateCondition};
 ghost use Rattle.catalogue.specs.Stored.{columnsOf};
@@ -14,11 +10,11 @@ ghost use Rattle.question.specs.Trees.{alphaOf};
 ghost use Rattle.conditions.specs.Readings.{Inside, Names, rangeAt, targetsAt, bindingsAt, restrictionAt, conditionAt};
 ghost use Rattle.conditions.specs.Scopes.{scopeOf};
 ghost use Rattle.emission.specs.Written.{Room, Written};
-ghost use Rattle.planning.specs.Translating.{RangeReady, RangeDone, BindingsReady, BindingsDone, ConditionReady, InsideReady, DivisionReady};
+ghost use Rattle.planning.specs.Translating.{RangeReady, RangeDone, BindingsReady, BindingsDone, ConditionReady, DivisionReady};
 use crate::targets::with_targets;
 use catalogue::stored::columns_of;
 use conditions::leaves::leaves_of;
-use conditions::scope::Scope;
+use conditions::scope::CarriedScope;
 use conditions::scope::empty;
 use conditions::scope::extend;
 use emission::emit::intersect;
@@ -44,7 +40,7 @@ use short_rules::rules::write_short_rule_5;
 use short_rules::rules::write_short_rule_6;
 
 // How many nodes the plan has behind a range, and the range's width.
-pub struct Made {
+pub struct MadeRange {
     pub count: u32,
     pub width: u32,
 }
@@ -52,16 +48,22 @@ pub struct Made {
 // How many nodes the plan has behind the products of bindings, and the scope that they make.
 pub struct Bound {
     pub count: u32,
-    pub scope: Scope,
+    pub scope: CarriedScope,
 }
 
 // Table: load.
-fn translate_table(catalogue: &[u32], short: bool, relation: u32, plan: &mut [u32], n: u32) -> Made
+fn translate_table(
+    catalogue: &[u32],
+    short: bool,
+    relation: u32,
+    plan: &mut [u32],
+    n: u32,
+) -> MadeRange
     requires { ⌜ Room (now plan) n 1 ⌝ }
     ensures { λ r. ⌜ RangeDone (now (catalogue .entry)) short (now (plan .entry)) (calculus.table relation) n (now (plan .exit)) r ⌝ }
 {
     let count = load(plan, n, relation);
-    Made {
+    MadeRange {
         count,
         width: columns_of(catalogue, relation as usize),
     }
@@ -75,7 +77,7 @@ pub fn translate_range(
     reference: u32,
     plan: &mut [u32],
     n: u32,
-) -> Made
+) -> MadeRange
     requires { ⌜ Names (now words) reference × RangeReady (now catalogue) (now plan) (rangeAt (now words) reference) n ⌝ }
     ensures { λ r. ⌜ RangeDone (now (catalogue .entry)) short (now (plan .entry)) (rangeAt (now (words .entry)) reference) n (now (plan .exit)) r ⌝ }
 {
@@ -91,7 +93,7 @@ pub fn translate_range(
             let first = translate_range(catalogue, words, short, left, plan, n);
             let second = translate_range(catalogue, words, short, right, plan, first.count);
             let count = unite(plan, second.count, first.count - 1, second.count - 1);
-            Made {
+            MadeRange {
                 count,
                 width: first.width,
             }
@@ -100,7 +102,7 @@ pub fn translate_range(
             let first = translate_range(catalogue, words, short, left, plan, n);
             let second = translate_range(catalogue, words, short, right, plan, first.count);
             let count = intersect(plan, second.count, first.count - 1, second.count - 1);
-            Made {
+            MadeRange {
                 count,
                 width: first.width,
             }
@@ -109,7 +111,7 @@ pub fn translate_range(
             let first = translate_range(catalogue, words, short, left, plan, n);
             let second = translate_range(catalogue, words, short, right, plan, first.count);
             let count = subtract(plan, second.count, first.count - 1, second.count - 1);
-            Made {
+            MadeRange {
                 count,
                 width: first.width,
             }
@@ -128,7 +130,7 @@ fn translate_alpha(
     condition: u32,
     plan: &mut [u32],
     n: u32,
-) -> Made
+) -> MadeRange
     requires { ⌜ Inside (now words) target × Names (now words) binding × Inside (now words) condition × RangeReady (now catalogue) (now plan) (alphaOf (targetsAt (now words) target) (bindingsAt (now words) binding) (restrictionAt (now words) condition)) n ⌝ }
     ensures { λ r. ⌜ RangeDone (now (catalogue .entry)) short (now (plan .entry)) (alphaOf (targetsAt (now (words .entry)) target) (bindingsAt (now (words .entry)) binding) (restrictionAt (now (words .entry)) condition)) n (now (plan .exit)) r ⌝ }
 {
@@ -166,7 +168,7 @@ fn translate_alpha(
             );
             let columns = with_targets(words, target, scope, no_list());
             let count = write_project(short, scope.columns, kept - 1, columns, plan, kept);
-            Made {
+            MadeRange {
                 count,
                 width: columns.used,
             }
@@ -181,7 +183,7 @@ fn translate_bindings(
     words: &[u32],
     short: bool,
     reference: u32,
-    scope: Scope,
+    scope: CarriedScope,
     p: u32,
     plan: &mut [u32],
     n: u32,
@@ -215,7 +217,7 @@ fn translate_condition(
     words: &[u32],
     short: bool,
     reference: u32,
-    scope: Scope,
+    scope: CarriedScope,
     p: u32,
     plan: &mut [u32],
     n: u32,
@@ -296,7 +298,7 @@ fn translate_opposite(
     words: &[u32],
     short: bool,
     reference: u32,
-    scope: Scope,
+    scope: CarriedScope,
     p: u32,
     plan: &mut [u32],
     n: u32,
@@ -329,27 +331,6 @@ fn translate_opposite(
     }
 }
 
-// The product of P with a range of x, which is so wide and stands before node n, and T of the condition on it.
-fn translate_inside(
-    catalogue: &[u32],
-    words: &[u32],
-    short: bool,
-    x: u32,
-    width: u32,
-    condition: u32,
-    scope: Scope,
-    p: u32,
-    plan: &mut [u32],
-    n: u32,
-) -> u32
-    requires { ⌜ Names (now words) condition × InsideReady (now catalogue) (now plan) x width (conditionAt (now words) condition) scope n ⌝ }
-    ensures { λ r. ⌜ Written (now (plan .entry)) n (nodes.join p (pred n) [] ∷ translateCondition (columnsOf (now (catalogue .entry))) short (conditionAt (now (words .entry)) condition) itself (scopes.extend (scopeOf scope) x width) n (suc n)) (now (plan .exit)) r ⌝ }
-{
-    let inner = extend(scope, x, width);
-    let count = product(plan, n, p, n - 1);
-    translate_condition(catalogue, words, short, condition, inner, n, plan, count)
-}
-
 // Some: S2; else range, product with P, T, project to P's columns.
 fn translate_some(
     catalogue: &[u32],
@@ -358,7 +339,7 @@ fn translate_some(
     x: u32,
     range: u32,
     condition: u32,
-    scope: Scope,
+    scope: CarriedScope,
     p: u32,
     plan: &mut [u32],
     n: u32,
@@ -373,18 +354,9 @@ fn translate_some(
         return write_short_rule_2(words, scope, x, made.width, leaves, p, plan, q);
     }
     let columns = with_columns(no_list(), 1, scope.columns);
-    let meeting = translate_inside(
-        catalogue,
-        words,
-        short,
-        x,
-        made.width,
-        condition,
-        scope,
-        p,
-        plan,
-        q,
-    );
+    let inner = extend(scope, x, made.width);
+    let count = product(plan, q, p, q - 1);
+    let meeting = translate_condition(catalogue, words, short, condition, inner, q, plan, count);
     project(plan, meeting, meeting - 1, columns)
 }
 
@@ -396,7 +368,7 @@ fn translate_division(
     y: u32,
     k: u32,
     reference: u32,
-    scope: Scope,
+    scope: CarriedScope,
     p: u32,
     plan: &mut [u32],
     n: u32,
@@ -438,7 +410,7 @@ fn translate_every(
     x: u32,
     range: u32,
     condition: u32,
-    scope: Scope,
+    scope: CarriedScope,
     p: u32,
     plan: &mut [u32],
     n: u32,
@@ -467,18 +439,9 @@ fn translate_every(
         );
     }
     let columns = with_columns(no_list(), 1, scope.columns);
-    let meeting = translate_inside(
-        catalogue,
-        words,
-        short,
-        x,
-        made.width,
-        condition,
-        scope,
-        p,
-        plan,
-        q,
-    );
+    let inner = extend(scope, x, made.width);
+    let count = product(plan, q, p, q - 1);
+    let meeting = translate_condition(catalogue, words, short, condition, inner, q, plan, count);
     let failing = subtract(plan, meeting, q, meeting - 1);
     let failed = project(plan, failing, meeting, columns);
     subtract(plan, failed, p, failing)

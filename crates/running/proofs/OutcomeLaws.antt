@@ -18,7 +18,7 @@ use Rattle.values.specs.declared.rows.Value.{Value}
 use Rattle.values.proofs.RowsLaws.{row-inside, length-rowsAt, words-rowsAt}
 use Rattle.plans.specs.Judging.{planJudgement, nodesOfPlan}
 use Rattle.plans.specs.declared.judging.PlanJudgement.the-variants.{Legal, Illegal}
-use Rattle.running.specs.RunCall.{RunNumbers, runRefusal, RunOutcome, capacityOf, cleared, Fit, fits, passesAt, answerRows, answerWidth, fitWithin, ranOutcome, refused, runOutcome}
+use Rattle.running.specs.RunCall.{RunNumbers, runRefusal, RunOutcome, capacityOf, cleared, Fit, fits, passesAt, answerRows, lastPlace, answerWidth, fitWithin, stopped, answered, ranOutcome, refused, runOutcome}
 use Rattle.running.specs.PlanRun.{Answered, PlanRun}
 use Rattle.running.specs.declared.Worked.{Worked}
 use Rattle.running.specs.declared.Worked.the-variants.{Answer, NoRoom}
@@ -64,6 +64,23 @@ module _ (catalogue tables : List ℕ) (plan : List Node) (work after : List ℕ
           row-inside after (value .base) (value .rows * value .width) (ran-answer .inside)
           ∙ sym (words-rowsAt (value .width) (value .rows) (value .base) after) ∙ ap wordsOf (ran-answer .rows) in
           rw (fit, ← words, le-ltb (length output) (value .rows * value .width) room′, stored, answer, ← nodes-are, ran-answer .heavy, ran-answer .room, ran-answer .width, many)
+
+-- what is left of the work area goes into the outcome as it is
+pub ran-with : (catalogue tables : List ℕ) (plan : List Node) (f : List ℕ → List ℕ) (work output : List ℕ) (fit : Fit) {numbers : RunNumbers} {left written : List ℕ}
+    → _≡_ {A = RunOutcome} (record { numbers = numbers; work = left; output = written }) (ranOutcome catalogue tables plan work output fit)
+    → _≡_ {A = RunOutcome} (record { numbers = numbers; work = f left; output = written }) (ranOutcome catalogue tables plan (f work) output fit)
+ran-with catalogue tables plan f work output fit e = ap through e ∙ go fit
+  where
+    through : RunOutcome → RunOutcome
+    through ran = record { numbers = ran .numbers; work = f (ran .work); output = ran .output }
+
+    pick : (b : Bool) → through (cond b (stopped catalogue tables plan work output 11 (lastPlace catalogue tables plan)) (answered catalogue tables plan work output)) ≡ cond b (stopped catalogue tables plan (f work) output 11 (lastPlace catalogue tables plan)) (answered catalogue tables plan (f work) output)
+    pick true = refl
+    pick false = refl
+
+    go : (fit : Fit) → through (ranOutcome catalogue tables plan work output fit) ≡ ranOutcome catalogue tables plan (f work) output fit
+    go (passesAt place) = refl
+    go fits = pick (ltb (length output) (valueWords (answerWidth catalogue tables plan) (answerRows catalogue tables plan)))
 
 -- The whole call.
 module _ (catalogue tables plan work output : List ℕ) where

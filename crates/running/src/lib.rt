@@ -1,7 +1,6 @@
 // A plan from anyone, judged and run over lent tables.
 ghost use mathlib.Core.Path.{_≡_};
 ghost use mathlib.Core.Bool.{true};
-ghost use mathlib.Core.List.{List, _++_};
 ghost use Prim.Native.Nat.{ℕ, _≤_};
 ghost use lib.ListN.{length, replicate};
 ghost use Rattle.catalogue.specs.Judging.{tablesOk};
@@ -118,7 +117,7 @@ fn hand_out(
     output: &mut [u32],
 ) -> Ran
     requires { ⌜ (tablesOk (now catalogue) (now tables) ≡ true) × (planJudgement (now catalogue) (now plan) ≡ PlanJudgement.Legal nodes) × Blank 0 (now work) ⌝ }
-    ensures { λ r. ⌜ ((left : List ℕ) → record { numbers = runNumbers r; work = left; output = now (output .exit) } ≡ ranOutcome (now (catalogue .entry)) (now (tables .entry)) (nodesOfPlan (now (plan .entry))) left (now (output .entry)) (fitWithin (now (catalogue .entry)) (now (tables .entry)) (nodesOfPlan (now (plan .entry))) (length (now (work .entry))))) ⌝ }
+    ensures { λ r. ⌜ record { numbers = runNumbers r; work = now (work .exit); output = now (output .exit) } ≡ ranOutcome (now (catalogue .entry)) (now (tables .entry)) (nodesOfPlan (now (plan .entry))) (now (work .exit)) (now (output .entry)) (fitWithin (now (catalogue .entry)) (now (tables .entry)) (nodesOfPlan (now (plan .entry))) (length (now (work .entry)))) ⌝ }
 {
     match run_nodes(catalogue, tables, plan, nodes, work) {
         Worked::Answer { value, heavy, room } => {
@@ -151,7 +150,7 @@ fn run_legal(
     output: &mut [u32],
 ) -> Ran
     requires { ⌜ (tablesOk (now catalogue) (now tables) ≡ true) × (planJudgement (now catalogue) (now plan) ≡ PlanJudgement.Legal nodes) ⌝ }
-    ensures { λ r. ⌜ ((behind : List ℕ) → record { numbers = runNumbers r; work = now (work .exit) ++ behind; output = now (output .exit) } ≡ ranOutcome (now (catalogue .entry)) (now (tables .entry)) (nodesOfPlan (now (plan .entry))) (replicate (length (now (work .entry))) 0 ++ behind) (now (output .entry)) (fitWithin (now (catalogue .entry)) (now (tables .entry)) (nodesOfPlan (now (plan .entry))) (length (now (work .entry))))) ⌝ }
+    ensures { λ r. ⌜ record { numbers = runNumbers r; work = now (work .exit); output = now (output .exit) } ≡ ranOutcome (now (catalogue .entry)) (now (tables .entry)) (nodesOfPlan (now (plan .entry))) (replicate (length (now (work .entry))) 0) (now (output .entry)) (fitWithin (now (catalogue .entry)) (now (tables .entry)) (nodesOfPlan (now (plan .entry))) (length (now (work .entry)))) ⌝ }
 {
     clear_from(work, 0);
     let ran = hand_out(catalogue, tables, plan, nodes, work, output);

@@ -11,7 +11,7 @@ ghost use Rattle.relations.specs.PlanWords.{readNode};
 ghost use Rattle.catalogue.specs.Judging.{tablesOk};
 ghost use Rattle.values.specs.Words.{rowsOf, end};
 ghost use Rattle.values.specs.Building.{Builds, Blank, Makes};
-ghost use Rattle.operations.specs.Lists.{operatorNamed};
+ghost use Rattle.operations.specs.Lists.{attributeIn, constantIn, operatorNamed};
 ghost use Rattle.catalogue.specs.Stored.{relationsOf, columnsOf, storedTables};
 ghost use Rattle.plans.specs.Decoding.{operationIn, decoded};
 ghost use Rattle.plans.specs.Judging.{legalRead};
@@ -22,9 +22,10 @@ use catalogue::stored::columns_of;
 use catalogue::stored::rows_of;
 use catalogue::stored::start_of;
 use division::divide::divide;
+use operations::columns::Attribute;
 use operations::columns::Constant;
+use operations::columns::operator_of;
 use operations::columns::triple_at;
-use operations::copy::load;
 use operations::copy::unite;
 use operations::join::join;
 use operations::keep::intersect;
@@ -34,6 +35,7 @@ use operations::keep::subtract;
 use operations::keyed::antijoin;
 use operations::keyed::semijoin;
 use operations::project::project;
+use ordering::sorted::load;
 use plans::legal::width_of;
 use plans::limits::HEAD_WORDS;
 use plans::nodes::Decoded;
@@ -91,14 +93,31 @@ fn load_relation(
     load(tables, work, Value { base, rows, width }, out)
 }
 
+// An attribute's number and a constant, as the words of a list have them.
+fn attribute_at(list: &[u32], place: usize) -> Attribute
+    requires { ⌜ place < length (now list) ⌝ }
+    ensures { λ r. ⌜ attributeIn r ≡ meaning.attribute (getD (now (list .entry)) place 0) ⌝ }
+{
+    Attribute(list[place])
+}
+
+fn constant_at(list: &[u32], place: usize) -> Constant
+    requires { ⌜ place < length (now list) ⌝ }
+    ensures { λ r. ⌜ constantIn r ≡ meaning.constant (getD (now (list .entry)) place 0) ⌝ }
+{
+    Constant(list[place])
+}
+
 // Operation 3, by the words of its list.
 fn select_by_constant(list: &[u32], work: &mut [u32], left: Value, out: usize) -> Placed
     requires { ⌜ (3 ≤ length (now list)) × (0 < left .width) × (end left ≤ out) × (out ≤ length (now work)) ⌝ }
     ensures { λ r. ⌜ Builds (left .width) out 0 (selectConstantCandidates (meaning.attribute (getD (now (list .entry)) 0 0)) (operatorNamed (getD (now (list .entry)) 1 0)) (meaning.constant (getD (now (list .entry)) 2 0)) (rowsOf left (now (work .entry)))) (now (work .entry)) (now (work .exit)) r ⌝ }
 {
-    let triple = triple_at(list, 0);
-    let operator = triple.operator;
-    select_constant(work, left, triple.left, operator, Constant(list[2]), out)
+    let attribute = attribute_at(list, 0);
+    let code = list[1];
+    let operator = operator_of(code);
+    let constant = constant_at(list, 2);
+    select_constant(work, left, attribute, operator, constant, out)
 }
 
 // Operation 4, by the words of its list.

@@ -3,7 +3,7 @@ use Rattle.calculus.proofs.SizeTheorem.{selects-size, projects-size}
 use Prim.Native.Nat.{ℕ, suc, _+_, _*_, _-_, _≤_, _<_, pred, _/_}
 use mathlib.Core.Path.{_≡_, refl, sym, ap, ap₂, _∙_}
 use mathlib.Core.Bool.{Bool, true, false, not, cond, _&&_, false≢true, and-assoc}
-use mathlib.Core.List.{List, [], _∷_, _++_, map}
+use mathlib.Core.List.{List, [], _∷_, _++_, map, append-assoc}
 use native.Mathlib.Omega.{arith}
 use lib.Dec.{eqb}
 use lib.ListN.{length, length-map, length-append}
@@ -12,22 +12,25 @@ use Rattle.relations.specs.Limits.{tripleLimit, listWords}
 use Rattle.relations.specs.Comparison.{Operator, operatorNumber, turned}
 use Rattle.relations.specs.PlanWords.{tripleWords, pairWords}
 use Rattle.relations.proofs.ListLaws.{length-flat}
-use Rattle.calculus.specs.Leaves.{aloneOn, comparesWithOther, ownAttribute, otherVariable, otherAttribute, equatesWith, equatesOutside}
-use Rattle.calculus.specs.ShortRules.{lastNumber, selectNodes, projectNodes, tripleOf, triplesOf, outsideTriples, divisionPairs, shortRule5Columns}
+use Rattle.calculus.specs.Leaves.{oppositeAtom, aloneOn, comparesWithOther, ownAttribute, otherVariable, otherAttribute, equatesWith, equatesOutside}
+use Rattle.calculus.specs.ShortRules.{lastNumber, selectNodes, projectNodes, tripleOf, triplesOf, restrictedRange, outsideTriples, divisionPairs, shortRule5Columns}
 use Rattle.relations.specs.Columns.{Attribute, Triple, Pair}
 use Rattle.relations.specs.Lists.{all, filter, flat}
 use Rattle.relations.specs.Nodes.{Node, semijoin, antijoin, divide, unite}
 use Rattle.calculus.specs.Question as calculus
 use Rattle.calculus.specs.Scope.{entry, Scope, columnNumber}
 use Rattle.conditions.specs.Entries.{entries}
-use Rattle.conditions.specs.Leaves.{leafAt}
+use Rattle.conditions.specs.Leaves.{leafAt, atomsOf, opposites}
+use Rattle.conditions.specs.declared.scope.CarriedScope.{CarriedScope}
+use Rattle.conditions.proofs.LeafLaws.{opposite-atoms}
+use Rattle.calculus.proofs.LegalColumns.{few-opposite}
 use Rattle.emission.specs.NodeLists.{nodeList, numbersOf}
 use Rattle.emission.specs.declared.node_list.NodeList.{NodeList}
 use Rattle.emission.specs.Written.{Written}
-use Rattle.short_rules.specs.Rules.{selectsBehind, dividendBehind}
+use Rattle.short_rules.specs.Rules.{dividendNodes, RuleFits}
 use Rattle.conditions.specs.declared.leaves.Leaves.{Leaves}
 use Rattle.conditions.proofs.EntryLaws.{entries-step}
-use Rattle.emission.proofs.WrittenLaws.{written-then, last-is, written-as}
+use Rattle.emission.proofs.WrittenLaws.{written-then, last-is, written-as, room-less}
 
 -- the next leaf of so many
 module _ (words : List ℕ) (collected : Leaves) where
@@ -144,6 +147,36 @@ pub outside-size : (s : Scope) (z : ℕ) (atoms : List calculus.Atom) (column : 
 outside-size s z [] column = refl
 outside-size s z (a ∷ atoms) column = omega (arith, outside-size s z atoms (suc column))
 
+-- S4 is S3 on the opposites, which are as many of each kind
+
+alone-opposite : (x : ℕ) (atoms : List calculus.Atom) → length (filter (aloneOn x) (map oppositeAtom atoms)) ≡ length (filter (aloneOn x) atoms)
+alone-opposite x [] = refl
+alone-opposite x (a ∷ atoms) = go a (alone-opposite x atoms)
+  where
+    each : (b : Bool) (p q : calculus.Atom) → length (filter (aloneOn x) (map oppositeAtom atoms)) ≡ length (filter (aloneOn x) atoms) → length (cond b (p ∷ filter (aloneOn x) (map oppositeAtom atoms)) (filter (aloneOn x) (map oppositeAtom atoms))) ≡ length (cond b (q ∷ filter (aloneOn x) atoms) (filter (aloneOn x) atoms))
+    each true p q same = ap suc same
+    each false p q same = same
+
+    go : (b : calculus.Atom) → length (filter (aloneOn x) (map oppositeAtom atoms)) ≡ length (filter (aloneOn x) atoms) → length (filter (aloneOn x) (oppositeAtom b ∷ map oppositeAtom atoms)) ≡ length (filter (aloneOn x) (b ∷ atoms))
+    go (calculus.compare v attribute o (calculus.fixed c)) same = each (aloneOn x (calculus.compare v attribute o (calculus.fixed c))) (oppositeAtom (calculus.compare v attribute o (calculus.fixed c))) (calculus.compare v attribute o (calculus.fixed c)) same
+    go (calculus.compare v attribute o (calculus.ofVariable w other)) same = each (aloneOn x (calculus.compare v attribute o (calculus.ofVariable w other))) (oppositeAtom (calculus.compare v attribute o (calculus.ofVariable w other))) (calculus.compare v attribute o (calculus.ofVariable w other)) same
+
+pub opposites-ready : {words plan : List ℕ} {scope : CarriedScope} {leaves : Leaves} {x width n : ℕ} → RuleFits words plan scope leaves x width n 1 × (length (filter (comparesWithOther x) (atomsOf words leaves)) ≤ tripleLimit) × (leaves .opposite ≡ false)
+    → RuleFits words plan scope (opposites leaves) x width n 1 × (length (filter (comparesWithOther x) (atomsOf words (opposites leaves))) ≤ tripleLimit)
+opposites-ready {words} {leaves = leaves} {x = x} h =
+    let e : atomsOf words (opposites leaves) ≡ map oppositeAtom (atomsOf words leaves) = opposite-atoms words leaves (h .2) in
+    let r = h .0 in (
+      record {
+        scope-fits = r .scope-fits;
+        leaves-fit = record { few = r .leaves-fit .few; inside = r .leaves-fit .inside };
+        some-columns = r .some-columns;
+        few-columns = r .few-columns;
+        some-nodes = r .some-nodes;
+        room = room-less _ (r .room) (omega (arith, ap (λ (atoms : List calculus.Atom). length (filter (aloneOn x) atoms)) e, alone-opposite x (atomsOf words leaves)));
+      },
+      omega (arith, h .1, ap (λ (atoms : List calculus.Atom). length (filter (comparesWithOther x) atoms)) e, few-opposite x (atomsOf words leaves)),
+    )
+
 -- S5's columns: those of the equations with a variable outside stand first
 module _ (s : Scope) (z y : ℕ) (atoms : List calculus.Atom) {triples : NodeList} (outside : triples ≡ nodeList (flat tripleWords (outsideTriples s z (filter (equatesOutside z y) atoms) 1))) where
   pub outside-count : triples .used / 3 + 1 ≡ suc (length (filter (equatesOutside z y) atoms))
@@ -155,9 +188,28 @@ module _ (s : Scope) (z y : ℕ) (atoms : List calculus.Atom) {triples : NodeLis
 pub own-size : (z : ℕ) (atoms : List calculus.Atom) → length (numbersOf (map (ownAttribute z) atoms)) ≡ length atoms
 own-size z atoms = length-map (map (ownAttribute z) atoms) (λ a. a .number) ∙ length-map atoms (ownAttribute z)
 
--- as many selects as atoms
-pub behind-size : (x width : ℕ) (atoms : List calculus.Atom) (n : ℕ) → length (selectsBehind x width atoms n) ≡ length (filter (aloneOn x) atoms)
-behind-size x width atoms n = selects-size (filter (aloneOn x) atoms) (entry x width ∷ []) (pred n) n
+-- the selects behind a range that stands there already
+pub own-selects : (x width : ℕ) (atoms : List calculus.Atom) (n : ℕ) → restrictedRange x width atoms [] n ≡ selectNodes (entry x width ∷ []) (filter (aloneOn x) atoms) (pred n) n
+own-selects x width atoms n =
+    let e : n + 0 ≡ n = omega arith in
+    rw e
+
+-- as many as atoms
+pub behind-size : (x width : ℕ) (atoms : List calculus.Atom) (n : ℕ) → length (restrictedRange x width atoms [] n) ≡ length (filter (aloneOn x) atoms)
+behind-size x width atoms n = ap length (own-selects x width atoms n) ∙ selects-size (filter (aloneOn x) atoms) (entry x width ∷ []) (pred n) n
+
+-- nodes that go by the count of those before them, behind a range and more
+pub behind-range : (range more : List Node) (n : ℕ) (nodes : ℕ → List Node) → (range ++ more) ++ nodes (n + length (range ++ more)) ≡ range ++ (more ++ nodes (n + length range + length more))
+behind-range range more n nodes =
+    let e : n + length (range ++ more) ≡ n + length range + length more = omega (arith, length-append range more) in
+    append-assoc range more _ ∙ ap (λ (m : ℕ). range ++ (more ++ nodes m)) e
+
+-- what a rule writes is its range's nodes, then what it writes behind them
+pub rule-behind : (range : List Node) (x width : ℕ) (atoms : List calculus.Atom) (n : ℕ) (nodes : ℕ → List Node)
+    → restrictedRange x width atoms range n ++ nodes (n + length (restrictedRange x width atoms range n)) ≡ range ++ (restrictedRange x width atoms [] (n + length range) ++ nodes (n + length range + length (restrictedRange x width atoms [] (n + length range))))
+rule-behind range x width atoms n nodes =
+    ap (λ (selects : List Node). (range ++ selects) ++ nodes (n + length (range ++ selects))) (sym (own-selects x width atoms (n + length range)))
+    ∙ behind-range range (restrictedRange x width atoms [] (n + length range)) n nodes
 
 pub not-false : (b : Bool) → not b ≡ false → b ≡ true
 not-false true h = refl
@@ -165,9 +217,9 @@ not-false false h = sym h
 
 -- S5's nodes
 
-pub dividend-size : (y z width : ℕ) (atoms : List calculus.Atom) (n : ℕ) → length (dividendBehind y z width atoms n) ≤ length (filter (aloneOn z) atoms) + 1
+pub dividend-size : (y z width : ℕ) (atoms : List calculus.Atom) (n : ℕ) → length (dividendNodes y z width atoms n) ≤ length (filter (aloneOn z) atoms) + 1
 dividend-size y z width atoms n =
-    omega (arith, behind-size z width atoms n, projects-size true width (lastNumber n (selectsBehind z width atoms n)) (shortRule5Columns z y atoms), length-append (selectsBehind z width atoms n) (projectNodes true width (lastNumber n (selectsBehind z width atoms n)) (shortRule5Columns z y atoms)))
+    omega (arith, behind-size z width atoms n, projects-size true width (lastNumber n (restrictedRange z width atoms [] n)) (shortRule5Columns z y atoms), length-append (restrictedRange z width atoms [] n) (projectNodes true width (lastNumber n (restrictedRange z width atoms [] n)) (shortRule5Columns z y atoms)))
 
 module _ {k p : ℕ} {pairs : List Pair} {triples : List Triple} where
   four : {h i j l h′ i′ j′ l′ : ℕ} → h ≡ h′ → i ≡ i′ → j ≡ j′ → l ≡ l′ → divide h k pairs ∷ semijoin p i triples ∷ antijoin p k [] ∷ unite j l ∷ [] ≡ divide h′ k pairs ∷ semijoin p i′ triples ∷ antijoin p k [] ∷ unite j′ l′ ∷ []

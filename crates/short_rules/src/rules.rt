@@ -1,5 +1,6 @@
 // The nodes that each of the short rules writes.
 ghost use mathlib.Core.Path.{_≡_};
+ghost use mathlib.Core.Bool.{false};
 ghost use mathlib.Core.List.{[], _∷_, map};
 ghost use Prim.Native.Nat.{_+_, _≤_, _<_, pred};
 ghost use lib.ListN.{length};
@@ -7,16 +8,15 @@ ghost use Rattle.relations.specs.Limits.{columnLimit, listWords, tripleLimit, p
 ghost use Rattle.relations.specs.Lists.{flat, filter};
 ghost use Rattle.relations.specs.PlanWords.{tripleWords, pairWords};
 ghost use Rattle.calculus.specs.Leaves.{aloneOn, comparesWithOther, equatesWith, equatesOutside, ownAttribute};
-ghost use Rattle.calculus.specs.ShortRules.{selectNode, selectNodes, projectNodes, triplesOf, outsideTriples, divisionPairs, shortRule6Nodes};
+ghost use Rattle.calculus.specs.ShortRules.{selectNode, selectNodes, projectNodes, triplesOf, restrictedRange, shortRule2Nodes, shortRule3Nodes, shortRule4Nodes, outsideTriples, divisionPairs, shortRule5Nodes, shortRule6Nodes};
 ghost use Rattle.question.specs.Trees.{atomOf};
 ghost use Rattle.conditions.specs.Scopes.{scopeOf, ScopeFits};
 ghost use Rattle.conditions.specs.Atoms.{AtomNarrow};
 ghost use Rattle.conditions.specs.Leaves.{atomsOf, LeavesFit};
-ghost use Rattle.conditions.specs.Leaves as specs;
 ghost use Rattle.short_rules.specs.Rules as rules;
 ghost use Rattle.emission.specs.NodeLists.{nodeList, grownBy, numbersOf, attributesIn, ListsAttributes};
 ghost use Rattle.emission.specs.Written.{Room, Written};
-ghost use Rattle.short_rules.specs.Rules.{selectsBehind, semijoinBehind, antijoinBehind, dividendBehind, divisionBehind, RuleFits, DividendFits};
+ghost use Rattle.short_rules.specs.Rules.{dividendNodes, RuleFits, DividendFits};
 use crate::fits::once;
 use crate::fits::short_rule_1_fits;
 use conditions::atom::alone_on;
@@ -31,7 +31,7 @@ use conditions::atom::turned;
 use conditions::leaves::Leaves;
 use conditions::leaves::leaf;
 use conditions::leaves::opposites;
-use conditions::scope::Scope;
+use conditions::scope::CarriedScope;
 use conditions::scope::column_of;
 use conditions::scope::empty;
 use conditions::scope::extend;
@@ -53,7 +53,7 @@ use nodes::node::Attribute;
 use nodes::node::Operand;
 
 // Atom: select. A select keeps the atom's sides.
-pub fn write_select(scope: Scope, atom: Atom, p: u32, plan: &mut [u32], n: u32) -> u32
+pub fn write_select(scope: CarriedScope, atom: Atom, p: u32, plan: &mut [u32], n: u32) -> u32
     requires { ⌜ ScopeFits scope × AtomNarrow atom × Room (now plan) n 1 ⌝ }
     ensures { λ r. ⌜ Written (now (plan .entry)) n (selectNode (scopeOf scope) p (atomOf atom) ∷ []) (now (plan .exit)) r ⌝ }
 {
@@ -81,7 +81,7 @@ pub fn write_select(scope: Scope, atom: Atom, p: u32, plan: &mut [u32], n: u32) 
 }
 
 // The triple of an atom that compares x with another variable: P's column is on the left, and the operator is turned when the sides are.
-fn with_triple_of(list: NodeList, scope: Scope, x: u32, atom: Atom) -> NodeList
+fn with_triple_of(list: NodeList, scope: CarriedScope, x: u32, atom: Atom) -> NodeList
     requires { ⌜ ScopeFits scope × AtomNarrow atom × (list .used + length (flat tripleWords (triplesOf (scopeOf scope) x (atomOf atom ∷ []))) ≤ listWords) ⌝ }
     ensures { λ r. ⌜ r ≡ grownBy list (flat tripleWords (triplesOf (scopeOf scope) x (atomOf atom ∷ []))) ⌝ }
 {
@@ -96,7 +96,7 @@ fn with_triple_of(list: NodeList, scope: Scope, x: u32, atom: Atom) -> NodeList
     with_triple(list, other, atom.operator, own)
 }
 
-fn triples_of(words: &[u32], scope: Scope, x: u32, leaves: Leaves) -> NodeList
+fn triples_of(words: &[u32], scope: CarriedScope, x: u32, leaves: Leaves) -> NodeList
     requires { ⌜ ScopeFits scope × LeavesFit (now words) leaves × (length (filter (comparesWithOther x) (atomsOf (now words) leaves)) ≤ tripleLimit) ⌝ }
     ensures { λ r. ⌜ r ≡ nodeList (flat tripleWords (triplesOf (scopeOf scope) x (atomsOf (now (words .entry)) leaves))) ⌝ }
 {
@@ -112,7 +112,7 @@ fn triples_of(words: &[u32], scope: Scope, x: u32, leaves: Leaves) -> NodeList
 }
 
 // A select of an atom on x alone, on the value before.
-fn write_if_alone(own: Scope, x: u32, atom: Atom, plan: &mut [u32], n: u32) -> u32
+fn write_if_alone(own: CarriedScope, x: u32, atom: Atom, plan: &mut [u32], n: u32) -> u32
     requires { ⌜ ScopeFits own × AtomNarrow atom × (1 ≤ n) × Room (now plan) n (length (filter (aloneOn x) (atomOf atom ∷ []))) ⌝ }
     ensures { λ r. ⌜ Written (now (plan .entry)) n (selectNodes (scopeOf own) (filter (aloneOn x) (atomOf atom ∷ [])) (pred n) n) (now (plan .exit)) r ⌝ }
 {
@@ -123,7 +123,14 @@ fn write_if_alone(own: Scope, x: u32, atom: Atom, plan: &mut [u32], n: u32) -> u
 }
 
 // A select for each leaf on x alone, each on the value before.
-fn write_selects(words: &[u32], own: Scope, x: u32, leaves: Leaves, plan: &mut [u32], n: u32) -> u32
+fn write_selects(
+    words: &[u32],
+    own: CarriedScope,
+    x: u32,
+    leaves: Leaves,
+    plan: &mut [u32],
+    n: u32,
+) -> u32
     requires { ⌜ ScopeFits own × LeavesFit (now words) leaves × (1 ≤ n) × Room (now plan) n (length (filter (aloneOn x) (atomsOf (now words) leaves))) ⌝ }
     ensures { λ r. ⌜ Written (now (plan .entry)) n (selectNodes (scopeOf own) (filter (aloneOn x) (atomsOf (now (words .entry)) leaves)) (pred n) n) (now (plan .exit)) r ⌝ }
 {
@@ -148,7 +155,7 @@ fn write_own_selects(
     n: u32,
 ) -> u32
     requires { ⌜ LeavesFit (now words) leaves × (1 ≤ width) × (width ≤ columnLimit) × (1 ≤ n) × Room (now plan) n (length (filter (aloneOn x) (atomsOf (now words) leaves))) ⌝ }
-    ensures { λ r. ⌜ Written (now (plan .entry)) n (selectsBehind x width (atomsOf (now (words .entry)) leaves) n) (now (plan .exit)) r ⌝ }
+    ensures { λ r. ⌜ Written (now (plan .entry)) n (restrictedRange x width (atomsOf (now (words .entry)) leaves) [] n) (now (plan .exit)) r ⌝ }
 {
     let own = extend(empty(), x, width);
     write_selects(words, own, x, leaves, plan, n)
@@ -157,7 +164,7 @@ fn write_own_selects(
 // S2: "some x". The range of x stands before node n.
 pub fn write_short_rule_2(
     words: &[u32],
-    scope: Scope,
+    scope: CarriedScope,
     x: u32,
     width: u32,
     leaves: Leaves,
@@ -166,7 +173,7 @@ pub fn write_short_rule_2(
     n: u32,
 ) -> u32
     requires { ⌜ RuleFits (now words) (now plan) scope leaves x width n 1 × (length (filter (comparesWithOther x) (atomsOf (now words) leaves)) ≤ tripleLimit) ⌝ }
-    ensures { λ r. ⌜ Written (now (plan .entry)) n (semijoinBehind (scopeOf scope) x width (atomsOf (now (words .entry)) leaves) p n) (now (plan .exit)) r ⌝ }
+    ensures { λ r. ⌜ Written (now (plan .entry)) n (shortRule2Nodes (scopeOf scope) x width (atomsOf (now (words .entry)) leaves) [] p n) (now (plan .exit)) r ⌝ }
 {
     let triples = triples_of(words, scope, x, leaves);
     let count = write_own_selects(words, x, width, leaves, plan, n);
@@ -176,7 +183,7 @@ pub fn write_short_rule_2(
 // S3: not above a "some" that S2 fits.
 pub fn write_short_rule_3(
     words: &[u32],
-    scope: Scope,
+    scope: CarriedScope,
     x: u32,
     width: u32,
     leaves: Leaves,
@@ -185,7 +192,7 @@ pub fn write_short_rule_3(
     n: u32,
 ) -> u32
     requires { ⌜ RuleFits (now words) (now plan) scope leaves x width n 1 × (length (filter (comparesWithOther x) (atomsOf (now words) leaves)) ≤ tripleLimit) ⌝ }
-    ensures { λ r. ⌜ Written (now (plan .entry)) n (antijoinBehind (scopeOf scope) x width (atomsOf (now (words .entry)) leaves) p n) (now (plan .exit)) r ⌝ }
+    ensures { λ r. ⌜ Written (now (plan .entry)) n (shortRule3Nodes (scopeOf scope) x width (atomsOf (now (words .entry)) leaves) [] p n) (now (plan .exit)) r ⌝ }
 {
     let triples = triples_of(words, scope, x, leaves);
     let count = write_own_selects(words, x, width, leaves, plan, n);
@@ -195,7 +202,7 @@ pub fn write_short_rule_3(
 // S4: "every x"; S3 with every operator turned to its opposite.
 pub fn write_short_rule_4(
     words: &[u32],
-    scope: Scope,
+    scope: CarriedScope,
     x: u32,
     width: u32,
     leaves: Leaves,
@@ -203,14 +210,14 @@ pub fn write_short_rule_4(
     plan: &mut [u32],
     n: u32,
 ) -> u32
-    requires { ⌜ RuleFits (now words) (now plan) scope (specs.opposites leaves) x width n 1 × (length (filter (comparesWithOther x) (atomsOf (now words) (specs.opposites leaves))) ≤ tripleLimit) ⌝ }
-    ensures { λ r. ⌜ Written (now (plan .entry)) n (antijoinBehind (scopeOf scope) x width (atomsOf (now (words .entry)) (specs.opposites leaves)) p n) (now (plan .exit)) r ⌝ }
+    requires { ⌜ RuleFits (now words) (now plan) scope leaves x width n 1 × (length (filter (comparesWithOther x) (atomsOf (now words) leaves)) ≤ tripleLimit) × (leaves .opposite ≡ false) ⌝ }
+    ensures { λ r. ⌜ Written (now (plan .entry)) n (shortRule4Nodes (scopeOf scope) x width (atomsOf (now (words .entry)) leaves) [] p n) (now (plan .exit)) r ⌝ }
 {
     write_short_rule_3(words, scope, x, width, opposites(leaves), p, plan, n)
 }
 
 // S6: not above an atom.
-pub fn write_short_rule_6(scope: Scope, atom: Atom, p: u32, plan: &mut [u32], n: u32) -> u32
+pub fn write_short_rule_6(scope: CarriedScope, atom: Atom, p: u32, plan: &mut [u32], n: u32) -> u32
     requires { ⌜ ScopeFits scope × AtomNarrow atom × Room (now plan) n 1 ⌝ }
     ensures { λ r. ⌜ Written (now (plan .entry)) n (shortRule6Nodes (scopeOf scope) p (atomOf atom)) (now (plan .exit)) r ⌝ }
 {
@@ -292,7 +299,7 @@ fn division_pairs(words: &[u32], z: u32, y: u32, leaves: Leaves, first: u32) -> 
 }
 
 // Triples (P's column, =, column) for the equations with a variable outside; the columns count up from 1.
-fn outside_triples(words: &[u32], scope: Scope, z: u32, y: u32, leaves: Leaves) -> NodeList
+fn outside_triples(words: &[u32], scope: CarriedScope, z: u32, y: u32, leaves: Leaves) -> NodeList
     requires { ⌜ ScopeFits scope × LeavesFit (now words) leaves × (length (filter (equatesOutside z y) (atomsOf (now words) leaves)) ≤ tripleLimit) ⌝ }
     ensures { λ r. ⌜ r ≡ nodeList (flat tripleWords (outsideTriples (scopeOf scope) z (filter (equatesOutside z y) (atomsOf (now (words .entry)) leaves)) 1)) ⌝ }
 {
@@ -323,7 +330,7 @@ fn write_dividend(
     n: u32,
 ) -> u32
     requires { ⌜ DividendFits (now words) (now plan) leaves y z width n 1 ⌝ }
-    ensures { λ r. ⌜ Written (now (plan .entry)) n (dividendBehind y z width (atomsOf (now (words .entry)) leaves) n) (now (plan .exit)) r ⌝ }
+    ensures { λ r. ⌜ Written (now (plan .entry)) n (dividendNodes y z width (atomsOf (now (words .entry)) leaves) n) (now (plan .exit)) r ⌝ }
 {
     let outside = with_own_columns(words, true, z, y, leaves, no_list());
     let columns = with_own_columns(words, false, z, y, leaves, outside);
@@ -334,7 +341,7 @@ fn write_dividend(
 // S5: "every y", whose range is node k, above "some z", whose range stands before node n.
 pub fn write_short_rule_5(
     words: &[u32],
-    scope: Scope,
+    scope: CarriedScope,
     y: u32,
     k: u32,
     z: u32,
@@ -345,7 +352,7 @@ pub fn write_short_rule_5(
     n: u32,
 ) -> u32
     requires { ⌜ ScopeFits scope × DividendFits (now words) (now plan) leaves y z width n 5 ⌝ }
-    ensures { λ r. ⌜ Written (now (plan .entry)) n (divisionBehind (scopeOf scope) y k z width (atomsOf (now (words .entry)) leaves) p n) (now (plan .exit)) r ⌝ }
+    ensures { λ r. ⌜ Written (now (plan .entry)) n (shortRule5Nodes (scopeOf scope) y k z width (atomsOf (now (words .entry)) leaves) [] p n) (now (plan .exit)) r ⌝ }
 {
     let triples = outside_triples(words, scope, z, y, leaves);
     let pairs = division_pairs(words, z, y, leaves, triples.used / 3 + 1);

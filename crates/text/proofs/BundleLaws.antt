@@ -11,7 +11,7 @@ use Rattle.relations.specs.Limits.{questionNodeLimit, questionNodeWords}
 use Rattle.text.specs.Limits.{byteLimit}
 use Rattle.catalogue.specs.Judging.{catalogueWords}
 use Rattle.text.specs.Reading as reads
-use Rattle.text.specs.Reading.{Next, goesOn, wrongAt, ReadTables, nodesOf, withTables, linesOf, reading}
+use Rattle.text.specs.Reading.{Next, goesOn, wrongAt, ReadTables, nodesOf, withTables, linesOf, bundleIn}
 use Rattle.text.specs.ReadCall.{readRefused, bundleOutcome, smallBuffers, readOutcome}
 use Rattle.text.specs.Answers.{standing, TablesFound, NodesFound, linesAnswer, BundleFound}
 use Rattle.text.specs.declared.lines.Cursor.{Cursor}
@@ -52,12 +52,12 @@ module _ (text catalogue tables question : List ℕ) where
   read-small e = rw e
 
   pub read-long : smallBuffers catalogue tables question ≡ false → byteLimit < length text → readOutcome text catalogue tables question ≡ readRefused catalogue tables question 12 0
-  unfolding readOutcome reading
+  unfolding readOutcome bundleIn
   read-long e h = rw (e, lt-ltb byteLimit (length text) h)
 
   pub read-lines : smallBuffers catalogue tables question ≡ false → length text ≤ byteLimit
       → readOutcome text catalogue tables question ≡ bundleOutcome catalogue tables question (linesOf text) (linesOf text .next)
-  unfolding readOutcome reading
+  unfolding readOutcome bundleIn
   read-lines e h = rw (e, le-ltb byteLimit (length text) h)
 
 -- the answer of all lines, and the outcome that goes with it

@@ -15,7 +15,7 @@ use Rattle.catalogue.proofs.Judgements.{GoodTables, tables-good}
 use Rattle.text.specs.Limits.{byteLimit}
 use Rattle.text.specs.Marks.{plainLine, shortLine, nodeKey}
 use Rattle.text.specs.Writing.{linesText, tablesText, modeText, bundleText}
-use Rattle.text.specs.Reading.{Bundle, Next, goesOn, wrongAt, ReadTables, begins, tablesOf, noBundle, nodesAfter, withTables, linesOf, reading}
+use Rattle.text.specs.Reading.{Bundle, Next, goesOn, wrongAt, ReadTables, begins, tablesOf, noBundle, nodesAfter, withTables, linesOf, bundleIn}
 use Rattle.text.specs.RoundTrip.{Words32, BundleAsText}
 use Rattle.text.specs.ReadCall.{readRefused, bundleOutcome, smallBuffers, readOutcome}
 use Rattle.text.specs.FirstWrong.{endedLines, RightText, FirstWrong, PlaceIsFirstWrong}
@@ -143,8 +143,8 @@ place-first text line e = go line (before-wrong text line e) e
     go zero b e = absurd (let h : 1 ≤ 0 = b .from-one in omega arith)
     go (suc k) b e = record { counted = b .from-one; wrong = λ other r s. none-right text other k e s r; example = b .example; right = b .right; right-before = b .same }
 
-place : (text : List ℕ) (line : ℕ) → length text ≤ byteLimit → reading text .next ≡ wrongAt line → FirstWrong text line
-unfolding reading
+place : (text : List ℕ) (line : ℕ) → length text ≤ byteLimit → bundleIn text .next ≡ wrongAt line → FirstWrong text line
+unfolding bundleIn
 place text line short e = place-first text line (rw (le-ltb byteLimit (length text) short) at e)
 
 -- a first wrong line is not before another
@@ -160,14 +160,14 @@ one-place text one other f g = go (true-or-false (ltb one other)) (true-or-false
     go (inr a) (inr b) = omega (arith, ltb-false one other a, ltb-false other one b)
 
 -- what is read to its end is right
-read-right : (text : List ℕ) (line : ℕ) (rest : List ℕ) → reading text .next ≡ goesOn line rest → RightText text
+read-right : (text : List ℕ) (line : ℕ) (rest : List ℕ) → bundleIn text .next ≡ goesOn line rest → RightText text
 read-right text line rest e =
-    let is : BundleAsText text (reading text) rest = reading-text text line rest e in
+    let is : BundleAsText text (bundleIn text) rest = reading-text text line rest e in
     record {
-      mode = reading text .mode;
-      catalogue = reading text .catalogue;
-      tables = reading text .tables;
-      nodes = reading text .nodes;
+      mode = bundleIn text .mode;
+      catalogue = bundleIn text .catalogue;
+      tables = bundleIn text .tables;
+      nodes = bundleIn text .nodes;
       tables-ok = is .tables-ok;
       nodes-ok = is .nodes-ok;
       tables-32 = is .tables-32;
@@ -175,10 +175,10 @@ read-right text line rest e =
       text-is = is .text-is;
     }
 
-refused : (text : List ℕ) (line : ℕ) → length text ≤ byteLimit → FirstWrong text line → reading text .next ≡ wrongAt line
-refused text line short f = go (reading text .next) refl
+refused : (text : List ℕ) (line : ℕ) → length text ≤ byteLimit → FirstWrong text line → bundleIn text .next ≡ wrongAt line
+refused text line short f = go (bundleIn text .next) refl
   where
-    go : (next : Next) → reading text .next ≡ next → next ≡ wrongAt line
+    go : (next : Next) → bundleIn text .next ≡ next → next ≡ wrongAt line
     go (goesOn after rest) e = absurd (f .wrong text (read-right text after rest e) refl)
     go (wrongAt other) e = ap wrongAt (one-place text other line (place text other short e) f)
 
@@ -199,10 +199,10 @@ missing text more right wrong =
 module _ (text catalogue tables question : List ℕ) (large : smallBuffers catalogue tables question ≡ false) (short : length text ≤ byteLimit) where
   read-place : readOutcome text catalogue tables question .numbers .status ≡ 12 → FirstWrong text (readOutcome text catalogue tables question .numbers .place)
   unfolding readOutcome
-  read-place e = rw large (go (reading text .next) refl (rw large at e))
+  read-place e = rw large (go (bundleIn text .next) refl (rw large at e))
     where
-      go : (next : Next) → reading text .next ≡ next → bundleOutcome catalogue tables question (reading text) next .numbers .status ≡ 12
-          → FirstWrong text (bundleOutcome catalogue tables question (reading text) next .numbers .place)
+      go : (next : Next) → bundleIn text .next ≡ next → bundleOutcome catalogue tables question (bundleIn text) next .numbers .status ≡ 12
+          → FirstWrong text (bundleOutcome catalogue tables question (bundleIn text) next .numbers .place)
       go (goesOn line rest) is e = absurd (omega arith)
       go (wrongAt line) is e = place text line short is
 

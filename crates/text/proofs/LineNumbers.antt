@@ -12,7 +12,7 @@ use Rattle.catalogue.specs.Judging.{pairOk, catalogueWords}
 use Rattle.catalogue.proofs.Judgements.{good-pair}
 use Rattle.text.specs.Limits.{byteLimit}
 use Rattle.text.specs.Marks.{lineFeed, space, separator, plainLine, shortLine, relationKey, rowKey, nodeKey}
-use Rattle.text.specs.Reading.{Number, value, noNumber, numberThen, Next, goesOn, wrongAt, Read, nothing, wordsThen, orWrong, numbers, begins, keyedLine, keyedLines, Relation, relation, noRelation, withRows, withColumns, relationOf, ReadTables, noTables, tableBehind, tableOf, tablesThen, tablesOf, unlessEnded, nodesOf, Bundle, noBundle, nodesAfter, withTables, linesOf, reading}
+use Rattle.text.specs.Reading.{Number, value, noNumber, numberThen, Next, goesOn, wrongAt, Read, nothing, wordsThen, orWrong, numbers, begins, keyedLine, keyedLines, Relation, relation, noRelation, withRows, withColumns, relationOf, ReadTables, noTables, tableBehind, tableOf, tablesThen, tablesOf, unlessEnded, nodesOf, Bundle, noBundle, nodesAfter, withTables, linesOf, bundleIn}
 use Rattle.text.specs.ReadCall.{ReadNumbers, ReadOutcome, readRefused, bundleOutcome, smallBuffers, readNumbers, readOutcome}
 use Rattle.text.specs.declared.bundle.Reading.{Reading}
 use Rattle.text.specs.declared.bundle.Reading.the-variants.{WrongLine}
@@ -128,8 +128,8 @@ behind-mode-line mode bytes = go (tablesOf cataloguePairLimit 0 2 bytes .next) (
     go (goesOn line rest) h = omega (arith, h, nodes-line questionNodeLimit line rest)
     go (wrongAt line) h = omega (arith, h)
 
-reading-line : (text : List ℕ) → lineOf (reading text .next) ≤ lineLimit
-unfolding reading linesOf
+reading-line : (text : List ℕ) → lineOf (bundleIn text .next) ≤ lineLimit
+unfolding bundleIn linesOf
 reading-line text = go (ltb byteLimit (length text)) (begins plainLine text) (begins shortLine text)
   where
     go : (long plain short : Bool)
@@ -141,10 +141,10 @@ reading-line text = go (ltb byteLimit (length text)) (begins plainLine text) (be
 
 place-within : (text catalogue tables question : List ℕ) → readOutcome text catalogue tables question .numbers .place ≤ lineLimit
 unfolding readOutcome
-place-within text catalogue tables question = go (smallBuffers catalogue tables question) (reading text .next) (reading-line text)
+place-within text catalogue tables question = go (smallBuffers catalogue tables question) (bundleIn text .next) (reading-line text)
   where
     go : (small : Bool) (next : Next) → lineOf next ≤ lineLimit
-        → cond small (readRefused catalogue tables question 14 0) (bundleOutcome catalogue tables question (reading text) next) .numbers .place ≤ lineLimit
+        → cond small (readRefused catalogue tables question 14 0) (bundleOutcome catalogue tables question (bundleIn text) next) .numbers .place ≤ lineLimit
     go true next h = omega arith
     go false (goesOn line rest) h = omega arith
     go false (wrongAt line) h = h

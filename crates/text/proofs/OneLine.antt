@@ -12,14 +12,14 @@ use borrow.Author.Tests.{lt-ltb, le-ltb, ltb-true, ltb-false}
 use Rattle.relations.specs.Limits.{cataloguePairLimit, wordLimit, questionNodeLimit, questionNodeWords}
 use Rattle.relations.proofs.BoolLaws.{true-or-false}
 use Rattle.catalogue.specs.Judging.{pairOk}
-use Rattle.text.specs.Marks.{lineFeed, space, separator, plainLine, shortLine, relationKey, nodeKey}
+use Rattle.text.specs.Marks.{lineFeed, space, separator, plainLine, shortLine, relationKey, rowKey, nodeKey}
 use Rattle.text.specs.Reading.{Number, value, noNumber, numberThen, Next, goesOn, wrongAt, Read, nothing, wordsThen, andThen, orWrong, numbers, begins, keyedLine, Relation, relation, noRelation, withRows, withColumns, relationOf, tableBehind, tableOf, tablesOf, unlessEnded, nodesOf, noBundle, withTables, linesOf}
-use Rattle.text.specs.Answers.{standing, Placed, LinesRead, LineAsked, modeRead, pairRead, oneLine}
+use Rattle.text.specs.Answers.{standing, Placed, LinesRead, Lawful, LineAsked, modeRead, pairRead, oneLine}
 use Rattle.text.specs.declared.lines.Cursor.{Cursor}
 use Rattle.text.specs.declared.lines.Step.{Step}
 use Rattle.text.specs.declared.lines.Step.the-variants.{Next as Onward, Wrong as Stop}
 use Rattle.text.specs.declared.reader.Line.{Line}
-use Rattle.text.specs.declared.reader.Line.the-variants.{Mode as ModeLine, Relation as RelationLine, Node as NodeLine}
+use Rattle.text.specs.declared.reader.Line.the-variants.{Mode as ModeLine, Relation as RelationLine, Row as RowLine, Node as NodeLine}
 use Rattle.text.proofs.ReadingLaws.{no-next, keyedLine-length, RelationAsText, relationOf-text}
 use Rattle.text.proofs.ReadingSteps.{nodes-step, nodes-done}
 
@@ -136,26 +136,27 @@ module _ (total line : ℕ) (bytes : List ℕ) {text pair : List ℕ} {answer : 
       go (relation columns rows rest) is n = no-next (sym n)
       go noRelation is n = let l : wrong ≡ line = cc in (ap (tableBehind line) is, l)
 
--- A wrong line gave fewer words than it should have.
-numbers-short : (count line : ℕ) (bytes : List ℕ) {wrong : ℕ} → numbers count line bytes .next ≡ wrongAt wrong → length (numbers count line bytes .words) < count
+-- A line that is wrong is its reader's own, and gave fewer words than it should have.
+numbers-cut : (count line : ℕ) (bytes : List ℕ) {wrong : ℕ} → numbers count line bytes .next ≡ wrongAt wrong → (wrong ≡ line) × (length (numbers count line bytes .words) < count)
 unfolding numbers
-numbers-short zero line bytes n = no-next (sym n)
-numbers-short (suc more) line bytes {wrong} n = go (numberThen (separator more) bytes) n (λ rest m. numbers-short more line rest m)
+numbers-cut zero line bytes n = no-next (sym n)
+numbers-cut (suc more) line bytes {wrong} n = go (numberThen (separator more) bytes) n (λ rest m. numbers-cut more line rest m)
   where
     go : (found : Number) → orWrong line found (λ value rest. numbers more line rest) .next ≡ wrongAt wrong
-        → ((rest : List ℕ) → numbers more line rest .next ≡ wrongAt wrong → length (numbers more line rest .words) < more)
-        → length (orWrong line found (λ value rest. numbers more line rest) .words) < suc more
-    go (value number rest) n ih = let h : length (numbers more line rest .words) < more = ih rest n in omega arith
-    go noNumber n ih = omega arith
+        → ((rest : List ℕ) → numbers more line rest .next ≡ wrongAt wrong → (wrong ≡ line) × (length (numbers more line rest .words) < more))
+        → (wrong ≡ line) × (length (orWrong line found (λ value rest. numbers more line rest) .words) < suc more)
+    go (value number rest) n ih = let h : length (numbers more line rest .words) < more = ih rest n .1 in (ih rest n .0, omega arith)
+    go noNumber n ih = let l : wrong ≡ line = cc in (l, omega arith)
 
-line-short : (key : List ℕ) (count line : ℕ) (bytes : List ℕ) → 0 < count → {wrong : ℕ} → keyedLine key count line bytes .next ≡ wrongAt wrong → length (keyedLine key count line bytes .words) < count
+line-cut : (key : List ℕ) (count line : ℕ) (bytes : List ℕ) → 0 < count → {wrong : ℕ} → keyedLine key count line bytes .next ≡ wrongAt wrong
+    → (wrong ≡ line) × (length (keyedLine key count line bytes .words) < count)
 unfolding keyedLine
-line-short key count line bytes some {wrong} n = go (begins key bytes) n
+line-cut key count line bytes some {wrong} n = go (begins key bytes) n
   where
     go : (begun : Bool) → cond begun (numbers count line (drop (length key) bytes)) (nothing (wrongAt line)) .next ≡ wrongAt wrong
-        → length (cond begun (numbers count line (drop (length key) bytes)) (nothing (wrongAt line)) .words) < count
-    go true n = numbers-short count line (drop (length key) bytes) n
-    go false n = some
+        → (wrong ≡ line) × (length (cond begun (numbers count line (drop (length key) bytes)) (nothing (wrongAt line)) .words) < count)
+    go true n = numbers-cut count line (drop (length key) bytes) n
+    go false n = let l : wrong ≡ line = cc in (l, some)
 
 -- A node line: within the limit, or beyond it.
 module _ (before line : ℕ) (bytes : List ℕ) where
@@ -174,13 +175,13 @@ module _ (before line : ℕ) (bytes : List ℕ) where
       go true w n = (ltb-true before questionNodeLimit w, keyedLine-length nodeKey questionNodeWords line bytes after rest n)
       go false w n = no-next n
 
-  node-short : {wrong : ℕ} → oneLine (NodeLine before) line bytes .next ≡ wrongAt wrong → length (oneLine (NodeLine before) line bytes .words) < questionNodeWords
-  node-short {wrong} e = go (ltb before questionNodeLimit) e
+  pub node-wrong : {wrong : ℕ} → oneLine (NodeLine before) line bytes .next ≡ wrongAt wrong → (wrong ≡ line) × (length (oneLine (NodeLine before) line bytes .words) < questionNodeWords)
+  node-wrong {wrong} e = go (ltb before questionNodeLimit) e
     where
       go : (within : Bool) → cond within (keyedLine nodeKey questionNodeWords line bytes) (nothing (wrongAt line)) .next ≡ wrongAt wrong
-          → length (cond within (keyedLine nodeKey questionNodeWords line bytes) (nothing (wrongAt line)) .words) < questionNodeWords
-      go true n = line-short nodeKey questionNodeWords line bytes (omega arith) n
-      go false n = omega arith
+          → (wrong ≡ line) × (length (cond within (keyedLine nodeKey questionNodeWords line bytes) (nothing (wrongAt line)) .words) < questionNodeWords)
+      go true n = line-cut nodeKey questionNodeWords line bytes (omega arith) n
+      go false n = let l : wrong ≡ line = cc in (l, omega arith)
 
   -- the nodes that are left are a line, and those behind it
   pub node-step : nodesOf (questionNodeLimit - before) line bytes
@@ -198,4 +199,22 @@ module _ (before line : ℕ) (bytes : List ℕ) where
       let first : Read = oneLine (NodeLine before) line bytes in
       let more : ℕ → List ℕ → Read = λ after rest. unlessEnded after rest (nodesOf (questionNodeLimit - before - 1) after rest) in
       let is : nodesOf (questionNodeLimit - before) line bytes ≡ wordsThen (first .words) (wrongAt wrong) more = node-step ∙ ap (λ (x : Next). wordsThen (first .words) x more) e in
-      omega (arith, ap (λ (x : Read). length (x .words)) is, node-short e)
+      omega (arith, ap (λ (x : Read). length (x .words)) is, node-wrong e .1)
+
+-- The place of a refusal 12 is the line of the reader that found it, whatever line had to come.
+pub wrong-here : (kind : Line) → Lawful kind → (line : ℕ) (bytes : List ℕ) {wrong : ℕ} → oneLine kind line bytes .next ≡ wrongAt wrong → wrong ≡ line
+wrong-here ModeLine ok line bytes {wrong} e = go (begins plainLine bytes) (begins shortLine bytes) e
+  where
+    go : (plain short : Bool) → cond plain (modeRead 0 line (drop (length plainLine) bytes)) (cond short (modeRead 1 line (drop (length shortLine) bytes)) (nothing (wrongAt line))) .next ≡ wrongAt wrong
+        → wrong ≡ line
+    go true short n = no-next (sym n)
+    go false true n = no-next (sym n)
+    go false false n = cc
+wrong-here (RelationLine total) ok line bytes {wrong} e = go (begins relationKey bytes) (relationOf total (drop (length relationKey) bytes)) e
+  where
+    go : (begun : Bool) (found : Relation) → cond begun (pairRead line found) (nothing (wrongAt line)) .next ≡ wrongAt wrong → wrong ≡ line
+    go true (relation columns rows rest) n = no-next (sym n)
+    go true noRelation n = cc
+    go false found n = cc
+wrong-here (RowLine columns) ok line bytes e = line-cut rowKey columns line bytes ok e .0
+wrong-here (NodeLine before) ok line bytes e = node-wrong before line bytes e .0

@@ -15,7 +15,7 @@ use Rattle.text.specs.Limits.{byteLimit}
 use Rattle.catalogue.specs.Judging.{pairOk, pairsOk, catalogueWords}
 use Rattle.text.specs.Marks.{lineFeed, space, separator, plainLine, shortLine, relationKey, rowKey, nodeKey}
 use Rattle.text.specs.Writing.{decimal, numbersText, lineText, linesText, tablesText, modeText, bundleText}
-use Rattle.text.specs.Reading.{Number, value, noNumber, numberThen, Next, goesOn, wrongAt, Read, nothing, wordsThen, orWrong, numbers, begins, keyedLine, keyedLines, Relation, relation, noRelation, withRows, withColumns, relationOf, ReadTables, noTables, tableBehind, tableOf, tablesThen, andTables, tablesOf, unlessEnded, nodesOf, noBundle, nodesAfter, withTables, linesOf, reading}
+use Rattle.text.specs.Reading.{Number, value, noNumber, numberThen, Next, goesOn, wrongAt, Read, nothing, wordsThen, orWrong, numbers, begins, keyedLine, keyedLines, Relation, relation, noRelation, withRows, withColumns, relationOf, ReadTables, noTables, tableBehind, tableOf, tablesThen, andTables, tablesOf, unlessEnded, nodesOf, noBundle, nodesAfter, withTables, linesOf, bundleIn}
 use Rattle.text.specs.RoundTrip.{Words32, BundleAsText}
 use Rattle.relations.proofs.BoolLaws.{true-and-false, and-both, and-left, and-right}
 use Rattle.text.proofs.Words32.{words32-append}
@@ -465,8 +465,8 @@ tables-then-nodes mode text bytes line rest small is short e = go (found .next) 
     go (wrongAt line′) stands e = no-next e
 
 -- Whatever is read to its end is the text of what was found.
-pub reading-text : (text : List ℕ) (line : ℕ) (rest : List ℕ) → reading text .next ≡ goesOn line rest → BundleAsText text (reading text) rest
-unfolding reading linesOf
+pub reading-text : (text : List ℕ) (line : ℕ) (rest : List ℕ) → bundleIn text .next ≡ goesOn line rest → BundleAsText text (bundleIn text) rest
+unfolding bundleIn linesOf
 reading-text text line rest e = sized (ltb byteLimit (length text)) refl e
   where
     moded : (plain short : Bool) → begins plainLine text ≡ plain → begins shortLine text ≡ short → length text ≤ byteLimit

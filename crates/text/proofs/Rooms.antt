@@ -7,7 +7,7 @@ use mathlib.Core.Bool.{Bool, true, false, cond}
 use native.Mathlib.Omega.{arith}
 use lib.ListN.{length}
 use Rattle.relations.specs.Limits.{cataloguePairLimit, wordLimit, questionNodeLimit, questionNodeWords}
-use Rattle.text.specs.Reading.{Next, goesOn, wrongAt, reading}
+use Rattle.text.specs.Reading.{Next, goesOn, wrongAt, bundleIn}
 use Rattle.text.specs.ReadCall.{ReadNumbers, ReadOutcome, readRefused, bundleOutcome, smallBuffers, readNumbers, readOutcome}
 use Rattle.text.specs.WriteCall.{WriteOutcome, writeNumbers, writeOutcome}
 use Rattle.text.specs.declared.bundle.Reading.{Reading}
@@ -27,18 +27,18 @@ pub record BundleNumbers (pairs words nodes : ℕ) : Type 0 where
 accepted-numbers : (text catalogue tables question : List ℕ) → readOutcome text catalogue tables question .numbers .status ≡ 0
     → BundleNumbers (readOutcome text catalogue tables question .numbers .pairs) (readOutcome text catalogue tables question .numbers .words) (readOutcome text catalogue tables question .numbers .nodes)
 unfolding readOutcome
-accepted-numbers text catalogue tables question e = go (smallBuffers catalogue tables question) (reading text .next) refl e
+accepted-numbers text catalogue tables question e = go (smallBuffers catalogue tables question) (bundleIn text .next) refl e
   where
     outcome : Bool → Next → ReadOutcome
-    outcome small next = cond small (readRefused catalogue tables question 14 0) (bundleOutcome catalogue tables question (reading text) next)
+    outcome small next = cond small (readRefused catalogue tables question 14 0) (bundleOutcome catalogue tables question (bundleIn text) next)
 
-    go : (small : Bool) (next : Next) → reading text .next ≡ next → outcome small next .numbers .status ≡ 0
+    go : (small : Bool) (next : Next) → bundleIn text .next ≡ next → outcome small next .numbers .status ≡ 0
         → BundleNumbers (outcome small next .numbers .pairs) (outcome small next .numbers .words) (outcome small next .numbers .nodes)
     go true next n e = absurd (omega arith)
     go false (goesOn line rest) n e =
         let is = reading-text text line rest n in
-        let good : GoodTables (reading text .catalogue) (reading text .tables) = good-tables (reading text .catalogue) (reading text .tables) (is .tables-ok) in
-        let nodes : GoodNodes (reading text .nodes) = good-nodes (reading text .nodes) (is .nodes-ok) in
+        let good : GoodTables (bundleIn text .catalogue) (bundleIn text .tables) = good-tables (bundleIn text .catalogue) (bundleIn text .tables) (is .tables-ok) in
+        let nodes : GoodNodes (bundleIn text .nodes) = good-nodes (bundleIn text .nodes) (is .nodes-ok) in
         record { few-pairs = omega (arith, good .few); few-words = omega (arith, good .fits, good .sum); few-nodes = omega (arith, nodes .few) }
     go false (wrongAt line) n e = absurd (omega arith)
 

@@ -12,7 +12,7 @@ use Rattle.relations.specs.Limits.{cataloguePairLimit, wordLimit, questionNodeL
 use Rattle.text.specs.Limits.{byteLimit}
 use Rattle.catalogue.specs.Judging.{tablesOk}
 use Rattle.text.specs.Writing.{bundleText}
-use Rattle.text.specs.Reading.{Bundle, Next, goesOn, wrongAt, reading}
+use Rattle.text.specs.Reading.{Bundle, Next, goesOn, wrongAt, bundleIn}
 use Rattle.text.specs.ReadCall.{readRefused, bundleOutcome, smallBuffers, readOutcome}
 use Rattle.text.specs.WriteCall.{WriteOutcome, writeRefusal, nodesOk, textFits, writeOutcome}
 use Rattle.text.specs.RoundTrip.{Words32, BundleAsText, bundleOf, wrote, foundBundle, writeBack, readBack, RoundTrip, OneOutcome}
@@ -108,15 +108,15 @@ write-after-read : (text catalogue tables question buffer : List ℕ) → readOu
     → length text ≤ length buffer → writeBack (readOutcome text catalogue tables question) buffer ≡ wrote text buffer
 unfolding readOutcome
 write-after-read text catalogue tables question buffer e room =
-    go (smallBuffers catalogue tables question) refl (reading text .next) refl e
+    go (smallBuffers catalogue tables question) refl (bundleIn text .next) refl e
   where
-    go : (small : Bool) → smallBuffers catalogue tables question ≡ small → (next : Next) → reading text .next ≡ next
-        → cond small (readRefused catalogue tables question 14 0) (bundleOutcome catalogue tables question (reading text) next) .numbers .status ≡ 0
-        → writeBack (cond small (readRefused catalogue tables question 14 0) (bundleOutcome catalogue tables question (reading text) next)) buffer
+    go : (small : Bool) → smallBuffers catalogue tables question ≡ small → (next : Next) → bundleIn text .next ≡ next
+        → cond small (readRefused catalogue tables question 14 0) (bundleOutcome catalogue tables question (bundleIn text) next) .numbers .status ≡ 0
+        → writeBack (cond small (readRefused catalogue tables question 14 0) (bundleOutcome catalogue tables question (bundleIn text) next)) buffer
         ≡ wrote text buffer
     go true s next n e = absurd (omega arith)
     go false s (goesOn line rest) n e =
-        written-back text (reading text) rest catalogue tables question buffer line (reading-text text line rest n) s room
+        written-back text (bundleIn text) rest catalogue tables question buffer line (reading-text text line rest n) s room
     go false s (wrongAt line) n e = absurd (omega arith)
 
 -- Write, then read.
@@ -130,11 +130,11 @@ unfolding readOutcome
 read-after-write mode cs ts ns text catalogue tables question e h k large =
     let ok : WriteAccepted mode cs ts ns text = write-accepted mode cs ts ns text e in
     let bytes : List ℕ = bundleText mode cs ts ns in
-    let as-bundle : reading bytes ≡ bundleOf mode cs ts ns = reading-of-text mode cs ts ns (ok .tables-ok) (ok .nodes-ok) h k (ok .short) in
+    let as-bundle : bundleIn bytes ≡ bundleOf mode cs ts ns = reading-of-text mode cs ts ns (ok .tables-ok) (ok .nodes-ok) h k (ok .short) in
     ap (λ (written : WriteOutcome). readBack written catalogue tables question)
     (write-accepts mode cs ts ns text (ok .tables-ok) (ok .nodes-ok) (ok .short) (ok .room))
     ∙ ap (λ (front : List ℕ). readOutcome front catalogue tables question) (take-sets text bytes (length bytes) refl (ok .room))
-    ∙ ap (λ (small : Bool). cond small (readRefused catalogue tables question 14 0) (bundleOutcome catalogue tables question (reading bytes) (reading bytes .next)))
+    ∙ ap (λ (small : Bool). cond small (readRefused catalogue tables question 14 0) (bundleOutcome catalogue tables question (bundleIn bytes) (bundleIn bytes .next)))
     large
     ∙ ap (λ (bundle : Bundle). bundleOutcome catalogue tables question bundle (bundle .next)) as-bundle
 

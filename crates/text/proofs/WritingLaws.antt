@@ -15,7 +15,7 @@ use Rattle.text.specs.Limits.{byteLimit}
 use Rattle.catalogue.specs.Judging.{pairOk, pairsOk, catalogueWords, tablesOk}
 use Rattle.text.specs.Marks.{lineFeed, space, separator, plainLine, shortLine, relationKey, rowKey, nodeKey}
 use Rattle.text.specs.Writing.{decimal, numbersText, lineText, linesText, tablesText, modeText, bundleText}
-use Rattle.text.specs.Reading.{Number, value, numberThen, goesOn, wrongAt, Read, nothing, andThen, orWrong, numbers, begins, keyedLine, keyedLines, Relation, relation, noRelation, withRows, withColumns, relationOf, ReadTables, tableBehind, tableOf, andTables, tablesOf, unlessEnded, nodesOf, withTables, linesOf, reading}
+use Rattle.text.specs.Reading.{Number, value, numberThen, goesOn, wrongAt, Read, nothing, andThen, orWrong, numbers, begins, keyedLine, keyedLines, Relation, relation, noRelation, withRows, withColumns, relationOf, ReadTables, tableBehind, tableOf, andTables, tablesOf, unlessEnded, nodesOf, withTables, linesOf, bundleIn}
 use Rattle.text.specs.WriteCall.{nodesOk}
 use Rattle.text.specs.RoundTrip.{Words32, tableLines, bundleOf}
 use Rattle.relations.proofs.BoolLaws.{true-and-false, and-both, and-left, and-right}
@@ -255,7 +255,7 @@ lines-of-text mode catalogue tables nodes ok nodes-ok h k =
 -- and within the limit it is read.
 pub reading-of-text : (mode : ℕ) (catalogue tables nodes : List ℕ) → tablesOk catalogue tables ≡ true → nodesOk nodes ≡ true
     → Words32 tables → Words32 nodes → length (bundleText mode catalogue tables nodes) ≤ byteLimit
-    → reading (bundleText mode catalogue tables nodes) ≡ bundleOf mode catalogue tables nodes
-unfolding reading
+    → bundleIn (bundleText mode catalogue tables nodes) ≡ bundleOf mode catalogue tables nodes
+unfolding bundleIn
 reading-of-text mode catalogue tables nodes ok nodes-ok h k short =
     rw (le-ltb byteLimit (length (bundleText mode catalogue tables nodes)) short) (lines-of-text mode catalogue tables nodes ok nodes-ok h k)

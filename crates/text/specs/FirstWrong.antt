@@ -10,7 +10,7 @@ use Rattle.text.specs.Limits.{byteLimit}
 use Rattle.text.specs.Marks.{lineFeed}
 use Rattle.text.specs.Writing.{bundleText}
 use Rattle.text.specs.WriteCall.{nodesOk}
-use Rattle.text.specs.Reading.{wrongAt, reading}
+use Rattle.text.specs.Reading.{wrongAt, bundleIn}
 use Rattle.text.specs.ReadCall.{readRefused, smallBuffers, readOutcome}
 use Rattle.text.specs.RoundTrip.{Words32}
 
@@ -50,8 +50,8 @@ endedLines (byte ∷ bytes) = cond (eqb byte lineFeed) 1 0 + endedLines bytes
 -- The place that `read` gives is the first wrong line. Proved in proofs/FirstWrong.antt.
 pub record PlaceIsFirstWrong : Type 0 where
   -- a text within the limit is wrong at a line exactly when that is its first wrong line, and there is only one
-  pub place : (text : List ℕ) (line : ℕ) → length text ≤ byteLimit → reading text .next ≡ wrongAt line → FirstWrong text line
-  pub refused : (text : List ℕ) (line : ℕ) → length text ≤ byteLimit → FirstWrong text line → reading text .next ≡ wrongAt line
+  pub place : (text : List ℕ) (line : ℕ) → length text ≤ byteLimit → bundleIn text .next ≡ wrongAt line → FirstWrong text line
+  pub refused : (text : List ℕ) (line : ℕ) → length text ≤ byteLimit → FirstWrong text line → bundleIn text .next ≡ wrongAt line
   pub one-place : (text : List ℕ) (one other : ℕ) → FirstWrong text one → FirstWrong text other → one ≡ other
   -- "something missing at the end is placed one line after the last; an unended line is wrong": a text that stops before the end of a right one
   pub missing : (text more : List ℕ) → RightText (text ++ more) → (RightText text → ⊥) → FirstWrong text (suc (endedLines text))

@@ -6,7 +6,7 @@ use lib.ListN.{length}
 use lib.Dec.{ltb}
 use lib.Seq.{sets}
 use Rattle.relations.specs.Limits.{cataloguePairLimit, wordLimit, questionNodeLimit, questionNodeWords}
-use Rattle.text.specs.Reading.{Next, goesOn, wrongAt, reading}
+use Rattle.text.specs.Reading.{Next, goesOn, wrongAt, bundleIn}
 use Rattle.text.specs.Reading as reads
 use Rattle.text.specs.declared.bundle.Reading.{Reading}
 use Rattle.text.specs.declared.bundle.Reading.the-variants.{Bundle, WrongLine, SmallBuffer}
@@ -71,4 +71,4 @@ smallBuffers catalogue tables question =
 unfoldable pub readOutcome : (text catalogue tables question : List ℕ) → ReadOutcome
 readOutcome text catalogue tables question =
     cond (smallBuffers catalogue tables question) (readRefused catalogue tables question 14 0)
-    (bundleOutcome catalogue tables question (reading text) (reading text .next))
+    (bundleOutcome catalogue tables question (bundleIn text) (bundleIn text .next))

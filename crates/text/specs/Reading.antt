@@ -180,5 +180,5 @@ linesOf text =
     (noBundle 1))
 
 -- "At most 65,536 bytes (over: 12, place 0)"
-unfoldable pub reading : List ℕ → Bundle
-reading text = cond (ltb byteLimit (length text)) (noBundle 0) (linesOf text)
+unfoldable pub bundleIn : List ℕ → Bundle
+bundleIn text = cond (ltb byteLimit (length text)) (noBundle 0) (linesOf text)

@@ -11,7 +11,7 @@ use Rattle.relations.specs.Limits.{questionNodeWords}
 use Rattle.text.specs.Limits.{byteLimit, greatestNumber}
 use Rattle.catalogue.specs.Judging.{tablesOk}
 use Rattle.text.specs.Writing.{bundleText}
-use Rattle.text.specs.Reading.{Bundle, goesOn, reading}
+use Rattle.text.specs.Reading.{Bundle, goesOn, bundleIn}
 use Rattle.text.specs.ReadCall.{ReadOutcome, smallBuffers, readOutcome}
 use Rattle.text.specs.WriteCall.{WriteOutcome, nodesOk, writeOutcome}
 
@@ -87,11 +87,11 @@ readBack written catalogue tables question = readOutcome (take (written .numbers
 
 pub record RoundTrip : Type 0 where
   -- a text that reads to its end is the text of what it reads as
-  pub text-of-reading : (text : List ℕ) (line : ℕ) (rest : List ℕ) → reading text .next ≡ goesOn line rest → BundleAsText text (reading text) rest
+  pub text-of-reading : (text : List ℕ) (line : ℕ) (rest : List ℕ) → bundleIn text .next ≡ goesOn line rest → BundleAsText text (bundleIn text) rest
   -- the text of a bundle that `write` accepts reads as that bundle
   pub reading-of-text : (mode : ℕ) (catalogue tables nodes : List ℕ) → tablesOk catalogue tables ≡ true → nodesOk nodes ≡ true
       → Words32 tables → Words32 nodes → length (bundleText mode catalogue tables nodes) ≤ byteLimit
-      → reading (bundleText mode catalogue tables nodes) ≡ bundleOf mode catalogue tables nodes
+      → bundleIn (bundleText mode catalogue tables nodes) ≡ bundleOf mode catalogue tables nodes
   -- whatever `read` accepts, `write` gives back as the same bytes, in every buffer that has room for them
   pub write-after-read : (text catalogue tables question buffer : List ℕ) → readOutcome text catalogue tables question .numbers .status ≡ 0
       → length text ≤ length buffer → writeBack (readOutcome text catalogue tables question) buffer ≡ wrote text buffer

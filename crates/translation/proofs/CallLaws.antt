@@ -36,7 +36,7 @@ use Rattle.question.proofs.Counts.{counted}
 use Rattle.translation.specs.TranslateCall.{TranslateOutcome, planOf, planBufferWords, unwritten, written, judgedOutcome, behindCatalogue, isShort, translateOutcome}
 use Rattle.emission.specs.HeavyCount.{heavyIn}
 use Rattle.planning.specs.Translating.{RangeReady, RangeDone}
-use Rattle.planning.specs.declared.translate.Made.{Made}
+use Rattle.planning.specs.declared.translate.MadeRange.{MadeRange}
 use Rattle.emission.proofs.HeavyLaws.{heavy-written}
 
 module _ (catalogue question : List ℕ) (ok : catalogueOk catalogue ≡ true) (accepted : judgedByWalk catalogue question ≡ Accepted) where
@@ -63,7 +63,7 @@ module _ (catalogue question : List ℕ) (ok : catalogueOk catalogue ≡ true) (
           room = record { nodes = omega (arith, right .few); buffer = long };
         }
 
-    module _ (mode : ℕ) (after : List ℕ) (made : Made) (done : RangeDone catalogue (isShort mode) plan (questionOf question) 0 after made) where
+    module _ (mode : ℕ) (after : List ℕ) (made : MadeRange) (done : RangeDone catalogue (isShort mode) plan (questionOf question) 0 after made) where
       abbrev nodes : List Node
       nodes = planOf catalogue question mode
 

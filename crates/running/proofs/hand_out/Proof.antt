@@ -54,7 +54,7 @@ same-length c = search needs
 
 -- src/lib.rt:82:17
 returns : tie.Need-returns
-returns c = λ left. ran-long (start (c .before .before .before .before .before .before) .args .catalogue .now) (start (c .before .before .before .before .before .before) .args .tables .now) (nodes (c .before .before .before .before .before .before)) (start (c .before .before .before .before .before .before) .args .work .now) (after (c .before .before .before .before .before .before)) (same (c .before .before .before .before .before .before)) (c .before .before .before .before .before .before .run-nodes .ensures) (c .before .before .value .given .1) (c .before .before .before .before .before .before .before .before .before .before .before .before .before .args .nodes) (many (c .before .before .before .before .before .before)) (c .before .before .before .before .before .before .before .before .before .before .before .before .before .args .output .now) left (omega arith)
+returns c = ran-long (start (c .before .before .before .before .before .before) .args .catalogue .now) (start (c .before .before .before .before .before .before) .args .tables .now) (nodes (c .before .before .before .before .before .before)) (start (c .before .before .before .before .before .before) .args .work .now) (after (c .before .before .before .before .before .before)) (same (c .before .before .before .before .before .before)) (c .before .before .before .before .before .before .run-nodes .ensures) (c .before .before .value .given .1) (c .before .before .before .before .before .before .before .before .before .before .before .before .before .args .nodes) (many (c .before .before .before .before .before .before)) (c .before .before .before .before .before .before .before .before .before .before .before .before .before .args .output .now) (after (c .before .before .before .before .before .before)) (omega arith)
 
 -- src/lib.rt:84:13
 write-row-requires : tie.Need-write-row-requires
@@ -74,7 +74,7 @@ same-length-3 c = search needs
 
 -- src/lib.rt:72:1
 returns-2 : tie.Need-returns-2
-returns-2 c = λ left. ran-done (start (c .before .before .before .before .before .before .before .before .before .before .before) .args .catalogue .now) (start (c .before .before .before .before .before .before .before .before .before .before .before) .args .tables .now) (nodes (c .before .before .before .before .before .before .before .before .before .before .before)) (start (c .before .before .before .before .before .before .before .before .before .before .before) .args .work .now) (after (c .before .before .before .before .before .before .before .before .before .before .before)) (same (c .before .before .before .before .before .before .before .before .before .before .before)) (c .before .before .before .before .before .before .before .before .before .before .before .run-nodes .ensures) (c .before .before .before .before .before .before .before .value .given .1) (c .before .before .before .before .before .before .before .before .before .before .before .before .before .before .before .before .before .before .args .nodes) (many (c .before .before .before .before .before .before .before .before .before .before .before)) (c .before .before .before .before .before .before .before .before .before .before .before .before .before .before .before .before .before .before .args .output .now) left (omega arith) (c .before .before .write-row .ensures)
+returns-2 c = ran-done (start (c .before .before .before .before .before .before .before .before .before .before .before) .args .catalogue .now) (start (c .before .before .before .before .before .before .before .before .before .before .before) .args .tables .now) (nodes (c .before .before .before .before .before .before .before .before .before .before .before)) (start (c .before .before .before .before .before .before .before .before .before .before .before) .args .work .now) (after (c .before .before .before .before .before .before .before .before .before .before .before)) (same (c .before .before .before .before .before .before .before .before .before .before .before)) (c .before .before .before .before .before .before .before .before .before .before .before .run-nodes .ensures) (c .before .before .before .before .before .before .before .value .given .1) (c .before .before .before .before .before .before .before .before .before .before .before .before .before .before .before .before .before .before .args .nodes) (many (c .before .before .before .before .before .before .before .before .before .before .before)) (c .before .before .before .before .before .before .before .before .before .before .before .before .before .before .before .before .before .before .args .output .now) (after (c .before .before .before .before .before .before .before .before .before .before .before)) (omega arith) (c .before .before .write-row .ensures)
 
 -- src/lib.rt:72:1
 same-length-4 : tie.Need-same-length-4
@@ -82,7 +82,7 @@ same-length-4 c = search needs
 
 -- src/lib.rt:72:1
 returns-3 : tie.Need-returns-3
-returns-3 c = λ left. ran-no-room (start (c .before .before .before .before .before) .args .catalogue .now) (start (c .before .before .before .before .before) .args .tables .now) (nodes (c .before .before .before .before .before)) (start (c .before .before .before .before .before) .args .work .now) (after (c .before .before .before .before .before)) (same (c .before .before .before .before .before)) (c .before .before .before .before .before .run-nodes .ensures) (c .before .place .given .1) (c .before .before .before .before .before .before .before .before .before .before .before .before .args .output .now) left
+returns-3 c = ran-no-room (start (c .before .before .before .before .before) .args .catalogue .now) (start (c .before .before .before .before .before) .args .tables .now) (nodes (c .before .before .before .before .before)) (start (c .before .before .before .before .before) .args .work .now) (after (c .before .before .before .before .before)) (same (c .before .before .before .before .before)) (c .before .before .before .before .before .run-nodes .ensures) (c .before .place .given .1) (c .before .before .before .before .before .before .before .before .before .before .before .before .args .output .now) (after (c .before .before .before .before .before))
 
 pub hand-out-spec : {M : Type 1} → statement M
 hand-out-spec =

@@ -3,7 +3,7 @@ use Rattle.operations.proofs.FillSteps.{builds-by}
 use Rattle.operations.proofs.RowSteps.{flat-step, no-rows}
 use Rattle.operations.specs.Joins.{joined}
 use Rattle.operations.specs.Lists.{triplesIn}
-use Rattle.values.proofs.FillLaws.{Filled, filled-none, filled-on, filled-off, filled-end}
+use Rattle.values.proofs.FillLaws.{Filled, filled-rows, filled-none, filled-on, filled-off, filled-end}
 use Rattle.values.proofs.RowsLaws.{times-step}
 use Rattle.values.specs.Words.{rowIn, rowsAt, rowsOf}
 use Rattle.relations.specs.Operations.{joinCandidates}
@@ -34,7 +34,7 @@ loop-holds c = let s = c .before .before .args in
 -- src/join.rt:76:15
 join-row-requires : tie.Need-join-row-requires Inv-loop μ-loop
 join-row-requires c κs = let s = c .before .before .before .before .before .args in let l = c .before .before .loop in
-    (c .before .before .before .before .before .pre .0, c .before .before .before .before .before .pre .1, c .before .before .before .before .before .pre .2, omega (arith, times-step (l .more) (s .left .width) (omega arith)), c .before .before .before .before .before .pre .4, l .inv .1 .fits, l .inv .1 .ascending)
+    (c .before .before .before .before .before .pre .0, c .before .before .before .before .before .pre .1, c .before .before .before .before .before .pre .2, omega (arith, times-step (l .more) (s .left .width) (omega arith)), c .before .before .before .before .before .pre .4, l .inv .1 .fits, l .inv .1 .ascending, rw (filled-rows (l .inv .1) (s .right .width) (s .right .rows) (s .right .base) (c .before .before .before .before .before .pre .4)) (c .before .before .before .before .before .pre .6))
 
 -- src/join.rt:77:26
 enum-known-rows : tie.Need-enum-known-rows Inv-loop μ-loop

@@ -24,10 +24,10 @@ use Rattle.values.proofs.rows.row.Reads as row-reads
 use Rattle.values.proofs.search.stands_behind.Reads as stands-behind-reads
 
 abbrev Inv-loop : tie.InvT-loop
-Inv-loop list count work sought number high width at₀ left₀ likely₀ at left likely = (at + left * width ≤ length work) × Ascending (rowsAt width left at work) × (any (meets (triplesIn count list) sought) (rowsAt width left₀ at₀ work) ≡ any (meets (triplesIn count list) sought) (rowsAt width left at work))
+Inv-loop list count work sought number high width at₀ left₀ likely₀ second₀ at left likely second = (at + left * width ≤ length work) × Ascending (rowsAt width left at work) × (any (meets (triplesIn count list) sought) (rowsAt width left₀ at₀ work) ≡ any (meets (triplesIn count list) sought) (rowsAt width left at work))
 
 abbrev μ-loop : tie.MeasureT-loop
-μ-loop list count work sought number high width at₀ left₀ likely₀ at left likely = left
+μ-loop list count work sought number high width at₀ left₀ likely₀ second₀ at left likely second = left
 
 -- src/keep.rt:57:31
 mul-at : tie.Need-mul-at Inv-loop μ-loop

@@ -158,7 +158,7 @@ enum-told-5 c = search needs
 
 -- src/node.rt:109:28
 join-requires : tie.Need-join-requires
-join-requires c κs = let v = c .before .before .before in let a = asked v Join (c .before .enum-told5 .given .1) in (a .2, a .0 .0, a .3, a .0 .2, a .1 .2, inside v)
+join-requires c κs = let v = c .before .before .before in let a = asked v Join (c .before .enum-told5 .given .1) in (a .2, a .0 .0, a .3, a .0 .2, a .1 .2, inside v, a .1 .3)
 
 finish-requires-4 : tie.Need-finish-requires-4
 finish-requires-4 c κs = omega (arith, inside (c .before .before .before .before .before .before .before), c .before .before .before .join .kept)

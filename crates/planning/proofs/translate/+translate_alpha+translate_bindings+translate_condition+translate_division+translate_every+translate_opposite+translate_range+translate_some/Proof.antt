@@ -5,31 +5,28 @@ use borrow.Fn.Kinds.{In}
 use borrow.Fn.PlainCycle.{Measures, is, falls, and}
 use Rattle.planning.proofs.translate.translate_alpha.Reads as translate-alpha
 use Rattle.planning.proofs.translate.translate_alpha.Kinds as translate-alpha-kinds
-use Rattle.planning.proofs.translate.+translate_alpha+translate_bindings+translate_condition+translate_division+translate_every+translate_inside+translate_opposite+translate_range+translate_some.Lts-translate_alpha as translate-alpha-lts
+use Rattle.planning.proofs.translate.+translate_alpha+translate_bindings+translate_condition+translate_division+translate_every+translate_opposite+translate_range+translate_some.Lts-translate_alpha as translate-alpha-lts
 use Rattle.planning.proofs.translate.translate_bindings.Reads as translate-bindings
 use Rattle.planning.proofs.translate.translate_bindings.Kinds as translate-bindings-kinds
-use Rattle.planning.proofs.translate.+translate_alpha+translate_bindings+translate_condition+translate_division+translate_every+translate_inside+translate_opposite+translate_range+translate_some.Lts-translate_bindings as translate-bindings-lts
+use Rattle.planning.proofs.translate.+translate_alpha+translate_bindings+translate_condition+translate_division+translate_every+translate_opposite+translate_range+translate_some.Lts-translate_bindings as translate-bindings-lts
 use Rattle.planning.proofs.translate.translate_condition.Reads as translate-condition
 use Rattle.planning.proofs.translate.translate_condition.Kinds as translate-condition-kinds
-use Rattle.planning.proofs.translate.+translate_alpha+translate_bindings+translate_condition+translate_division+translate_every+translate_inside+translate_opposite+translate_range+translate_some.Lts-translate_condition as translate-condition-lts
+use Rattle.planning.proofs.translate.+translate_alpha+translate_bindings+translate_condition+translate_division+translate_every+translate_opposite+translate_range+translate_some.Lts-translate_condition as translate-condition-lts
 use Rattle.planning.proofs.translate.translate_division.Reads as translate-division
 use Rattle.planning.proofs.translate.translate_division.Kinds as translate-division-kinds
-use Rattle.planning.proofs.translate.+translate_alpha+translate_bindings+translate_condition+translate_division+translate_every+translate_inside+translate_opposite+translate_range+translate_some.Lts-translate_division as translate-division-lts
+use Rattle.planning.proofs.translate.+translate_alpha+translate_bindings+translate_condition+translate_division+translate_every+translate_opposite+translate_range+translate_some.Lts-translate_division as translate-division-lts
 use Rattle.planning.proofs.translate.translate_every.Reads as translate-every
 use Rattle.planning.proofs.translate.translate_every.Kinds as translate-every-kinds
-use Rattle.planning.proofs.translate.+translate_alpha+translate_bindings+translate_condition+translate_division+translate_every+translate_inside+translate_opposite+translate_range+translate_some.Lts-translate_every as translate-every-lts
-use Rattle.planning.proofs.translate.translate_inside.Reads as translate-inside
-use Rattle.planning.proofs.translate.translate_inside.Kinds as translate-inside-kinds
-use Rattle.planning.proofs.translate.+translate_alpha+translate_bindings+translate_condition+translate_division+translate_every+translate_inside+translate_opposite+translate_range+translate_some.Lts-translate_inside as translate-inside-lts
+use Rattle.planning.proofs.translate.+translate_alpha+translate_bindings+translate_condition+translate_division+translate_every+translate_opposite+translate_range+translate_some.Lts-translate_every as translate-every-lts
 use Rattle.planning.proofs.translate.translate_opposite.Reads as translate-opposite
 use Rattle.planning.proofs.translate.translate_opposite.Kinds as translate-opposite-kinds
-use Rattle.planning.proofs.translate.+translate_alpha+translate_bindings+translate_condition+translate_division+translate_every+translate_inside+translate_opposite+translate_range+translate_some.Lts-translate_opposite as translate-opposite-lts
+use Rattle.planning.proofs.translate.+translate_alpha+translate_bindings+translate_condition+translate_division+translate_every+translate_opposite+translate_range+translate_some.Lts-translate_opposite as translate-opposite-lts
 use Rattle.planning.proofs.translate.translate_range.Reads as translate-range
 use Rattle.planning.proofs.translate.translate_range.Kinds as translate-range-kinds
-use Rattle.planning.proofs.translate.+translate_alpha+translate_bindings+translate_condition+translate_division+translate_every+translate_inside+translate_opposite+translate_range+translate_some.Lts-translate_range as translate-range-lts
+use Rattle.planning.proofs.translate.+translate_alpha+translate_bindings+translate_condition+translate_division+translate_every+translate_opposite+translate_range+translate_some.Lts-translate_range as translate-range-lts
 use Rattle.planning.proofs.translate.translate_some.Reads as translate-some
 use Rattle.planning.proofs.translate.translate_some.Kinds as translate-some-kinds
-use Rattle.planning.proofs.translate.+translate_alpha+translate_bindings+translate_condition+translate_division+translate_every+translate_inside+translate_opposite+translate_range+translate_some.Lts-translate_some as translate-some-lts
+use Rattle.planning.proofs.translate.+translate_alpha+translate_bindings+translate_condition+translate_division+translate_every+translate_opposite+translate_range+translate_some.Lts-translate_some as translate-some-lts
 use Rattle.nodes.proofs.node.decode.Reads as decode-reads
 use Rattle.emission.proofs.emit.intersect.Reads as intersect-reads
 use Rattle.emission.proofs.node_list.no_list.Reads as no-list-reads
@@ -54,8 +51,8 @@ use Rattle.short_rules.proofs.fits.division_fits.Reads as division-fits-reads
 use Rattle.short_rules.proofs.fits.opposite_fits.Reads as opposite-fits-reads
 use Rattle.planning.proofs.translate.translate_table.Reads as translate-table-reads
 use Rattle.planning.proofs.targets.with_targets.Reads as with-targets-reads
-use Rattle.planning.proofs.translate.+translate_alpha+translate_bindings+translate_condition+translate_division+translate_every+translate_inside+translate_opposite+translate_range+translate_some.{statement}
-use Rattle.planning.proofs.translate.+translate_alpha+translate_bindings+translate_condition+translate_division+translate_every+translate_inside+translate_opposite+translate_range+translate_some.Tie.{close}
+use Rattle.planning.proofs.translate.+translate_alpha+translate_bindings+translate_condition+translate_division+translate_every+translate_opposite+translate_range+translate_some.{statement}
+use Rattle.planning.proofs.translate.+translate_alpha+translate_bindings+translate_condition+translate_division+translate_every+translate_opposite+translate_range+translate_some.Tie.{close}
 use Rattle.planning.proofs.RangeSteps.{Sides, or-sides, and-sides, and-not-sides, call-left, call-right, room-last, sides-done, room-one, done-as, call-alpha}
 use Rattle.nodes.specs.declared.node.Node.the-variants.{Table, Alpha, Some, Atom as AtomNode}
 use Rattle.relations.specs.Nodes.{unite, intersect, subtract}
@@ -64,7 +61,6 @@ use Rattle.planning.proofs.BindingSteps.{Chain, chain, call-bound, room
 use Rattle.planning.proofs.AlphaSteps.{AlphaAsked, alpha-asked, call-first, scope-starts, call-rest, some-joined, call-condition, some-kept, list-targets, room-project, alpha-done, no-alpha}
 use mathlib.Core.Bool.{Bool, true, _&&_}
 use Rattle.relations.proofs.BoolLaws.{and-right, true-and-false}
-use Rattle.calculus.specs.Scope.{columnsIn, allColumns}
 use Rattle.calculus.specs.ShortRules.{shortRule5Fits}
 use Rattle.nodes.specs.Nodes.{nodeAt}
 use Rattle.conditions.specs.Readings.{Names, conditionAt, rangeAt}
@@ -80,36 +76,33 @@ use Rattle.catalogue.specs.Stored.{relationsOf, columnsOf}
 use Rattle.question.specs.Trees.{atomOf}
 use Rattle.calculus.specs.Question.{Condition, conditionAnd, conditionOr, forSome, forEvery}
 use Rattle.calculus.specs.Form.{GoodCondition}
-use Rattle.conditions.specs.declared.scope.Scope.{Scope}
+use Rattle.conditions.specs.declared.scope.CarriedScope.{CarriedScope}
 use mathlib.Core.List.{List}
 use Rattle.short_rules.proofs.FitLaws.{oppositeFits, some-opposite, not-divided, no-opposite}
 
 abbrev μ-translate-alpha : Measures 3 translate-alpha-kinds.ps ℕ
-μ-translate-alpha κs a = 3 * max (a .1 .1 .1 .1 .0) (a .1 .1 .1 .1 .1 .0) + 2
+μ-translate-alpha κs a = 2 * max (a .1 .1 .1 .1 .0) (a .1 .1 .1 .1 .1 .0) + 1
 
 abbrev μ-translate-bindings : Measures 3 translate-bindings-kinds.ps ℕ
-μ-translate-bindings κs a = 3 * a .1 .1 .1 .0
+μ-translate-bindings κs a = 2 * a .1 .1 .1 .0
 
 abbrev μ-translate-condition : Measures 3 translate-condition-kinds.ps ℕ
-μ-translate-condition κs a = 3 * a .1 .1 .1 .0
+μ-translate-condition κs a = 2 * a .1 .1 .1 .0
 
 abbrev μ-translate-division : Measures 3 translate-division-kinds.ps ℕ
-μ-translate-division κs a = 3 * a .1 .1 .1 .1 .1 .0
+μ-translate-division κs a = 2 * a .1 .1 .1 .1 .1 .0
 
 abbrev μ-translate-every : Measures 3 translate-every-kinds.ps ℕ
-μ-translate-every κs a = 3 * max (a .1 .1 .1 .1 .0) (a .1 .1 .1 .1 .1 .0) + 2
-
-abbrev μ-translate-inside : Measures 3 translate-inside-kinds.ps ℕ
-μ-translate-inside κs a = 3 * a .1 .1 .1 .1 .1 .0 + 1
+μ-translate-every κs a = 2 * max (a .1 .1 .1 .1 .0) (a .1 .1 .1 .1 .1 .0) + 1
 
 abbrev μ-translate-opposite : Measures 3 translate-opposite-kinds.ps ℕ
-μ-translate-opposite κs a = 3 * a .1 .1 .1 .0 + 2
+μ-translate-opposite κs a = 2 * a .1 .1 .1 .0
 
 abbrev μ-translate-range : Measures 3 translate-range-kinds.ps ℕ
-μ-translate-range κs a = 3 * a .1 .1 .1 .0
+μ-translate-range κs a = 2 * a .1 .1 .1 .0
 
 abbrev μ-translate-some : Measures 3 translate-some-kinds.ps ℕ
-μ-translate-some κs a = 3 * max (a .1 .1 .1 .1 .0) (a .1 .1 .1 .1 .1 .0) + 2
+μ-translate-some κs a = 2 * max (a .1 .1 .1 .1 .0) (a .1 .1 .1 .1 .1 .0) + 1
 
 abbrev translate-alpha-at : ℕ → In 3 translate-alpha-kinds.ps
 translate-alpha-at t =
@@ -191,22 +184,6 @@ translate-every-below t =
     (falls 3 translate-every-kinds.ps _<_ μ-translate-every t)
     translate-every.Pre
 
-abbrev translate-inside-at : ℕ → In 3 translate-inside-kinds.ps
-translate-inside-at t =
-    and
-    3
-    translate-inside-kinds.ps
-    (is 3 translate-inside-kinds.ps μ-translate-inside t)
-    translate-inside.Pre
-
-abbrev translate-inside-below : ℕ → In 3 translate-inside-kinds.ps
-translate-inside-below t =
-    and
-    3
-    translate-inside-kinds.ps
-    (falls 3 translate-inside-kinds.ps _<_ μ-translate-inside t)
-    translate-inside.Pre
-
 abbrev translate-opposite-at : ℕ → In 3 translate-opposite-kinds.ps
 translate-opposite-at t =
     and
@@ -268,10 +245,7 @@ abbrev translate-division-calls : ℕ → translate-division-lts.Claims
 translate-division-calls t = (decode-reads.Asked, decode-reads.Learnt, translate-range-below t, translate-range.Post, leaves-of-reads.Asked, leaves-of-reads.Learnt, write-short-rule-5-reads.Asked, write-short-rule-5-reads.Learnt)
 
 abbrev translate-every-calls : ℕ → translate-every-lts.Claims
-translate-every-calls t = (translate-range-below t, translate-range.Post, leaves-of-reads.Asked, leaves-of-reads.Learnt, short-rule-4-fits-reads.Asked, short-rule-4-fits-reads.Learnt, write-short-rule-4-reads.Asked, write-short-rule-4-reads.Learnt, division-fits-reads.Asked, division-fits-reads.Learnt, translate-division-below t, translate-division.Post, no-list-reads.Asked, no-list-reads.Learnt, with-columns-reads.Asked, with-columns-reads.Learnt, translate-inside-below t, translate-inside.Post, subtract-reads.Asked, subtract-reads.Learnt, project-reads.Asked, project-reads.Learnt)
-
-abbrev translate-inside-calls : ℕ → translate-inside-lts.Claims
-translate-inside-calls t = (extend-reads.Asked, extend-reads.Learnt, product-reads.Asked, product-reads.Learnt, translate-condition-below t, translate-condition.Post)
+translate-every-calls t = (translate-range-below t, translate-range.Post, leaves-of-reads.Asked, leaves-of-reads.Learnt, short-rule-4-fits-reads.Asked, short-rule-4-fits-reads.Learnt, write-short-rule-4-reads.Asked, write-short-rule-4-reads.Learnt, division-fits-reads.Asked, division-fits-reads.Learnt, translate-division-below t, translate-division.Post, no-list-reads.Asked, no-list-reads.Learnt, with-columns-reads.Asked, with-columns-reads.Learnt, extend-reads.Asked, extend-reads.Learnt, product-reads.Asked, product-reads.Learnt, translate-condition-below t, translate-condition.Post, subtract-reads.Asked, subtract-reads.Learnt, project-reads.Asked, project-reads.Learnt)
 
 abbrev translate-opposite-calls : ℕ → translate-opposite-lts.Claims
 translate-opposite-calls t = (decode-reads.Asked, decode-reads.Learnt, translate-range-below t, translate-range.Post, leaves-of-reads.Asked, leaves-of-reads.Learnt, write-short-rule-3-reads.Asked, write-short-rule-3-reads.Learnt, write-short-rule-6-reads.Asked, write-short-rule-6-reads.Learnt)
@@ -280,7 +254,7 @@ abbrev translate-range-calls : ℕ → translate-range-lts.Claims
 translate-range-calls t = (decode-reads.Asked, decode-reads.Learnt, translate-table-reads.Asked, translate-table-reads.Learnt, translate-alpha-below t, translate-alpha.Post, translate-range-below t, translate-range.Post, unite-reads.Asked, unite-reads.Learnt, intersect-reads.Asked, intersect-reads.Learnt, subtract-reads.Asked, subtract-reads.Learnt)
 
 abbrev translate-some-calls : ℕ → translate-some-lts.Claims
-translate-some-calls t = (translate-range-below t, translate-range.Post, leaves-of-reads.Asked, leaves-of-reads.Learnt, short-rule-2-fits-reads.Asked, short-rule-2-fits-reads.Learnt, write-short-rule-2-reads.Asked, write-short-rule-2-reads.Learnt, no-list-reads.Asked, no-list-reads.Learnt, with-columns-reads.Asked, with-columns-reads.Learnt, translate-inside-below t, translate-inside.Post, project-reads.Asked, project-reads.Learnt)
+translate-some-calls t = (translate-range-below t, translate-range.Post, leaves-of-reads.Asked, leaves-of-reads.Learnt, short-rule-2-fits-reads.Asked, short-rule-2-fits-reads.Learnt, write-short-rule-2-reads.Asked, write-short-rule-2-reads.Learnt, no-list-reads.Asked, no-list-reads.Learnt, with-columns-reads.Asked, with-columns-reads.Learnt, extend-reads.Asked, extend-reads.Learnt, product-reads.Asked, product-reads.Learnt, translate-condition-below t, translate-condition.Post, project-reads.Asked, project-reads.Learnt)
 
 -- what it was asked with, where the node that was decoded is a binding
 alpha-at : (t : ℕ) (c : translate-alpha-lts.After-node (translate-alpha-calls t) (translate-alpha-at t) translate-alpha.Post) → AlphaAsked (c .before .before .before .before .before .before .args .catalogue .now) (c .before .before .before .before .before .before .args .words .now) (c .before .before .before .before .before .before .args .plan .now) t (c .before .before .before .before .before .before .args .n) (c .before .before .before .before .before .before .args .target) (c .before .before .before .before .before .before .args .binding) (c .before .before .before .before .before .before .args .condition) (c .node .given .0 .0) (c .node .given .0 .1 .0) (c .node .given .0 .1 .1 .0)
@@ -394,7 +368,7 @@ translate-bindings-returns-3 t c = no-more-done (bindings-is (c .before .before 
 translate-condition-named : (t : ℕ) (c : translate-condition-lts.Else1 (translate-condition-calls t) (translate-condition-at t) translate-condition.Post) → Names (c .before .before .before .before .args .words .now) (c .before .before .before .before .args .reference)
 translate-condition-named t c = (named (c .if1 .left), c .before .before .before .before .pre .1 .0)
 
-abbrev translate-condition-knows : (t : ℕ) → translate-condition-lts.Start (translate-condition-calls t) (translate-condition-at t) translate-condition.Post → (List ℕ → List ℕ → List ℕ → Scope → ℕ → ℕ → Type 0) → Type 0
+abbrev translate-condition-knows : (t : ℕ) → translate-condition-lts.Start (translate-condition-calls t) (translate-condition-at t) translate-condition.Post → (List ℕ → List ℕ → List ℕ → CarriedScope → ℕ → ℕ → Type 0) → Type 0
 translate-condition-knows t s Known = Known (s .args .catalogue .now) (s .args .words .now) (s .args .plan .now) (s .args .scope) (s .args .reference) (s .args .n)
 
 translate-condition-atom : (t : ℕ) (c : translate-condition-lts.After-known-told (translate-condition-calls t) (translate-condition-at t) translate-condition.Post) → translate-condition-knows t (c .before .before .before .before .before .before .before .before) (AtomHere (c .before .node .given .0 .0))
@@ -660,55 +634,55 @@ translate-every-no-list-requires t c κs = tt
 translate-every-with-columns-requires : (t : ℕ) → translate-every-lts.Need-with-columns-requires (translate-every-calls t) (translate-every-at t) translate-every.Post
 translate-every-with-columns-requires t c κs = columns-room (c .before .before .before .before .before .before .before .before .before .before .before .before .before .pre .1 .2 .fits) (c .no-list .ensures)
 
-translate-every-translate-inside-requires : (t : ℕ) → translate-every-lts.Need-translate-inside-requires (translate-every-calls t) (translate-every-at t) translate-every.Post
-translate-every-translate-inside-requires t c κs = let s = c .before .before .before .before .before .before .before .before .before .before .before .before .before .before .before in
-    (omega (arith, s .pre .0), (s .pre .1 .1, inside-ready (every-ready (s .pre .1 .2)) (c .before .before .before .before .before .before .before .before .before .before .translate-range .ensures)))
+translate-every-extend-requires : (t : ℕ) → translate-every-lts.Need-extend-requires (translate-every-calls t) (translate-every-at t) translate-every.Post
+translate-every-extend-requires t c κs = let s = c .before .before .before .before .before .before .before .before .before .before .before .before .before .before in
+    let r = inside-ready (every-ready (s .pre .1 .2)) (c .before .before .before .before .before .before .before .before .before .translate-range .ensures) in
+    (r .fits, r .some-columns, r .few-columns)
+
+translate-every-sub-product : (t : ℕ) → translate-every-lts.Need-sub-product (translate-every-calls t) (translate-every-at t) translate-every.Post
+translate-every-sub-product t c = omega (arith, c .before .before .before .before .before .before .before .before .before .before .before .translate-range .ensures .more)
+
+translate-every-product-requires : (t : ℕ) → translate-every-lts.Need-product-requires (translate-every-calls t) (translate-every-at t) translate-every.Post
+translate-every-product-requires t c κs = let s = c .before .before .before .before .before .before .before .before .before .before .before .before .before .before .before .before in
+    room-less 1 (inside-ready (every-ready (s .pre .1 .2)) (c .before .before .before .before .before .before .before .before .before .before .before .translate-range .ensures) .room) (omega arith)
+
+translate-every-translate-condition-requires : (t : ℕ) → translate-every-lts.Need-translate-condition-requires (translate-every-calls t) (translate-every-at t) translate-every.Post
+translate-every-translate-condition-requires t c κs = let s = c .before .before .before .before .before .before .before .before .before .before .before .before .before .before .before .before .before .before .before .before in
+    let r = inside-ready (every-ready (s .pre .1 .2)) (c .before .before .before .before .before .before .before .before .before .before .before .before .before .before .before .translate-range .ensures) in
+    let e = inside-restricts (s .args .words .now) (s .args .condition) r in
+    (omega (arith, s .pre .0), (s .pre .1 .1 .1, inside-condition-ready r e (c .before .before .before .before .before .extend .ensures) (c .before .before .before .product .ensures)))
 
 translate-every-sub-subtract : (t : ℕ) → translate-every-lts.Need-sub-subtract (translate-every-calls t) (translate-every-at t) translate-every.Post
-translate-every-sub-subtract t c = omega (arith, c .before .before .before .translate-inside .ensures .counted)
+translate-every-sub-subtract t c = omega (arith, c .before .before .before .translate-condition .ensures .counted, c .before .before .before .before .before .before .before .product .ensures .counted)
 
 translate-every-subtract-requires : (t : ℕ) → translate-every-lts.Need-subtract-requires (translate-every-calls t) (translate-every-at t) translate-every.Post
-translate-every-subtract-requires t c κs = let s = c .before .before .before .before .before .before .before .before .before .before .before .before .before .before .before .before .before .before .before in
-    room-less 1 (room-plain (every-ready (s .pre .1 .2)) (c .before .before .before .before .before .before .before .before .before .before .before .before .before .before .translate-range .ensures) (s .args .p) (c .before .before .before .translate-inside .ensures)) (omega arith)
+translate-every-subtract-requires t c κs = let s = c .before .before .before .before .before .before .before .before .before .before .before .before .before .before .before .before .before .before .before .before .before .before .before .before in
+    let r = inside-ready (every-ready (s .pre .1 .2)) (c .before .before .before .before .before .before .before .before .before .before .before .before .before .before .before .before .before .before .before .translate-range .ensures) in
+    let inside = inside-written r (inside-restricts (s .args .words .now) (s .args .condition) r) (c .before .before .before .before .before .before .before .before .before .extend .ensures) (c .before .before .before .before .before .before .before .product .ensures) (s .args .short) (c .before .before .before .translate-condition .ensures) in
+    room-less 1 (room-plain (every-ready (s .pre .1 .2)) (c .before .before .before .before .before .before .before .before .before .before .before .before .before .before .before .before .before .before .before .translate-range .ensures) (s .args .p) inside) (omega arith)
 
 translate-every-project-requires : (t : ℕ) → translate-every-lts.Need-project-requires (translate-every-calls t) (translate-every-at t) translate-every.Post
-translate-every-project-requires t c κs = let s = c .before .before .before .before .before .before .before .before .before .before .before .before .before .before .before .before .before .before .before .before .before .before .before in
-    (room-after 1 (room-plain (every-ready (s .pre .1 .2)) (c .before .before .before .before .before .before .before .before .before .before .before .before .before .before .before .before .before .before .translate-range .ensures) (s .args .p) (c .before .before .before .before .before .before .before .translate-inside .ensures)) (c .before .before .before .subtract .ensures) (omega arith), columns-lists (s .pre .1 .2 .fits) (c .before .before .before .before .before .before .before .before .before .before .no-list .ensures) (c .before .before .before .before .before .before .before .before .before .with-columns .ensures))
+translate-every-project-requires t c κs = let s = c .before .before .before .before .before .before .before .before .before .before .before .before .before .before .before .before .before .before .before .before .before .before .before .before .before .before .before .before in
+    let r = inside-ready (every-ready (s .pre .1 .2)) (c .before .before .before .before .before .before .before .before .before .before .before .before .before .before .before .before .before .before .before .before .before .before .before .translate-range .ensures) in
+    let inside = inside-written r (inside-restricts (s .args .words .now) (s .args .condition) r) (c .before .before .before .before .before .before .before .before .before .before .before .before .before .extend .ensures) (c .before .before .before .before .before .before .before .before .before .before .before .product .ensures) (s .args .short) (c .before .before .before .before .before .before .before .translate-condition .ensures) in
+    (room-after 1 (room-plain (every-ready (s .pre .1 .2)) (c .before .before .before .before .before .before .before .before .before .before .before .before .before .before .before .before .before .before .before .before .before .before .before .translate-range .ensures) (s .args .p) inside) (c .before .before .before .subtract .ensures) (omega arith), columns-lists (s .pre .1 .2 .fits) (c .before .before .before .before .before .before .before .before .before .before .before .before .before .before .before .no-list .ensures) (c .before .before .before .before .before .before .before .before .before .before .before .before .before .before .with-columns .ensures))
 
 translate-every-subtract-requires-2 : (t : ℕ) → translate-every-lts.Need-subtract-requires-2 (translate-every-calls t) (translate-every-at t) translate-every.Post
-translate-every-subtract-requires-2 t c κs = let s = c .before .before .before .before .before .before .before .before .before .before .before .before .before .before .before .before .before .before .before .before .before .before .before .before .before .before .before in
-    let room = room-after 2 (room-plain (every-ready (s .pre .1 .2)) (c .before .before .before .before .before .before .before .before .before .before .before .before .before .before .before .before .before .before .before .before .before .before .translate-range .ensures) (s .args .p) (c .before .before .before .before .before .before .before .before .before .before .before .translate-inside .ensures)) (c .before .before .before .before .before .before .before .subtract .ensures) (omega arith) in
+translate-every-subtract-requires-2 t c κs = let s = c .before .before .before .before .before .before .before .before .before .before .before .before .before .before .before .before .before .before .before .before .before .before .before .before .before .before .before .before .before .before .before .before in
+    let r = inside-ready (every-ready (s .pre .1 .2)) (c .before .before .before .before .before .before .before .before .before .before .before .before .before .before .before .before .before .before .before .before .before .before .before .before .before .before .before .translate-range .ensures) in
+    let inside = inside-written r (inside-restricts (s .args .words .now) (s .args .condition) r) (c .before .before .before .before .before .before .before .before .before .before .before .before .before .before .before .before .before .extend .ensures) (c .before .before .before .before .before .before .before .before .before .before .before .before .before .before .before .product .ensures) (s .args .short) (c .before .before .before .before .before .before .before .before .before .before .before .translate-condition .ensures) in
+    let room = room-after 2 (room-plain (every-ready (s .pre .1 .2)) (c .before .before .before .before .before .before .before .before .before .before .before .before .before .before .before .before .before .before .before .before .before .before .before .before .before .before .before .translate-range .ensures) (s .args .p) inside) (c .before .before .before .before .before .before .before .subtract .ensures) (omega arith) in
     room-after 1 room (c .before .before .before .project .ensures) (omega arith)
 
 translate-every-same-length-3 : (t : ℕ) → translate-every-lts.Need-same-length-3 (translate-every-calls t) (translate-every-at t) translate-every.Post
-translate-every-same-length-3 t c = c .before .before .subtract2 .kept .0 ∙ c .before .before .before .before .before .before .project .kept .0 ∙ c .before .before .before .before .before .before .before .before .before .before .subtract .kept .0 ∙ c .before .before .before .before .before .before .before .before .before .before .before .before .before .before .translate-inside .kept .1 .1 .1 .1 .1 .1 .1 .1 .0 ∙ c .before .before .before .before .before .before .before .before .before .before .before .before .before .before .before .before .before .before .before .before .before .before .before .before .before .translate-range .kept .1 .1 .1 .1 .0
+translate-every-same-length-3 t c = c .before .before .subtract2 .kept .0 ∙ c .before .before .before .before .before .before .project .kept .0 ∙ c .before .before .before .before .before .before .before .before .before .before .subtract .kept .0 ∙ c .before .before .before .before .before .before .before .before .before .before .before .before .before .before .translate-condition .kept .1 .1 .1 .1 .1 .1 .0 ∙ c .before .before .before .before .before .before .before .before .before .before .before .before .before .before .before .before .before .before .product .kept .0 ∙ c .before .before .before .before .before .before .before .before .before .before .before .before .before .before .before .before .before .before .before .before .before .before .before .before .before .before .before .before .before .before .translate-range .kept .1 .1 .1 .1 .0
 
 translate-every-returns-3 : (t : ℕ) → translate-every-lts.Need-returns-3 (translate-every-calls t) (translate-every-at t) translate-every.Post
-translate-every-returns-3 t c = let s = c .before .before .before .before .before .before .before .before .before .before .before .before .before .before .before .before .before .before .before .before .before .before .before .before .before .before .before .before .before .before in
-    let found = c .before .before .before .before .before .before .before .before .before .before .before .before .before .before .before .before .before .before .before .before .before .before .leaves-of .ensures .1 in
-    every-plain (c .before .before .before .before .before .before .before .before .before .before .before .before .before .before .before .before .before .before .before .before .before .before .before .before .before .translate-range .ensures) (conditionAt (s .args .words .now) (s .args .condition)) (s .args .x) (scopeOf (s .args .scope)) (s .args .p) (c .before .before .before .before .before .before .before .before .before .before .before .before .before .before .translate-inside .ensures) (rule-test found (s .args .x) (s .args .short) (found .or-tree) (c .before .before .before .before .before .before .before .before .before .before .before .before .before .before .before .before .before .before .before .before .before .short-rule-4-fits .ensures) (c .before .before .before .before .before .before .before .before .before .before .before .before .before .before .before .before .before .before .before .before .if1 .left)) (ap (λ (b : Bool). s .args .short && b) (sym (c .before .before .before .before .before .before .before .before .before .before .before .before .before .before .before .before .before .before .before .division-fits .ensures)) ∙ c .before .before .before .before .before .before .before .before .before .before .before .before .before .before .before .before .before .before .if2 .left) (c .before .before .before .before .before .before .before .before .before .before .subtract .ensures) (columns-project (s .pre .1 .2 .fits) (c .before .before .before .before .before .before .before .before .before .before .before .before .before .before .before .before .before .no-list .ensures) (c .before .before .before .before .before .before .before .before .before .before .before .before .before .before .before .before .with-columns .ensures) (c .before .before .before .before .before .before .project .ensures)) (c .before .before .subtract2 .ensures)
-
-translate-inside-extend-requires : (t : ℕ) → translate-inside-lts.Need-extend-requires (translate-inside-calls t) (translate-inside-at t) translate-inside.Post
-translate-inside-extend-requires t c κs = search needs
-
-translate-inside-sub-product : (t : ℕ) → translate-inside-lts.Need-sub-product (translate-inside-calls t) (translate-inside-at t) translate-inside.Post
-translate-inside-sub-product t c = search needs
-
-translate-inside-product-requires : (t : ℕ) → translate-inside-lts.Need-product-requires (translate-inside-calls t) (translate-inside-at t) translate-inside.Post
-translate-inside-product-requires t c κs = room-less 1 (c .before .before .before .before .before .pre .1 .1 .room) (omega arith)
-
-translate-inside-translate-condition-requires : (t : ℕ) → translate-inside-lts.Need-translate-condition-requires (translate-inside-calls t) (translate-inside-at t) translate-inside.Post
-translate-inside-translate-condition-requires t c κs = let s = c .before .before .before .before .before .before .before .before .before in
-    let e = inside-restricts (s .args .words .now) (s .args .condition) (s .pre .1 .1) in
-    (omega (arith, s .pre .0), (s .pre .1 .0 .1, inside-condition-ready (s .pre .1 .1) e (c .before .before .before .before .before .extend .ensures) (c .before .before .before .product .ensures)))
-
-translate-inside-same-length : (t : ℕ) → translate-inside-lts.Need-same-length (translate-inside-calls t) (translate-inside-at t) translate-inside.Post
-translate-inside-same-length t c = search needs
-
-translate-inside-returns : (t : ℕ) → translate-inside-lts.Need-returns (translate-inside-calls t) (translate-inside-at t) translate-inside.Post
-translate-inside-returns t c = let s = c .before .before .before .before .before .before .before .before .before .before .before .before in
-    let e = inside-restricts (s .args .words .now) (s .args .condition) (s .pre .1 .1) in
-    inside-written (s .pre .1 .1) e (c .before .before .before .before .before .before .before .before .extend .ensures) (c .before .before .before .before .before .before .product .ensures) (s .args .short) (c .before .before .translate-condition .ensures)
+translate-every-returns-3 t c = let s = c .before .before .before .before .before .before .before .before .before .before .before .before .before .before .before .before .before .before .before .before .before .before .before .before .before .before .before .before .before .before .before .before .before .before .before in
+    let r = inside-ready (every-ready (s .pre .1 .2)) (c .before .before .before .before .before .before .before .before .before .before .before .before .before .before .before .before .before .before .before .before .before .before .before .before .before .before .before .before .before .before .translate-range .ensures) in
+    let inside = inside-written r (inside-restricts (s .args .words .now) (s .args .condition) r) (c .before .before .before .before .before .before .before .before .before .before .before .before .before .before .before .before .before .before .before .before .extend .ensures) (c .before .before .before .before .before .before .before .before .before .before .before .before .before .before .before .before .before .before .product .ensures) (s .args .short) (c .before .before .before .before .before .before .before .before .before .before .before .before .before .before .translate-condition .ensures) in
+    let found = c .before .before .before .before .before .before .before .before .before .before .before .before .before .before .before .before .before .before .before .before .before .before .before .before .before .before .before .leaves-of .ensures .1 in
+    every-plain (c .before .before .before .before .before .before .before .before .before .before .before .before .before .before .before .before .before .before .before .before .before .before .before .before .before .before .before .before .before .before .translate-range .ensures) (conditionAt (s .args .words .now) (s .args .condition)) (s .args .x) (scopeOf (s .args .scope)) (s .args .p) inside (rule-test found (s .args .x) (s .args .short) (found .or-tree) (c .before .before .before .before .before .before .before .before .before .before .before .before .before .before .before .before .before .before .before .before .before .before .before .before .before .before .short-rule-4-fits .ensures) (c .before .before .before .before .before .before .before .before .before .before .before .before .before .before .before .before .before .before .before .before .before .before .before .before .before .if1 .left)) (ap (λ (b : Bool). s .args .short && b) (sym (c .before .before .before .before .before .before .before .before .before .before .before .before .before .before .before .before .before .before .before .before .before .before .before .before .division-fits .ensures)) ∙ c .before .before .before .before .before .before .before .before .before .before .before .before .before .before .before .before .before .before .before .before .before .before .before .if2 .left) (c .before .before .before .before .before .before .before .before .before .before .subtract .ensures) (columns-project (s .pre .1 .2 .fits) (c .before .before .before .before .before .before .before .before .before .before .before .before .before .before .before .before .before .before .before .before .before .before .no-list .ensures) (c .before .before .before .before .before .before .before .before .before .before .before .before .before .before .before .before .before .before .before .before .before .with-columns .ensures) (c .before .before .before .before .before .before .project .ensures)) (c .before .before .subtract2 .ensures)
 
 -- the "some" or the atom that a reference names
 translate-opposite-some-node : (t : ℕ) (c : translate-opposite-lts.After-known-told (translate-opposite-calls t) (translate-opposite-at t) translate-opposite.Post) → Some (c .before .node .given .0 .0) (c .before .node .given .0 .1 .0) (c .before .node .given .0 .1 .1 .0) ≡ nodeAt (c .before .before .before .before .before .before .before .args .words .now) (c .before .before .before .before .before .before .before .args .reference - 1)
@@ -931,35 +905,52 @@ translate-some-no-list-requires t c κs = tt
 translate-some-with-columns-requires : (t : ℕ) → translate-some-lts.Need-with-columns-requires (translate-some-calls t) (translate-some-at t) translate-some.Post
 translate-some-with-columns-requires t c κs = columns-room (c .before .before .before .before .before .before .before .before .before .before .before .pre .1 .2 .fits) (c .no-list .ensures)
 
-translate-some-translate-inside-requires : (t : ℕ) → translate-some-lts.Need-translate-inside-requires (translate-some-calls t) (translate-some-at t) translate-some.Post
-translate-some-translate-inside-requires t c κs = let s = c .before .before .before .before .before .before .before .before .before .before .before .before .before in
-    (omega (arith, s .pre .0), (s .pre .1 .1, inside-ready (some-ready (s .pre .1 .2)) (c .before .before .before .before .before .before .before .before .translate-range .ensures)))
+translate-some-extend-requires : (t : ℕ) → translate-some-lts.Need-extend-requires (translate-some-calls t) (translate-some-at t) translate-some.Post
+translate-some-extend-requires t c κs = let s = c .before .before .before .before .before .before .before .before .before .before .before .before in
+    let r = inside-ready (some-ready (s .pre .1 .2)) (c .before .before .before .before .before .before .before .translate-range .ensures) in
+    (r .fits, r .some-columns, r .few-columns)
+
+translate-some-sub-product : (t : ℕ) → translate-some-lts.Need-sub-product (translate-some-calls t) (translate-some-at t) translate-some.Post
+translate-some-sub-product t c = omega (arith, c .before .before .before .before .before .before .before .before .before .translate-range .ensures .more)
+
+translate-some-product-requires : (t : ℕ) → translate-some-lts.Need-product-requires (translate-some-calls t) (translate-some-at t) translate-some.Post
+translate-some-product-requires t c κs = let s = c .before .before .before .before .before .before .before .before .before .before .before .before .before .before in
+    room-less 1 (inside-ready (some-ready (s .pre .1 .2)) (c .before .before .before .before .before .before .before .before .before .translate-range .ensures) .room) (omega arith)
+
+translate-some-translate-condition-requires : (t : ℕ) → translate-some-lts.Need-translate-condition-requires (translate-some-calls t) (translate-some-at t) translate-some.Post
+translate-some-translate-condition-requires t c κs = let s = c .before .before .before .before .before .before .before .before .before .before .before .before .before .before .before .before .before .before in
+    let r = inside-ready (some-ready (s .pre .1 .2)) (c .before .before .before .before .before .before .before .before .before .before .before .before .before .translate-range .ensures) in
+    let e = inside-restricts (s .args .words .now) (s .args .condition) r in
+    (omega (arith, s .pre .0), (s .pre .1 .1 .1, inside-condition-ready r e (c .before .before .before .before .before .extend .ensures) (c .before .before .before .product .ensures)))
 
 translate-some-sub-project : (t : ℕ) → translate-some-lts.Need-sub-project (translate-some-calls t) (translate-some-at t) translate-some.Post
-translate-some-sub-project t c = omega (arith, c .before .before .before .translate-inside .ensures .counted)
+translate-some-sub-project t c = omega (arith, c .before .before .before .translate-condition .ensures .counted, c .before .before .before .before .before .before .before .product .ensures .counted)
 
 translate-some-project-requires : (t : ℕ) → translate-some-lts.Need-project-requires (translate-some-calls t) (translate-some-at t) translate-some.Post
-translate-some-project-requires t c κs = let s = c .before .before .before .before .before .before .before .before .before .before .before .before .before .before .before .before .before in
-    (room-less 1 (room-plain (some-ready (s .pre .1 .2)) (c .before .before .before .before .before .before .before .before .before .before .before .before .translate-range .ensures) (s .args .p) (c .before .before .before .translate-inside .ensures)) (omega arith), columns-lists (s .pre .1 .2 .fits) (c .before .before .before .before .before .before .no-list .ensures) (c .before .before .before .before .before .with-columns .ensures))
+translate-some-project-requires t c κs = let s = c .before .before .before .before .before .before .before .before .before .before .before .before .before .before .before .before .before .before .before .before .before .before in
+    let r = inside-ready (some-ready (s .pre .1 .2)) (c .before .before .before .before .before .before .before .before .before .before .before .before .before .before .before .before .before .translate-range .ensures) in
+    let inside = inside-written r (inside-restricts (s .args .words .now) (s .args .condition) r) (c .before .before .before .before .before .before .before .before .before .extend .ensures) (c .before .before .before .before .before .before .before .product .ensures) (s .args .short) (c .before .before .before .translate-condition .ensures) in
+    (room-less 1 (room-plain (some-ready (s .pre .1 .2)) (c .before .before .before .before .before .before .before .before .before .before .before .before .before .before .before .before .before .translate-range .ensures) (s .args .p) inside) (omega arith), columns-lists (s .pre .1 .2 .fits) (c .before .before .before .before .before .before .before .before .before .before .before .no-list .ensures) (c .before .before .before .before .before .before .before .before .before .before .with-columns .ensures))
 
 translate-some-same-length-2 : (t : ℕ) → translate-some-lts.Need-same-length-2 (translate-some-calls t) (translate-some-at t) translate-some.Post
-translate-some-same-length-2 t c = search needs
+translate-some-same-length-2 t c = c .before .before .project .kept .0 ∙ c .before .before .before .before .before .before .translate-condition .kept .1 .1 .1 .1 .1 .1 .0 ∙ c .before .before .before .before .before .before .before .before .before .before .product .kept .0 ∙ c .before .before .before .before .before .before .before .before .before .before .before .before .before .before .before .before .before .before .before .before .translate-range .kept .1 .1 .1 .1 .0
 
 translate-some-returns-2 : (t : ℕ) → translate-some-lts.Need-returns-2 (translate-some-calls t) (translate-some-at t) translate-some.Post
-translate-some-returns-2 t c = let s = c .before .before .before .before .before .before .before .before .before .before .before .before .before .before .before .before .before .before .before .before in
-    let found = c .before .before .before .before .before .before .before .before .before .before .before .before .leaves-of .ensures .1 in
-    some-plain (c .before .before .before .before .before .before .before .before .before .before .before .before .before .before .before .translate-range .ensures) (conditionAt (s .args .words .now) (s .args .condition)) (s .args .x) (scopeOf (s .args .scope)) (s .args .p) (c .before .before .before .before .before .before .translate-inside .ensures) (rule-test found (s .args .x) (s .args .short) (found .and-tree) (c .before .before .before .before .before .before .before .before .before .before .before .short-rule-2-fits .ensures) (c .before .before .before .before .before .before .before .before .before .before .if1 .left)) (columns-project (s .pre .1 .2 .fits) (c .before .before .before .before .before .before .before .before .before .no-list .ensures) (c .before .before .before .before .before .before .before .before .with-columns .ensures) (c .before .before .project .ensures))
+translate-some-returns-2 t c = let s = c .before .before .before .before .before .before .before .before .before .before .before .before .before .before .before .before .before .before .before .before .before .before .before .before .before in
+    let r = inside-ready (some-ready (s .pre .1 .2)) (c .before .before .before .before .before .before .before .before .before .before .before .before .before .before .before .before .before .before .before .before .translate-range .ensures) in
+    let inside = inside-written r (inside-restricts (s .args .words .now) (s .args .condition) r) (c .before .before .before .before .before .before .before .before .before .before .before .before .extend .ensures) (c .before .before .before .before .before .before .before .before .before .before .product .ensures) (s .args .short) (c .before .before .before .before .before .before .translate-condition .ensures) in
+    let found = c .before .before .before .before .before .before .before .before .before .before .before .before .before .before .before .before .before .leaves-of .ensures .1 in
+    some-plain (c .before .before .before .before .before .before .before .before .before .before .before .before .before .before .before .before .before .before .before .before .translate-range .ensures) (conditionAt (s .args .words .now) (s .args .condition)) (s .args .x) (scopeOf (s .args .scope)) (s .args .p) inside (rule-test found (s .args .x) (s .args .short) (found .and-tree) (c .before .before .before .before .before .before .before .before .before .before .before .before .before .before .before .before .short-rule-2-fits .ensures) (c .before .before .before .before .before .before .before .before .before .before .before .before .before .before .before .if1 .left)) (columns-project (s .pre .1 .2 .fits) (c .before .before .before .before .before .before .before .before .before .before .before .before .before .before .no-list .ensures) (c .before .before .before .before .before .before .before .before .before .before .before .before .before .with-columns .ensures) (c .before .before .project .ensures))
 
-pub +translate-alpha+translate-bindings+translate-condition+translate-division+translate-every+translate-inside+translate-opposite+translate-range+translate-some-spec :
+pub +translate-alpha+translate-bindings+translate-condition+translate-division+translate-every+translate-opposite+translate-range+translate-some-spec :
     {M : Type 1} → statement M
-+translate-alpha+translate-bindings+translate-condition+translate-division+translate-every+translate-inside+translate-opposite+translate-range+translate-some-spec =
++translate-alpha+translate-bindings+translate-condition+translate-division+translate-every+translate-opposite+translate-range+translate-some-spec =
     close
     μ-translate-alpha
     μ-translate-bindings
     μ-translate-condition
     μ-translate-division
     μ-translate-every
-    μ-translate-inside
     μ-translate-opposite
     μ-translate-range
     μ-translate-some
@@ -1134,29 +1125,16 @@ pub +translate-alpha+translate-bindings+translate-condition+translate-division+t
     (translate-every-returns-2 t)
     (translate-every-no-list-requires t)
     (translate-every-with-columns-requires t)
-    (translate-every-translate-inside-requires t)
+    (translate-every-extend-requires t)
+    (translate-every-sub-product t)
+    (translate-every-product-requires t)
+    (translate-every-translate-condition-requires t)
     (translate-every-sub-subtract t)
     (translate-every-subtract-requires t)
     (translate-every-project-requires t)
     (translate-every-subtract-requires-2 t)
     (translate-every-same-length-3 t)
     (translate-every-returns-3 t))
-    (λ t. translate-inside-lts.spec (
-      extend-reads.Asked,
-      extend-reads.Learnt,
-      product-reads.Asked,
-      product-reads.Learnt,
-      translate-condition-below t,
-      translate-condition.Post,
-    )
-    (translate-inside-at t)
-    translate-inside.Post
-    (translate-inside-extend-requires t)
-    (translate-inside-sub-product t)
-    (translate-inside-product-requires t)
-    (translate-inside-translate-condition-requires t)
-    (translate-inside-same-length t)
-    (translate-inside-returns t))
     (λ t. translate-opposite-lts.spec (
       decode-reads.Asked,
       decode-reads.Learnt,
@@ -1251,7 +1229,10 @@ pub +translate-alpha+translate-bindings+translate-condition+translate-division+t
     (translate-some-returns t)
     (translate-some-no-list-requires t)
     (translate-some-with-columns-requires t)
-    (translate-some-translate-inside-requires t)
+    (translate-some-extend-requires t)
+    (translate-some-sub-product t)
+    (translate-some-product-requires t)
+    (translate-some-translate-condition-requires t)
     (translate-some-sub-project t)
     (translate-some-project-requires t)
     (translate-some-same-length-2 t)
