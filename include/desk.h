@@ -20,7 +20,7 @@
  *               read; what they write must be each call's own.
  *   stack       A call needs at most DESK_STACK_BYTES below its caller's frame. It uses no heap, file or signal, and never waits.
  *   time        Every call ends. Count it in comparisons of two rows: a node on values of L and R rows costs at most
- *               2 x L x R + 18 x (L + R) of them, a division 14 x L x R + 18 x (L + R); placing N rows moves a row at most N x N / 2
+ *               4 x L x R + 40 x (L + R) of them, a division 14 x L x R + 40 x (L + R); placing N rows moves a row at most N x N / 2
  *               times. All values together have at most 16,384 words, and a question loads each of its ranges anew: so in
  *               desk_answer at most DESK_MOST_PAIRS pairs L x R meet in all. In desk_run a plan may set a value against itself:
  *               at most 4 x DESK_MOST_PAIRS for each of its nodes. docs/PERFORMANCE.md, "A watchdog's figure", has the
