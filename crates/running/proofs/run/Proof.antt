@@ -67,7 +67,7 @@ same-length-2 c = search needs
 -- src/lib.rt:122:1
 returns-2 : tie.Need-returns-2
 returns-2 c = let s = c .before .before .before .before .before .before .before .before .before .before .before .before .before .before .before .before .before .before .before .before .args in
-    outcome-ran (s .catalogue .now) (s .tables .now) (s .plan .now) (s .work .now) (s .output .now) (sym (c .before .before .before .before .before .before .before .before .before .before .before .before .before .before .tables-ok .ensures) ∙ not-false _ (c .before .before .before .before .before .before .before .before .before .before .before .before .before .if1 .left)) (sym (c .before .before .before .before .before .before .before .before .before .before .before .before .judge-plan .ensures) ∙ c .before .before .before .before .before .before .before .before .before .before .nodes .given .1) (c .before .before .before .before .before .before .before .capacity-of .ensures)
+    outcome-ran (s .catalogue .now) (s .tables .now) (s .plan .now) (s .work .now) (s .output .now) (sym (c .before .before .before .before .before .before .before .before .before .before .before .before .before .before .tables-ok .ensures) ∙ not-false _ (c .before .before .before .before .before .before .before .before .before .before .before .before .before .if1 .left)) (plan-judged (s .catalogue .now) (s .plan .now) (c .before .before .before .before .before .before .before .before .before .before .before .before .judge-plan .ensures) (c .before .before .before .before .before .before .before .before .before .before .nodes .given .1)) (c .before .before .before .before .before .before .before .capacity-of .ensures)
     (ran-with (s .catalogue .now) (s .tables .now) (nodesOfPlan (s .plan .now)) (λ l. l ++ drop (c .before .before .before .before .before .before .before .capacity-of .result) (s .work .now)) (replicate (length (take (c .before .before .before .before .before .before .before .capacity-of .result) (s .work .now))) 0) (s .output .now)
     (fitWithin (s .catalogue .now) (s .tables .now) (nodesOfPlan (s .plan .now)) (length (take (c .before .before .before .before .before .before .before .capacity-of .result) (s .work .now)))) (c .before .before .before .before .run-legal .ensures))
 
