@@ -1,5 +1,6 @@
 -- In reading order.
 pub mod Lists
+pub mod Aside
 pub mod Keys
 pub mod Bounds
 pub mod Tests

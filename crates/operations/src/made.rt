@@ -6,6 +6,7 @@ ghost use lib.ListN.{length, take};
 ghost use Rattle.relations.specs.Limits.{columnLimit};
 ghost use Rattle.relations.specs.Columns as meaning;
 ghost use Rattle.values.specs.Words.{rowIn};
+ghost use Rattle.operations.specs.Aside.{aside};
 use crate::columns::Attribute;
 use crate::columns::COLUMNS;
 use crate::columns::column_of;
@@ -14,7 +15,7 @@ use values::placing::write_row;
 // The listed columns of a row.
 pub fn picked_row(columns: &[u32], count: usize, row: &[u32]) -> [u32; COLUMNS]
     requires { ⌜ (count ≤ columnLimit) × (count ≤ length (now columns)) ⌝ }
-    ensures { λ r. ⌜ take count r ≡ meaning.pick (map meaning.attribute (take count (now (columns .entry)))) (now (row .entry)) ⌝ }
+    ensures { λ r. ⌜ r ≡ aside (meaning.pick (map meaning.attribute (take count (now (columns .entry)))) (now (row .entry))) ⌝ }
 {
     let mut made = [0u32; COLUMNS];
     let mut i: usize = 0;
@@ -34,7 +35,7 @@ pub fn pair_row(
     more: usize,
 ) -> [u32; COLUMNS]
     requires { ⌜ (width + more ≤ columnLimit) × (left + width ≤ length (now work)) × (right + more ≤ length (now work)) ⌝ }
-    ensures { λ r. ⌜ take (width + more) r ≡ rowIn (now (work .entry)) left width ++ rowIn (now (work .entry)) right more ⌝ }
+    ensures { λ r. ⌜ r ≡ aside (rowIn (now (work .entry)) left width ++ rowIn (now (work .entry)) right more) ⌝ }
 {
     let mut made = [0u32; COLUMNS];
     write_row(work, &mut made, false, left, width, 0);

@@ -1,8 +1,10 @@
 use mathlib.Core.Path.{_≡_, refl, sym, ap, ap₂, _∙_}
 use Prim.Native.Nat.{ℕ, _+_, _*_, _-_, _≤_, _<_}
-use lib.ListN.{length}
-use mathlib.Core.List.{[], _∷_}
-use Rattle.values.proofs.RowsLaws.{row-inside}
+use lib.ListN.{length, take, length-append}
+use mathlib.Core.List.{[], _∷_, _++_}
+use Rattle.values.specs.Words.{rowIn}
+use Rattle.values.proofs.RowsLaws.{row-inside, length-row}
+use Rattle.operations.proofs.MadeLaws.{aside-taken}
 use Rattle.operations.proofs.FillSteps.{builds-by}
 use native.Mathlib.Omega.{arith}
 use borrow.Author.Needs.{needs}
@@ -54,7 +56,8 @@ same-length-2 c = search needs
 -- src/join.rt:102:1
 returns-2 : tie.Need-returns-2
 returns-2 c = let s = c .before .before .before .before .before .before .before .before .before .before .before .args in
-    builds-by (ap (λ r. r ∷ []) (row-inside (c .before .before .before .before .before .pair-row .result) 0 (s .width + s .more) (omega arith) ∙ c .before .before .before .before .before .pair-row .ensures)) (c .before .before .place-row .ensures)
+    builds-by (ap (λ r. r ∷ []) (row-inside (c .before .before .before .before .before .pair-row .result) 0 (s .width + s .more) (omega arith) ∙ ap (take (s .width + s .more)) (c .before .before .before .before .before .pair-row .ensures) ∙ aside-taken (rowIn (s .work .now) (s .a) (s .width) ++ rowIn (s .work .now) (s .b) (s .more)) (s .width + s .more)
+    (length-append (rowIn (s .work .now) (s .a) (s .width)) (rowIn (s .work .now) (s .b) (s .more)) ∙ ap₂ (λ (x y : ℕ). x + y) (length-row (s .work .now) (s .a) (s .width) (omega arith)) (length-row (s .work .now) (s .b) (s .more) (omega arith))) (omega arith))) (c .before .before .place-row .ensures)
 
 pub place-pair-spec : {M : Type 1} → statement M
 place-pair-spec =

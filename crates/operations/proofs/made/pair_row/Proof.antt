@@ -1,8 +1,6 @@
 use Rattle.operations.proofs.MadeLaws.{two-runs}
 use Rattle.values.proofs.RowsLaws.{length-row}
 use Rattle.values.specs.Words.{rowIn}
-use Rattle.relations.specs.Limits.{columnLimit}
-use lib.ListN.{replicate}
 use Prim.Native.Nat.{ℕ}
 use mathlib.Core.List.{List}
 use mathlib.Core.Path.{_≡_}
@@ -35,8 +33,7 @@ write-row-requires-2 c κs = search needs
 returns : tie.Need-returns
 returns c = let s = c .before .before .before .before .before .before .before .args in let l = s .work .now in
     rw (c .before .write-row2 .ensures, c .before .before .before .before .write-row .ensures)
-    (two-runs (replicate columnLimit 0) (rowIn l (s .left) (s .width)) (rowIn l (s .right) (s .more)) (s .width) (s .more)
-    (length-row l (s .left) (s .width) (c .before .before .before .before .before .before .before .pre .1)) (length-row l (s .right) (s .more) (c .before .before .before .before .before .before .before .pre .2)) (omega arith))
+    (two-runs (rowIn l (s .left) (s .width)) (rowIn l (s .right) (s .more)) (s .width) (length-row l (s .left) (s .width) (c .before .before .before .before .before .before .before .pre .1)))
 
 pub pair-row-spec : {M : Type 1} → statement M
 pair-row-spec =

@@ -1,5 +1,6 @@
 use Rattle.operations.proofs.MadeLaws.{pick-suc}
 use Rattle.relations.specs.Columns.{attribute, pick}
+use Rattle.operations.specs.Aside.{aside}
 use Rattle.relations.specs.Limits.{columnLimit}
 use lib.ListN.{length, take, length-set}
 use Prim.Native.Nat.{_+_, _≤_, _-_}
@@ -15,7 +16,7 @@ use Rattle.operations.proofs.columns.column_of.Reads as column-of-reads
 
 abbrev Inv-loop : tie.InvT-loop
 Inv-loop columns count row made₀ i₀ made i =
-    (i ≤ count) × (length made ≡ columnLimit) × (take i made ≡ pick (map attribute (take i columns)) row)
+    (i ≤ count) × (length made ≡ columnLimit) × (made ≡ aside (pick (map attribute (take i columns)) row))
 
 abbrev μ-loop : tie.MeasureT-loop
 μ-loop columns count row made₀ i₀ made i = count - i
@@ -55,7 +56,7 @@ loop-less c = omega arith
 -- src/made.rt:21:5
 loop-again : tie.Need-loop-again Inv-loop μ-loop
 loop-again c = let s = c .before .before .before .before .before .before .args in let l = c .before .before .before .loop in
-    (omega arith, simp length-set (omega arith), pick-suc (l .made) (s .columns .now) (s .row .now) (l .i) (c .column-of .result) (omega arith) (omega arith) (l .inv .2) (c .column-of .ensures))
+    (omega arith, simp length-set (omega arith), pick-suc (l .made) (s .columns .now) (s .row .now) (l .i) (c .column-of .result) (omega arith) (l .inv .2) (c .column-of .ensures))
 
 -- src/made.rt:15:1
 returns : tie.Need-returns Inv-loop μ-loop

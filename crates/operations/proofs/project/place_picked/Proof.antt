@@ -1,7 +1,9 @@
 use Rattle.operations.proofs.FillSteps.{builds-by}
 use Rattle.values.proofs.RowsLaws.{row-inside}
-use Rattle.relations.specs.Columns.{attribute, pick}
-use lib.ListN.{take}
+use Rattle.relations.specs.Columns.{attribute, column, pick}
+use Rattle.operations.proofs.MadeLaws.{aside-taken}
+use lib.ListN.{take, length-map}
+use lib.Seq.{length-take-le}
 use mathlib.Core.List.{List, [], _∷_, map}
 use mathlib.Core.Path.{_≡_, ap, _∙_}
 use native.Mathlib.Omega.{arith}
@@ -38,7 +40,7 @@ same-length c = search needs
 -- src/project.rt:19:1
 returns : tie.Need-returns
 returns c = let s = c .before .before .before .before .before .before .before .before .before .before .args in
-    builds-by (ap (λ r. r ∷ []) (row-inside (c .before .before .before .before .before .picked-row .result) 0 (s .count) (omega arith) ∙ c .before .before .before .before .before .picked-row .ensures ∙ ap (pick (map attribute (take (s .count) (s .columns .now)))) (c .before .before .before .before .before .before .row .ensures)))
+    builds-by (ap (λ r. r ∷ []) (row-inside (c .before .before .before .before .before .picked-row .result) 0 (s .count) (omega arith) ∙ ap (take (s .count)) (c .before .before .before .before .before .picked-row .ensures) ∙ aside-taken (pick (map attribute (take (s .count) (s .columns .now))) (c .before .before .before .before .before .before .row .result .now)) (s .count) (length-map (map attribute (take (s .count) (s .columns .now))) (λ a. column (c .before .before .before .before .before .before .row .result .now) a) ∙ length-map (take (s .count) (s .columns .now)) attribute ∙ length-take-le (s .count) (s .columns .now) (omega arith)) (omega arith) ∙ ap (pick (map attribute (take (s .count) (s .columns .now)))) (c .before .before .before .before .before .before .row .ensures)))
     (c .before .before .place-row .ensures)
 
 pub place-picked-spec : {M : Type 1} → statement M
