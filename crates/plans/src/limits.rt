@@ -1,4 +1,4 @@
-// The limits of document 01 that a plan is judged by, one home for each (specs/Limits.antt of relations has the same numbers).
+// The limits of document 01 that a plan is judged by, as numbers of the code; relations' specs/Limits says the same numbers.
 
 // A plan has 1 to so many nodes, of so many words each; the first words of a node are its head, the others its list.
 pub const NODES: usize = 256;

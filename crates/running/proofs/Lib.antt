@@ -5,5 +5,6 @@ pub mod NodeLaws
 pub mod SizeLaws
 pub mod NextLaws
 pub mod RunLaws
+pub mod Once
 pub mod OutcomeLaws
 pub mod RunBounds

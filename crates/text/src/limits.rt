@@ -1,4 +1,4 @@
-// The limits of document 01 that text is judged by, one home for each (specs/Limits.antt and the crate `relations` say the same numbers).
+// The limits of document 01 that text is judged by, as numbers of the code; specs/Limits and relations' specs/Limits say the same numbers.
 
 // A question has 1 to so many nodes, of so many words each.
 pub const NODES: usize = 64;
