@@ -6,10 +6,10 @@ and the same with a fault at its bottom, so that judging goes down and translati
 """
 
 from calls import Call
-from limit_calls import DATA, EQUAL, LESS, Nodes, catalogue_of, tables_of
+from limit_calls import DATA, EQUAL, LESS, Nodes, catalogue_of, node, tables_of
 from refusals import MOST_WORDS, PLAN_BUFFER_WORDS
 
-NODES, VARIABLES, PLAN_NODES, NODE_WORDS = 64, 26, 256, 36
+NODES, VARIABLES, PLAN_NODES = 64, 26, 256
 NOT, AND, OR, SOME, EVERY = 12, 10, 11, 13, 14
 X = 25  # the alpha's own variable; the deep ones count from 0
 UNBOUND = 24
@@ -130,17 +130,13 @@ def questions():
     yield chain_of_targets(NODES - 3)
 
 
-def plan_node(*used):
-    return list(used) + [0] * (NODE_WORDS - len(used))
-
-
 def plans():
     """As many nodes as a plan may have, each operation in turn."""
-    load = [plan_node(1, 0), plan_node(1, 1)]
-    for node in ((2, 0, 0, 2, 2, 1), (3, 0, 0, 1, 1, LESS, 9), (4, 0, 0, 1, 1, LESS, 2), (5, 0, 1, 1, 2, EQUAL, 1),
+    load = [node(1, 0), node(1, 1)]
+    for words in ((2, 0, 0, 2, 2, 1), (3, 0, 0, 1, 1, LESS, 9), (4, 0, 0, 1, 1, LESS, 2), (5, 0, 1, 1, 2, EQUAL, 1),
                  (6, 0, 1, 1, 2, EQUAL, 1), (7, 0, 1, 2, 1, LESS, 1, 2, EQUAL, 1), (8, 0, 1, 1, 2, 1),
                  (9, 0, 0, 0), (10, 0, 0, 0), (11, 0, 0, 0)):
-        yield [word for words in load + [plan_node(*node)] * (PLAN_NODES - 2) for word in words]
+        yield [word for each in load + [node(*words)] * (PLAN_NODES - 2) for word in each]
 
 
 if __name__ == "__main__":
