@@ -20,12 +20,12 @@
  *               read; what they write must be each call's own.
  *   stack       A call needs at most DESK_STACK_BYTES below its caller's frame: measured on the deepest questions and plans and rounded
  *               up (tests/c/stack.c), not proved. It uses no heap, file or signal, and never waits.
- *   time        Every call ends: that is proved, how soon is read from the code. Count it in comparisons of two rows: a node on
- *               values of L and R rows costs at most 4 x L x R + 40 x (L + R) of them, a division 14 x L x R + 40 x (L + R); placing N rows moves a row at most N x N / 2
- *               times. All values together have at most 16,384 words, and a question loads each of its ranges anew: so in
- *               desk_answer at most DESK_MOST_PAIRS pairs L x R meet in all. In desk_run a plan may set a value against itself:
- *               at most 4 x DESK_MOST_PAIRS for each of its nodes. docs/PERFORMANCE.md, "A watchdog's figure", has the
- *               figure of each operation.
+ *   time        Every call ends: that is proved, how soon is read from the code. Count it in comparisons of two rows: a
+ *               node on values of L and R rows costs at most 4 x L x R + 40 x (L + R) of them, a division 14 x L x R + 40
+ *               x (L + R); placing N rows moves a row at most N x N / 2 times. All values together have at most 16,384
+ *               words, and a question loads each of its ranges anew: so in desk_answer at most DESK_MOST_PAIRS pairs L x R
+ *               meet in all. In desk_run a plan may set a value against itself: at most 4 x DESK_MOST_PAIRS for each of
+ *               its nodes. docs/PERFORMANCE.md, "A watchdog's figure", has the figure of each operation.
  *   processor   The library is for x86-64 Linux (System V calling convention, position-independent): it links into C and C++
  *               programs for that processor only.
  *
