@@ -1,10 +1,10 @@
 // The catalogue: pairs of columns and rows, and the words of the tables that they describe.
 ghost use mathlib.Core.Path.{_≡_};
 ghost use Rattle.catalogue.specs.Judging.{pairOk, tablesOk, catalogueNumbers, judgedCatalogue};
-use crate::limits::PAIRS;
-use crate::limits::ROWS;
-use crate::limits::STORED_COLUMNS;
-use crate::limits::WORDS;
+use relations::limits::CATALOGUE_WORDS;
+use relations::limits::STORED_COLUMNS;
+use relations::limits::STORED_ROWS;
+use relations::limits::WORDS;
 
 // The number of words that the tables have, or refusal 7.
 pub enum Judged {
@@ -22,14 +22,14 @@ pub fn wide(word: u32) -> usize
 pub fn pair_ok(columns: usize, rows: usize) -> bool
     ensures { λ r. ⌜ r ≡ pairOk columns rows ⌝ }
 {
-    (1 <= columns) & (columns <= STORED_COLUMNS) & (rows <= ROWS)
+    (1 <= columns) & (columns <= STORED_COLUMNS) & (rows <= STORED_ROWS)
 }
 
 // Refusal 7 as translation asks for it: the pairs and their total of words.
 pub fn judge_catalogue(catalogue: &[u32]) -> Judged
     ensures { λ r. ⌜ catalogueNumbers r ≡ judgedCatalogue (now (catalogue .entry)) ⌝ }
 {
-    if 2 * PAIRS < catalogue.len() {
+    if CATALOGUE_WORDS < catalogue.len() {
         return Judged::Wrong;
     }
     let mut words: usize = 0;

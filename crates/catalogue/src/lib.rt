@@ -1,4 +1,3 @@
 // The catalogue: what refusal 7 asks of it, and the stored tables as it describes them.
 pub mod judging;
-pub mod limits;
 pub mod stored;

@@ -12,7 +12,7 @@ use lib.Seq.{sets, getD-set-same, getD-set-other, getD-take, length-take-le, tak
 use borrow.Author.Tests.{leb-true}
 use denote.Enum.Declared.{tagOf}
 use types.Run.{OneOf, miss}
-use Rattle.relations.specs.Limits.{columnLimit, questionNodeLimit, questionNodeWords}
+use Rattle.relations.specs.Limits.{columnLimit, questionNodeLimit, questionNodeWords, variableCount, operatorCount}
 use Rattle.relations.specs.Comparison.{operatorNumber}
 use Rattle.relations.specs.Lists.{All}
 use Rattle.relations.proofs.ListLaws.{all-append}
@@ -21,7 +21,6 @@ use Rattle.relations.proofs.BoolLaws.{and-left, and-right}
 use Rattle.calculus.specs.Question as calculus
 use Rattle.calculus.proofs.SizeTheorem.{leaves-size}
 use Rattle.calculus.specs.Leaves.{isAndTree, isOrTree, leaves, oppositeAtom}
-use Rattle.nodes.specs.Limits.{variableCount, operatorCount}
 use Rattle.nodes.specs.Nodes.{kindNamed, fits, operandFits, nodeAt}
 use Rattle.nodes.specs.References.{references}
 use Rattle.question.specs.Trees.{Tree, treeOf, reading, atomOf}

@@ -7,7 +7,7 @@ use native.Mathlib.Omega.{arith}
 use lib.Dec.{ltb}
 use Rattle.relations.proofs.BoolLaws.{and-left, and-right}
 use Rattle.calculus.specs.Question as calculus
-use Rattle.nodes.specs.Limits.{variableCount}
+use Rattle.relations.specs.Limits.{variableCount}
 use Rattle.nodes.specs.Nodes.{isRange, isCondition, kindNamed, fits, nodeAt}
 use Rattle.nodes.specs.References.{references}
 use Rattle.question.specs.Trees.{Reading, blank, reading, readingOf, treeOf}

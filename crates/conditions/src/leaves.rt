@@ -14,11 +14,12 @@ use nodes::node::Constant;
 use nodes::node::Node;
 use nodes::node::Operand;
 use nodes::node::decode;
+use relations::limits::QUESTION_NODES;
 
 // The first `count` numbers are in use. `conjoined`: no node but "and" stands above them; `disjoined`: none but "or";
 // `opposite`: each stands for the opposite of its atom.
 pub struct Leaves {
-    pub numbers: [u32; 64],
+    pub numbers: [u32; QUESTION_NODES],
     pub count: u32,
     pub conjoined: bool,
     pub disjoined: bool,
@@ -29,7 +30,7 @@ fn no_leaves() -> Leaves
     ensures { λ r. ⌜ r ≡ noLeaves ⌝ }
 {
     Leaves {
-        numbers: [0u32; 64],
+        numbers: [0u32; QUESTION_NODES],
         count: 0,
         conjoined: true,
         disjoined: true,

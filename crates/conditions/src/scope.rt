@@ -5,11 +5,12 @@ ghost use Rattle.relations.specs.Limits.{columnLimit};
 ghost use Rattle.calculus.specs.Scope.{widthIn, columnNumber};
 ghost use Rattle.conditions.specs.Scopes.{noVariables, scopeOf, ScopeFits, Extended};
 use nodes::node::Attribute;
+use relations::limits::COLUMNS;
 
 // The first `count` variables and widths are in use; `columns` is the sum of these widths.
 pub struct CarriedScope {
-    pub variables: [u32; 32],
-    pub widths: [u32; 32],
+    pub variables: [u32; COLUMNS],
+    pub widths: [u32; COLUMNS],
     pub count: u32,
     pub columns: u32,
 }
@@ -18,8 +19,8 @@ pub fn empty() -> CarriedScope
     ensures { λ r. ⌜ r ≡ noVariables ⌝ }
 {
     CarriedScope {
-        variables: [0u32; 32],
-        widths: [0u32; 32],
+        variables: [0u32; COLUMNS],
+        widths: [0u32; COLUMNS],
         count: 0,
         columns: 0,
     }

@@ -7,7 +7,7 @@ use native.Mathlib.Omega.{arith}
 use lib.Dec.{eqb}
 use lib.ListN.{length}
 use borrow.Author.Tests.{lt-ltb}
-use Rattle.text.specs.Limits.{byteLimit}
+use Rattle.relations.specs.Limits.{byteLimit}
 use Rattle.text.specs.Reading.{Bundle, Next, goesOn, wrongAt, bundleIn}
 use Rattle.text.specs.ReadCall.{ReadOutcome, readRefused, bundleOutcome, smallBuffers, readOutcome}
 use Rattle.text.specs.Writing.{bundleText}

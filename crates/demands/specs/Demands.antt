@@ -25,7 +25,7 @@ use Rattle.judgements.specs.Accepted.{AcceptedExactly}
 use Rattle.question.specs.declared.judgement.Judgement.the-variants.{Accepted}
 use Rattle.catalogue.specs.Stored.{columnsOf, storedTables}
 use Rattle.plans.specs.Judging.{nodesOfPlan, JudgedExactly}
-use Rattle.text.specs.Limits.{byteLimit}
+use Rattle.relations.specs.Limits.{byteLimit}
 use Rattle.text.specs.Reading.{bundleIn}
 use Rattle.text.specs.ReadCall.{ReadOutcome, readRefused, readOutcome}
 use Rattle.text.specs.Writing.{bundleText}

@@ -4,7 +4,7 @@ ghost use Rattle.running.specs.RunCall.{runNumbers};
 ghost use Rattle.running.specs.RunBounds.{Bounded};
 ghost use Rattle.desk.specs.AnswerCall.{answerNumbers, answerOutcome};
 use catalogue::judging::tables_ok;
-use plans::limits::NODE_WORDS;
+use relations::limits::PLAN_NODE_WORDS;
 use running::Ran;
 use running::run;
 use translation::call::Translated;
@@ -84,7 +84,7 @@ pub fn answer(
     }
     match translate(catalogue, question, mode, plan) {
         Translated::Done { nodes, heavy: _ } => {
-            let words = nodes as usize * NODE_WORDS;
+            let words = nodes as usize * PLAN_NODE_WORDS;
             answer_of(run(catalogue, tables, &plan[..words], work, output))
         }
         Translated::WrongCatalogue => Answered::Refused {

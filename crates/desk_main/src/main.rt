@@ -6,6 +6,11 @@ use desk::Answered;
 use libc::STDERR_FILENO;
 use libc::STDIN_FILENO;
 use libc::STDOUT_FILENO;
+use relations::limits::CATALOGUE_WORDS;
+use relations::limits::PLAN_WORDS;
+use relations::limits::QUESTION_WORDS;
+use relations::limits::TEXT_BYTES;
+use relations::limits::WORDS;
 use text::bundle::Reading;
 
 struct Input {
@@ -61,9 +66,9 @@ fn print_listing(nodes: u32, heavy: u32, room: u32, width: u32, rows: u32, words
 
 // The question of a bundle that was read.
 fn print_answer(mode: u32, catalogue: &[u32], tables: &[u32], question: &[u32]) {
-    let mut plan = [0u32; 9216];
-    let mut work = [0u32; 16384];
-    let mut output = [0u32; 16384];
+    let mut plan = [0u32; PLAN_WORDS];
+    let mut work = [0u32; WORDS];
+    let mut output = [0u32; WORDS];
     match desk::answer(
         catalogue,
         tables,
@@ -86,9 +91,9 @@ fn print_answer(mode: u32, catalogue: &[u32], tables: &[u32], question: &[u32]) 
 
 // A bundle's text.
 fn print_outcome(text: &[u8]) {
-    let mut catalogue = [0u32; 32];
-    let mut tables = [0u32; 16384];
-    let mut question = [0u32; 384];
+    let mut catalogue = [0u32; CATALOGUE_WORDS];
+    let mut tables = [0u32; WORDS];
+    let mut question = [0u32; QUESTION_WORDS];
     match text::bundle::read(text, &mut catalogue, &mut tables, &mut question) {
         Reading::Bundle {
             mode,
@@ -110,7 +115,7 @@ fn print_outcome(text: &[u8]) {
 
 // One byte more than a text may have is asked for, so that `read` can tell an over-long one.
 fn main() {
-    let mut text = [0u8; 65537];
+    let mut text = [0u8; TEXT_BYTES + 1];
     let input = read_input(&mut text);
     if input.failed {
         io::write_all(STDERR_FILENO, b"desk: the input could not be read\n");

@@ -8,12 +8,12 @@ ghost use Rattle.relations.specs.Nodes as nodes;
 ghost use Rattle.emission.specs.NodeLists.{attributesIn, triplesIn, pairsIn, ListsAttributes, ListsTriples, ListsPairs};
 ghost use Rattle.emission.specs.Selects.{NamesOperator, selecting};
 ghost use Rattle.emission.specs.Written.{Room, Written};
-use crate::limits::HEAD_WORDS;
-use crate::limits::LIST_WORDS;
-use crate::limits::PLAN_NODE_WORDS;
 use crate::node_list::NodeList;
 use nodes::node::Attribute;
 use nodes::node::Constant;
+use relations::limits::HEAD_WORDS;
+use relations::limits::LIST_WORDS;
+use relations::limits::PLAN_NODE_WORDS;
 
 fn push(
     plan: &mut [u32],
@@ -22,7 +22,7 @@ fn push(
     left: u32,
     right: u32,
     count: u32,
-    list: [u32; 32],
+    list: [u32; LIST_WORDS],
 ) -> u32
     requires { ⌜ Room (now plan) n 1 ⌝ }
     ensures { λ r. ⌜ (now (plan .exit) ≡ sets (now (plan .entry)) (n * planNodeWords) (operation ∷ left ∷ right ∷ count ∷ list)) × (r ≡ n + 1) ⌝ }
@@ -44,7 +44,7 @@ pub fn load(plan: &mut [u32], n: u32, relation: u32) -> u32
     requires { ⌜ Room (now plan) n 1 ⌝ }
     ensures { λ r. ⌜ Written (now (plan .entry)) n (nodes.load relation ∷ []) (now (plan .exit)) r ⌝ }
 {
-    push(plan, n, 1, relation, 0, 0, [0u32; 32])
+    push(plan, n, 1, relation, 0, 0, [0u32; LIST_WORDS])
 }
 
 pub fn project(plan: &mut [u32], n: u32, left: u32, attributes: NodeList) -> u32
@@ -72,7 +72,7 @@ pub fn select(
     requires { ⌜ Room (now plan) n 1 × NamesOperator operator ⌝ }
     ensures { λ r. ⌜ Written (now (plan .entry)) n (selecting left (attribute .0) operator with ∷ []) (now (plan .exit)) r ⌝ }
 {
-    let mut list = [0u32; 32];
+    let mut list = [0u32; LIST_WORDS];
     list[0] = attribute.0;
     list[1] = operator;
     match with {
@@ -92,7 +92,7 @@ pub fn product(plan: &mut [u32], n: u32, left: u32, right: u32) -> u32
     requires { ⌜ Room (now plan) n 1 ⌝ }
     ensures { λ r. ⌜ Written (now (plan .entry)) n (nodes.join left right [] ∷ []) (now (plan .exit)) r ⌝ }
 {
-    push(plan, n, 5, left, right, 0, [0u32; 32])
+    push(plan, n, 5, left, right, 0, [0u32; LIST_WORDS])
 }
 
 pub fn semijoin(plan: &mut [u32], n: u32, left: u32, right: u32, triples: NodeList) -> u32
@@ -123,19 +123,19 @@ pub fn unite(plan: &mut [u32], n: u32, left: u32, right: u32) -> u32
     requires { ⌜ Room (now plan) n 1 ⌝ }
     ensures { λ r. ⌜ Written (now (plan .entry)) n (nodes.unite left right ∷ []) (now (plan .exit)) r ⌝ }
 {
-    push(plan, n, 9, left, right, 0, [0u32; 32])
+    push(plan, n, 9, left, right, 0, [0u32; LIST_WORDS])
 }
 
 pub fn intersect(plan: &mut [u32], n: u32, left: u32, right: u32) -> u32
     requires { ⌜ Room (now plan) n 1 ⌝ }
     ensures { λ r. ⌜ Written (now (plan .entry)) n (nodes.intersect left right ∷ []) (now (plan .exit)) r ⌝ }
 {
-    push(plan, n, 10, left, right, 0, [0u32; 32])
+    push(plan, n, 10, left, right, 0, [0u32; LIST_WORDS])
 }
 
 pub fn subtract(plan: &mut [u32], n: u32, left: u32, right: u32) -> u32
     requires { ⌜ Room (now plan) n 1 ⌝ }
     ensures { λ r. ⌜ Written (now (plan .entry)) n (nodes.subtract left right ∷ []) (now (plan .exit)) r ⌝ }
 {
-    push(plan, n, 11, left, right, 0, [0u32; 32])
+    push(plan, n, 11, left, right, 0, [0u32; LIST_WORDS])
 }

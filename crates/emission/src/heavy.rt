@@ -4,7 +4,7 @@ ghost use Prim.Native.Nat.{_*_, _≤_};
 ghost use lib.ListN.{length};
 ghost use Rattle.relations.specs.Limits.{planNodeLimit, planNodeWords};
 ghost use Rattle.emission.specs.HeavyCount.{weightOfNumber, heavyIn};
-use crate::limits::PLAN_NODE_WORDS;
+use relations::limits::PLAN_NODE_WORDS;
 
 // 1 for the number of a heavy operation, else 0.
 fn weight(operation: u32) -> u32

@@ -1,5 +1,4 @@
 // Emission: a plan's nodes, written one behind another at its end, and its heavy operations counted.
 pub mod emit;
 pub mod heavy;
-pub mod limits;
 pub mod node_list;

@@ -8,10 +8,11 @@ ghost use Rattle.relations.specs.Limits.{columnLimit, listWords};
 ghost use Rattle.calculus.specs.Scope.{columnsFrom};
 ghost use Rattle.emission.specs.NodeLists.{nodeList, grownBy, numbersOf};
 use nodes::node::Attribute;
+use relations::limits::LIST_WORDS;
 
 // A node's list: the words used so far, then zeros.
 pub struct NodeList {
-    pub words: [u32; 32],
+    pub words: [u32; LIST_WORDS],
     pub used: u32,
 }
 
@@ -19,7 +20,7 @@ pub fn no_list() -> NodeList
     ensures { λ r. ⌜ r ≡ nodeList [] ⌝ }
 {
     NodeList {
-        words: [0u32; 32],
+        words: [0u32; LIST_WORDS],
         used: 0,
     }
 }

@@ -6,7 +6,7 @@ use Prim.Native.Nat.{ℕ, zero, suc, _+_, _≤_, _<_}
 use native.Mathlib.Omega.{arith}
 use lib.Dec.{ltb, leb, eqb}
 use borrow.Author.Tests.{ltb-true, le-ltb, ne-eqb, eq-eqb}
-use Rattle.relations.specs.Limits.{columnLimit, questionNodeLimit}
+use Rattle.relations.specs.Limits.{columnLimit, questionNodeLimit, variableCount, operatorCount}
 use Rattle.relations.specs.Lists.{All}
 use Rattle.relations.specs.Comparison.{Operator, operatorOf}
 use Rattle.relations.specs.Columns.{attribute}
@@ -16,7 +16,6 @@ use Rattle.calculus.specs.Scope as scopes
 use Rattle.calculus.specs.Scope.{entry, extend, columnsIn}
 use Rattle.calculus.specs.Form.{NotInScope, Known, GoodAtom, GoodTarget, widthOfRange, scopeOfBindings, GoodRange, GoodBindings, GoodMaybe, GoodCondition}
 use Rattle.calculus.specs.Form as form
-use Rattle.nodes.specs.Limits.{variableCount, operatorCount}
 use Rattle.nodes.specs.Nodes.{operandFits, atomFits}
 use Rattle.question.specs.Trees.{Tree, nothing, branch, operatorFor, operandOf, targetOf, atomOf, alphaOf, reading}
 use Rattle.question.specs.Walk.{widthKept, noWidths, addWidths, bind, opening, inside, operandUnboundAt, unboundAt, operandUnfitAt, unfitAt, lowestOf, walk}

@@ -9,7 +9,7 @@ use lib.Dec.{eqb}
 use lib.ListN.{length, getD, set, length-set, replicate, length-replicate, getD-replicate}
 use lib.Seq.{getD-set-same, getD-set-other}
 use borrow.Author.Tests.{eqb-true, eqb-false, ne-eqb}
-use Rattle.relations.specs.Limits.{columnLimit}
+use Rattle.relations.specs.Limits.{columnLimit, variableCount}
 use Rattle.relations.specs.Lists.{All}
 use Rattle.relations.proofs.BoolLaws.{true-or-false}
 use Rattle.relations.proofs.ListLaws.{all-append}
@@ -17,7 +17,6 @@ use Rattle.calculus.specs.Scope as calculus
 use Rattle.calculus.specs.Scope.{ScopeEntry, entry, extend, columnsIn}
 use Rattle.calculus.specs.Form.{NotInScope}
 use Rattle.calculus.proofs.ScopeLaws.{columns-extend}
-use Rattle.nodes.specs.Limits.{variableCount}
 use Rattle.question.specs.Walk.{widthKept, noWidths, addWidths, boundWidth, bind}
 use Rattle.question.specs.declared.scope.ScopeWidths.{ScopeWidths}
 

@@ -8,9 +8,8 @@ use native.Mathlib.Omega.{arith}
 use lib.Dec.{ltb, leb, eqb}
 use lib.ListN.{getD}
 use borrow.Author.Tests.{leb-false, leb-true, ltb-true, eqb-true, le-leb}
-use Rattle.relations.specs.Limits.{columnLimit, questionNodeLimit, questionNodeWords}
+use Rattle.relations.specs.Limits.{columnLimit, questionNodeLimit, questionNodeWords, variableCount, operatorCount}
 use Rattle.relations.proofs.BoolLaws.{and-left, and-right, or-cases, true-or-false}
-use Rattle.nodes.specs.Limits.{variableCount, operatorCount}
 use Rattle.nodes.specs.Nodes.{nodeCount, isTarget, isBinding, isRange, isCondition, kindNamed, operandFits, atomFits, fits, unusedZero, spelled, nodeAt, wordOf, isIllFormed}
 use Rattle.nodes.specs.References.{references}
 use Rattle.question.specs.Trees.{Tree, nothing, branch, treeOf}

@@ -9,12 +9,11 @@ use lib.Dec.{ltb, leb, eqb}
 use lib.ListN.{length, getD, set, length-set, length-replicate, getD-replicate}
 use lib.Seq.{getD-set-same, getD-set-other}
 use borrow.Author.Tests.{eqb-true, eqb-false, ne-eqb, ltb-true, lt-ltb, le-ltb}
-use Rattle.relations.specs.Limits.{columnLimit, questionNodeLimit}
+use Rattle.relations.specs.Limits.{columnLimit, questionNodeLimit, variableCount, operatorCount}
 use Rattle.relations.proofs.BoolLaws.{true-or-false, and-left, and-right}
 use Rattle.calculus.specs.Scope as scopes
 use Rattle.calculus.specs.Scope.{entry, extend}
 use Rattle.calculus.specs.Form.{widthOfRange, scopeOfBindings}
-use Rattle.nodes.specs.Limits.{variableCount, operatorCount}
 use Rattle.nodes.specs.Nodes.{operandFits, atomFits, OperandVariableFits}
 use Rattle.nodes.specs.References.{lowest}
 use Rattle.question.specs.Trees.{Tree, nothing, branch, reading}

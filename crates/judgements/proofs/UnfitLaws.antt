@@ -10,7 +10,7 @@ use lib.Dec.{ltb, leb, eqb}
 use lib.ListN.{length, getD, set, length-set, length-replicate, getD-replicate}
 use lib.Seq.{getD-set-same, getD-set-other}
 use borrow.Author.Tests.{eqb-true, eqb-false, ne-eqb, ltb-true, ltb-false, leb-true}
-use Rattle.relations.specs.Limits.{columnLimit, questionNodeLimit}
+use Rattle.relations.specs.Limits.{columnLimit, questionNodeLimit, variableCount, operatorCount}
 use Rattle.relations.specs.Lists.{All}
 use Rattle.relations.proofs.BoolLaws.{true-or-false, and-left, and-right}
 use Rattle.relations.proofs.ListLaws.{all-append}
@@ -20,7 +20,6 @@ use Rattle.calculus.specs.Scope.{entry, extend, columnsIn}
 use Rattle.calculus.specs.Form.{NotInScope, widthOfRange, scopeOfBindings}
 use Rattle.calculus.specs.Form as form
 use Rattle.calculus.proofs.ScopeLaws.{columns-extend}
-use Rattle.nodes.specs.Limits.{variableCount, operatorCount}
 use Rattle.nodes.specs.Nodes.{operandFits, atomFits, isTarget}
 use Rattle.nodes.specs.References.{lowest}
 use Rattle.question.specs.Trees.{Tree, nothing, branch, targetOf, alphaOf, reading}

@@ -8,9 +8,8 @@ use native.Mathlib.Omega.{arith}
 use lib.Dec.{ltb, leb, eqb}
 use lib.ListN.{getD}
 use borrow.Author.Tests.{ltb-true, leb-true, eqb-true}
-use Rattle.relations.specs.Limits.{columnLimit, questionNodeWords}
+use Rattle.relations.specs.Limits.{columnLimit, questionNodeWords, variableCount, operatorCount}
 use Rattle.relations.proofs.BoolLaws.{and-left, and-right, or-cases, true-or-false}
-use Rattle.nodes.specs.Limits.{variableCount, operatorCount}
 use Rattle.nodes.specs.Nodes.{isTarget, isBinding, isRange, isCondition, kindNamed, operandFits, fits, unusedZero, spelled, nodeAt, wordOf, OperandVariableFits, VariableFits}
 use Rattle.nodes.specs.References.{references}
 use Rattle.nodes.proofs.Tests.{named-below}

@@ -1,5 +1,4 @@
 -- In reading order. Document 01, "The question".
-pub mod Limits
 pub mod Roles
 pub mod Nodes
 pub mod References

@@ -4,8 +4,7 @@ use mathlib.Core.List.{List}
 use mathlib.Core.Bool.{Bool, true, false, cond, _&&_, _||_}
 use lib.ListN.{getD, length}
 use lib.Dec.{ltb, leb, eqb}
-use Rattle.relations.specs.Limits.{columnLimit, questionNodeWords}
-use Rattle.nodes.specs.Limits.{variableCount, operatorCount}
+use Rattle.relations.specs.Limits.{columnLimit, questionNodeWords, variableCount, operatorCount}
 use Rattle.nodes.specs.Roles.{Role, stored, alpha, takes, binds, sides, compares, joins, roleOf}
 use Rattle.nodes.specs.declared.node.Operand.{Operand}
 use Rattle.nodes.specs.declared.node.Operand.the-variants.{Of, Fixed}

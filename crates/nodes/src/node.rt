@@ -4,10 +4,10 @@ ghost use mathlib.Core.Bool.{_&&_};
 ghost use Prim.Native.Nat.{_+_, _*_, _≤_};
 ghost use lib.ListN.{length};
 ghost use Rattle.nodes.specs.Nodes.{kindNamed, isTarget, isBinding, isRange, isCondition, operandFits, atomFits, quantifierFits, fits, usedWords, unusedZero, spelled, nodeAt};
-use crate::limits::COLUMNS;
-use crate::limits::NODE_WORDS;
-use crate::limits::OPERATORS;
-use crate::limits::VARIABLES;
+use relations::limits::ATTRIBUTES;
+use relations::limits::OPERATORS;
+use relations::limits::QUESTION_NODE_WORDS;
+use relations::limits::VARIABLES;
 
 pub struct Attribute(pub u32);
 
@@ -90,7 +90,7 @@ fn kind_named(words: &[u32], i: usize, reference: u32) -> u32
 {
     let named = reference as usize;
     if (1 <= named) & (named <= i) {
-        return words[(named - 1) * NODE_WORDS];
+        return words[(named - 1) * QUESTION_NODE_WORDS];
     }
     0
 }
@@ -154,7 +154,7 @@ fn operand_fits(operand: Operand) -> bool
         Operand::Of {
             variable,
             attribute,
-        } => (variable < VARIABLES) & (1 <= attribute.0) & (attribute.0 <= COLUMNS),
+        } => (variable < VARIABLES) & (1 <= attribute.0) & (attribute.0 <= ATTRIBUTES),
         Operand::Fixed(_) => true,
     }
 }
@@ -165,7 +165,7 @@ fn atom_fits(atom: Atom) -> bool
     let operand = atom.operand;
     (atom.variable < VARIABLES)
         & (1 <= atom.attribute.0)
-        & (atom.attribute.0 <= COLUMNS)
+        & (atom.attribute.0 <= ATTRIBUTES)
         & (1 <= atom.operator)
         & (atom.operator <= OPERATORS)
         & operand_fits(operand)
@@ -193,7 +193,7 @@ fn fits(words: &[u32], i: usize, node: Node) -> bool
             next,
         } => {
             (variable < VARIABLES)
-                & (attribute <= COLUMNS)
+                & (attribute <= ATTRIBUTES)
                 & ((next == 0) | names_target(words, i, next))
         }
         Node::Binding {
@@ -316,7 +316,7 @@ pub fn decode(words: &[u32], i: usize) -> Node
     requires { ⌜ i * 6 + 6 ≤ length (now words) ⌝ }
     ensures { λ r. ⌜ r ≡ nodeAt (now (words .entry)) i ⌝ }
 {
-    let at = i * NODE_WORDS;
+    let at = i * QUESTION_NODE_WORDS;
     let kind = words[at];
     let a = words[at + 1];
     let b = words[at + 2];

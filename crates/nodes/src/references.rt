@@ -2,6 +2,7 @@
 ghost use mathlib.Core.Path.{_≡_};
 ghost use Prim.Native.Nat.{_+_, _*_, _≤_};
 ghost use lib.ListN.{length};
+ghost use Rattle.relations.specs.Limits.{questionNodeLimit, questionNodeWords};
 ghost use Rattle.nodes.specs.References.{references, referencesTo, lowest, notOnce};
 ghost use Rattle.nodes.specs.Marks.{Marks, Stepped};
 use crate::node::Node;
@@ -119,7 +120,7 @@ pub fn references_of(node: Node) -> References
 
 // A reference more: 0 names no node, any other the node of one less.
 fn see(seen: Seen, reference: u32) -> Seen
-    requires { ⌜ reference ≤ 64 ⌝ }
+    requires { ⌜ reference ≤ questionNodeLimit ⌝ }
     ensures { λ r. ⌜ Stepped (seen .once) (seen .twice) reference (r .once) (r .twice) ⌝ }
 {
     if reference == 0 {
@@ -133,7 +134,7 @@ fn see(seen: Seen, reference: u32) -> Seen
 }
 
 fn see_all(words: &[u32], nodes: usize) -> Seen
-    requires { ⌜ (nodes * 6 ≤ length (now words)) × (nodes ≤ 64) ⌝ }
+    requires { ⌜ (nodes * questionNodeWords ≤ length (now words)) × (nodes ≤ questionNodeLimit) ⌝ }
     ensures { λ r. ⌜ Marks (r .once) (r .twice) (referencesTo (now (words .entry)) nodes) ⌝ }
 {
     let mut seen = Seen { once: 0, twice: 0 };
@@ -148,8 +149,8 @@ fn see_all(words: &[u32], nodes: usize) -> Seen
 
 // The lowest of 64 nodes that is not referred to exactly once, or 64: trailing zeros give the place.
 pub fn lowest_not_once(words: &[u32], nodes: usize) -> u32
-    requires { ⌜ (nodes * 6 ≤ length (now words)) × (nodes ≤ 64) ⌝ }
-    ensures { λ r. ⌜ r ≡ lowest (notOnce (referencesTo (now (words .entry)) nodes)) 64 ⌝ }
+    requires { ⌜ (nodes * questionNodeWords ≤ length (now words)) × (nodes ≤ questionNodeLimit) ⌝ }
+    ensures { λ r. ⌜ r ≡ lowest (notOnce (referencesTo (now (words .entry)) nodes)) questionNodeLimit ⌝ }
 {
     let seen = see_all(words, nodes);
     u64::trailing_zeros(!(seen.once ^ seen.twice))

@@ -8,9 +8,6 @@ ghost use Rattle.relations.specs.Comparison as comparison;
 ghost use Rattle.relations.specs.Columns as meaning;
 ghost use Rattle.operations.specs.Lists.{attributeIn, operatorIn, tripleIn, pairIn, operatorNamed, firstTriple, firstPair, triplesIn};
 
-// The most columns of a row.
-pub const COLUMNS: usize = 32;
-
 // The list of a node that has none.
 pub const NO_WORDS: [u32; 0] = [];
 

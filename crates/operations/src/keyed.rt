@@ -14,11 +14,12 @@ ghost use Rattle.operations.specs.Lists.{triplesIn};
 ghost use Rattle.operations.specs.Keys.{renumbers, wantedRows, Tried};
 use crate::bounds::triple_with;
 use crate::columns::Attribute;
-use crate::columns::COLUMNS;
 use crate::columns::column_of;
 use crate::keep::Test;
 use crate::keep::keep;
 use crate::project::project;
+use relations::limits::ATTRIBUTES;
+use relations::limits::COLUMNS;
 use values::clearing::clear_from;
 use values::clearing::clear_words;
 use values::clearing::finish;
@@ -207,7 +208,7 @@ fn equated(list: &[u32], count: usize) -> u32
     ensures { λ r. ⌜ r ≤ columnLimit ⌝ }
 {
     let mut number: u32 = 0;
-    while number < 32 {
+    while number < ATTRIBUTES {
         if count <= triple_with(list, count, 1, number + 1) {
             return number;
         }

@@ -1,6 +1,7 @@
 // Stored rows made a value in the order of their sorted numbers.
 ghost use mathlib.Core.Path.{_≡_};
 ghost use Prim.Native.Nat.{ℕ, _+_, _*_, _≤_, _<_};
+ghost use Rattle.relations.specs.Limits.{columnLimit};
 ghost use lib.ListN.{length, take, drop};
 ghost use Rattle.values.specs.Words.{rowsOf, end};
 ghost use Rattle.values.specs.Building.{Blank, Makes};
@@ -12,6 +13,7 @@ use crate::numbers::is_whole;
 use crate::numbers::note_places;
 use crate::numbers::offer;
 use operations::copy;
+use relations::limits::COLUMNS;
 use values::clearing::clear_from;
 use values::placing::Placed;
 use values::rows::Value;
@@ -21,11 +23,9 @@ const LEAST: usize = 256;
 
 const MOST: usize = 65535;
 
-const COLUMNS: usize = 32;
-
 // The numbers of the stored rows are sorted at the work area's end; whether each is there.
 fn sort_behind(tables: &[u32], work: &mut [u32], stored: Value, numbers: usize) -> bool
-    requires { ⌜ (end stored ≤ length (now tables)) × (0 < stored .rows) × (stored .rows < 65536) × (stored .width ≤ 32) × (numbers + stored .rows ≡ length (now work)) ⌝ }
+    requires { ⌜ (end stored ≤ length (now tables)) × (0 < stored .rows) × (stored .rows < 65536) × (stored .width ≤ columnLimit) × (numbers + stored .rows ≡ length (now work)) ⌝ }
     ensures { λ r. ⌜ (take numbers (now (work .exit)) ≡ take numbers (now (work .entry))) × (r ≡ wholeBelow (drop numbers (now (work .exit))) (stored .rows)) ⌝ }
 {
     sort_numbers(tables, stored, &mut work[numbers..]);

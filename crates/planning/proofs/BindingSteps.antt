@@ -5,7 +5,7 @@ use mathlib.Core.Bool.{Bool, _||_}
 use mathlib.Core.List.{List, [], _∷_}
 use native.Mathlib.Omega.{arith}
 use lib.Dec.{ltb, eqb}
-use Rattle.relations.specs.Limits.{columnLimit}
+use Rattle.relations.specs.Limits.{columnLimit, variableCount}
 use Rattle.relations.specs.Nodes.{join}
 use Rattle.calculus.specs.Question.{Range, Bindings, noMore, bind, rangeNodes, bindingNodes}
 use Rattle.calculus.specs.Scope.{columnsIn, extend}
@@ -13,7 +13,6 @@ use Rattle.calculus.specs.Form.{widthOfRange, scopeOfBindings, GoodRange, GoodB
 use Rattle.calculus.specs.Translation.{translateBindings}
 use Rattle.calculus.proofs.SizeTheorem.{range-size}
 use Rattle.catalogue.specs.Stored.{relationsOf, columnsOf}
-use Rattle.nodes.specs.Limits.{variableCount}
 use Rattle.nodes.specs.Nodes.{isBinding, isRange, kindNamed, nodeAt}
 use Rattle.nodes.specs.declared.node.Node.the-variants.{Binding}
 use Rattle.nodes.proofs.Forms.{lower, second-of, references-lower}

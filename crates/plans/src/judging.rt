@@ -6,10 +6,10 @@ ghost use Rattle.relations.specs.PlanWords.{readNode};
 ghost use Rattle.plans.specs.Judging.{judgedNode, planNumbers, judgedPlan};
 use crate::legal::legal_node;
 use crate::legal::width_of;
-use crate::limits::NODE_WORDS;
-use crate::limits::NODES;
 use crate::nodes::Decoded;
 use crate::nodes::decode_node;
+use relations::limits::PLAN_NODE_WORDS;
+use relations::limits::PLAN_NODES;
 
 // The width of a legal node.
 pub enum Width {
@@ -41,21 +41,21 @@ fn judge_node(catalogue: &[u32], widths: &[usize], words: &[u32]) -> Width
 pub fn judge_plan(catalogue: &[u32], plan: &[u32]) -> PlanJudgement
     ensures { λ r. ⌜ planNumbers r ≡ judgedPlan (now (catalogue .entry)) (now (plan .entry)) ⌝ }
 {
-    let nodes = plan.len() / NODE_WORDS;
-    if plan.len() % NODE_WORDS != 0 {
+    let nodes = plan.len() / PLAN_NODE_WORDS;
+    if plan.len() % PLAN_NODE_WORDS != 0 {
         return PlanJudgement::Illegal(0);
     }
     if nodes < 1 {
         return PlanJudgement::Illegal(0);
     }
-    if NODES < nodes {
+    if PLAN_NODES < nodes {
         return PlanJudgement::Illegal(0);
     }
-    let mut widths = [0usize; NODES];
+    let mut widths = [0usize; PLAN_NODES];
     let mut place = 0;
     let mut at = 0;
     while place < nodes {
-        let next = at + NODE_WORDS;
+        let next = at + PLAN_NODE_WORDS;
         match judge_node(catalogue, &widths[..place], &plan[at..next]) {
             Width::Of(width) => {
                 widths[place] = width;

@@ -14,16 +14,16 @@ ghost use Rattle.plans.specs.Decoding.{spaced, decoded};
 ghost use Rattle.plans.specs.declared.nodes.Decoded.the-variants.{Node};
 ghost use Rattle.plans.specs.Judging.{legalRead};
 ghost use Rattle.plans.specs.Steps.{widthOf, joinFits, triplesLegal, pairsLegal};
-use crate::limits::COLUMNS;
-use crate::limits::HEAD_WORDS;
-use crate::limits::PAIR_WORDS;
-use crate::limits::TRIPLE_WORDS;
 use crate::nodes::Operation;
 use crate::nodes::PlanNode;
 use crate::nodes::within;
 use catalogue::judging::wide;
 use catalogue::stored::columns_of;
 use catalogue::stored::relations_of;
+use relations::limits::COLUMNS;
+use relations::limits::HEAD_WORDS;
+use relations::limits::PAIR_WORDS;
+use relations::limits::TRIPLE_WORDS;
 
 // 0 where there is no such node.
 pub fn width_at(widths: &[usize], place: usize) -> usize

@@ -8,14 +8,16 @@ ghost use Rattle.relations.specs.Lists.{all};
 ghost use Rattle.relations.specs.Legality.{between};
 ghost use Rattle.relations.specs.PlanWords.{shapeOf, shapeFits, allZero, readNode};
 ghost use Rattle.plans.specs.Decoding.{spaced, operationIn, shapeIn, fits, headIn, operatorsKnown, decoded};
-use crate::limits::COLUMNS;
-use crate::limits::HEAD_WORDS;
-use crate::limits::OPERATORS;
-use crate::limits::PAIR_WORDS;
-use crate::limits::PAIRS;
-use crate::limits::TRIPLE_WORDS;
-use crate::limits::TRIPLES;
 use catalogue::judging::wide;
+use relations::limits::COLUMNS;
+use relations::limits::HEAD_WORDS;
+use relations::limits::OPERATORS;
+use relations::limits::PAIR_WORDS;
+use relations::limits::PAIRS;
+use relations::limits::TRIPLE_WORDS;
+use relations::limits::TRIPLES;
+
+const LAST_OPERATOR: usize = OPERATORS as usize;
 
 pub enum Operation {
     Load,
@@ -166,7 +168,7 @@ fn decode_triples(operation: Operation, words: &[u32]) -> Decoded
             HEAD_WORDS + 1,
             TRIPLE_WORDS,
             wide(words[3]),
-            OPERATORS,
+            LAST_OPERATOR,
         ) {
             return Decoded::Node(head(operation, words));
         }

@@ -6,9 +6,8 @@ use mathlib.Core.List.{List}
 use mathlib.Core.Bool.{Bool, false, cond, not, _||_}
 use lib.Dec.{ltb, eqb}
 use lib.ListN.{getD, set, replicate}
-use Rattle.relations.specs.Limits.{columnLimit, questionNodeLimit}
+use Rattle.relations.specs.Limits.{columnLimit, questionNodeLimit, variableCount}
 use Rattle.catalogue.specs.Stored.{columnsOf}
-use Rattle.nodes.specs.Limits.{variableCount}
 use Rattle.nodes.specs.Roles.{Role, stored, alpha, takes, binds, sides, compares, joins, roleOf}
 use Rattle.nodes.specs.Nodes.{nodeCount, nodeAt}
 use Rattle.question.specs.Trees.{Tree, nothing, branch, questionTree}

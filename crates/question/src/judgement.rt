@@ -4,17 +4,18 @@ ghost use mathlib.Core.Bool.{true};
 ghost use Prim.Native.Nat.{_+_, _*_, _≤_, _/_};
 ghost use lib.ListN.{length};
 ghost use Rattle.question.specs.declared.judgement.Judgement.the-variants.{Refused};
+ghost use Rattle.relations.specs.Limits.{questionNodeLimit};
 ghost use Rattle.nodes.specs.Nodes.{nodeCount, nodeAt, isIllFormed};
 ghost use Rattle.nodes.specs.References.{lowest};
 ghost use Rattle.question.specs.Judgement.{countOk, judgeCount, isAlpha, isUnknown};
 ghost use Rattle.question.specs.Walk.{judgeTree, judgeNodes, judgedByWalk};
 use crate::scope::empty;
 use crate::scope::walk;
-use nodes::limits::NODE_WORDS;
-use nodes::limits::NODES;
 use nodes::node::Node;
 use nodes::node::decode;
 use nodes::references::lowest_not_once;
+use relations::limits::QUESTION_NODE_WORDS;
+use relations::limits::QUESTION_NODES;
 
 pub enum Judgement {
     Accepted,
@@ -31,8 +32,8 @@ fn refused(status: u32, place: u32) -> Judgement
 fn count_ok(words: &[u32]) -> bool
     ensures { λ r. ⌜ r ≡ countOk (now (words .entry)) ⌝ }
 {
-    let nodes = words.len() / NODE_WORDS;
-    (words.len() % NODE_WORDS == 0) & (1 <= nodes) & (nodes <= NODES)
+    let nodes = words.len() / QUESTION_NODE_WORDS;
+    (words.len() % QUESTION_NODE_WORDS == 0) & (1 <= nodes) & (nodes <= QUESTION_NODES)
 }
 
 pub fn judge_count(words: &[u32]) -> Judgement
@@ -199,7 +200,7 @@ fn lowest_unknown(relations: usize, words: &[u32], nodes: usize) -> usize
 
 // Refusals 4, 5 and 6 of a table that is a tree, each over the whole of it.
 fn judge_tree(catalogue: &[u32], words: &[u32], nodes: usize) -> Judgement
-    requires { ⌜ (nodes ≡ nodeCount (now words)) × (nodes ≤ 64) ⌝ }
+    requires { ⌜ (nodes ≡ nodeCount (now words)) × (nodes ≤ questionNodeLimit) ⌝ }
     ensures { λ r. ⌜ r ≡ judgeTree (now (catalogue .entry)) (now (words .entry)) ⌝ }
 {
     let unknown = lowest_unknown(catalogue.len() / 2, words, nodes);
@@ -207,10 +208,10 @@ fn judge_tree(catalogue: &[u32], words: &[u32], nodes: usize) -> Judgement
         return refused(4, unknown as u32);
     }
     let found = walk(catalogue, words, nodes as u32, empty());
-    if found.unbound < NODES as u32 {
+    if found.unbound < QUESTION_NODES as u32 {
         return refused(5, found.unbound);
     }
-    if found.unfit < NODES as u32 {
+    if found.unfit < QUESTION_NODES as u32 {
         return refused(6, found.unfit);
     }
     Judgement::Accepted
@@ -221,7 +222,7 @@ fn judge_nodes(catalogue: &[u32], words: &[u32]) -> Judgement
     requires { ⌜ countOk (now words) ≡ true ⌝ }
     ensures { λ r. ⌜ r ≡ judgeNodes (now (catalogue .entry)) (now (words .entry)) ⌝ }
 {
-    let nodes = words.len() / NODE_WORDS;
+    let nodes = words.len() / QUESTION_NODE_WORDS;
     let last = nodes - 1;
     let ill_formed = lowest_ill_formed(words, nodes);
     if ill_formed < nodes {

@@ -2,18 +2,20 @@
 ghost use mathlib.Core.Path.{_≡_};
 ghost use Prim.Native.Nat.{_*_, _≤_, _<_, min};
 ghost use lib.ListN.{length};
-ghost use Rattle.nodes.specs.Limits.{variableCount};
+ghost use Rattle.relations.specs.Limits.{variableCount};
 ghost use Rattle.nodes.specs.Nodes.{VariableFits, OperandVariableFits};
 ghost use Rattle.catalogue.specs.Stored.{columnsOf};
 ghost use Rattle.question.specs.Trees.{treeOf};
 ghost use Rattle.question.specs.Walk.{widthKept, addWidths, noWidths, boundWidth, bind, opening, inside, operandUnboundAt, unboundAt, operandUnfitAt, unfitAt, targetWidthKept, widthFound, lowestOf, walk};
 use catalogue::stored::columns_of;
-use nodes::limits::COLUMNS;
-use nodes::limits::NODES;
 use nodes::node::Node;
 use nodes::node::Operand;
 use nodes::node::decode;
 use nodes::references::references_of;
+use relations::limits::COLUMNS;
+use relations::limits::QUESTION_NODES;
+
+const MOST_COLUMNS: u32 = COLUMNS as u32;
 
 // For each variable the width of its rows, 0 where it is not in scope; and all columns in scope.
 pub struct ScopeWidths {
@@ -34,14 +36,14 @@ pub struct Found {
 fn add_widths(a: u32, b: u32) -> u32
     ensures { λ r. ⌜ r ≡ addWidths a b ⌝ }
 {
-    if COLUMNS < a {
-        return COLUMNS + 1;
+    if MOST_COLUMNS < a {
+        return MOST_COLUMNS + 1;
     }
-    if COLUMNS < b {
-        return COLUMNS + 1;
+    if MOST_COLUMNS < b {
+        return MOST_COLUMNS + 1;
     }
-    if COLUMNS < a + b {
-        return COLUMNS + 1;
+    if MOST_COLUMNS < a + b {
+        return MOST_COLUMNS + 1;
     }
     a + b
 }
@@ -249,7 +251,7 @@ fn unfit_at(node: Node, scope: ScopeWidths, first: u32, second: u32) -> bool
             target: _,
             binding: _,
             condition: _,
-        } => COLUMNS < second,
+        } => MOST_COLUMNS < second,
         Node::Target {
             variable,
             attribute,
@@ -259,7 +261,7 @@ fn unfit_at(node: Node, scope: ScopeWidths, first: u32, second: u32) -> bool
             variable: _,
             range: _,
             next: _,
-        } => COLUMNS < add_widths(scope.columns, first),
+        } => MOST_COLUMNS < add_widths(scope.columns, first),
         Node::RangeOr { left: _, right: _ } => first != second,
         Node::RangeAnd { left: _, right: _ } => first != second,
         Node::RangeAndNot { left: _, right: _ } => first != second,
@@ -274,12 +276,12 @@ fn unfit_at(node: Node, scope: ScopeWidths, first: u32, second: u32) -> bool
             variable: _,
             range: _,
             condition: _,
-        } => COLUMNS < add_widths(scope.columns, first),
+        } => MOST_COLUMNS < add_widths(scope.columns, first),
         Node::Every {
             variable: _,
             range: _,
             condition: _,
-        } => COLUMNS < add_widths(scope.columns, first),
+        } => MOST_COLUMNS < add_widths(scope.columns, first),
         Node::IllFormed => false,
     }
 }
@@ -353,7 +355,7 @@ fn lowest_of(fault: bool, i: u32, first: u32, second: u32, third: u32) -> u32
     if fault {
         return lower(i, below);
     }
-    lower(NODES as u32, below)
+    lower(QUESTION_NODES as u32, below)
 }
 
 // What the tree that a reference names has, in a scope. The reference falls at each call.
@@ -363,8 +365,8 @@ pub fn walk(catalogue: &[u32], words: &[u32], reference: u32, scope: ScopeWidths
 {
     if reference == 0 {
         return Found {
-            unbound: NODES as u32,
-            unfit: NODES as u32,
+            unbound: QUESTION_NODES as u32,
+            unfit: QUESTION_NODES as u32,
             width: 0,
             scope,
         };

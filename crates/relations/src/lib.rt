@@ -1,1 +1,2 @@
-// Definitions and laws alone: read specs/ beside documents 000 and 01, then proofs/.
+// Definitions and laws: read specs/ beside documents 000 and 01, then proofs/. The code has the limits alone.
+pub mod limits;

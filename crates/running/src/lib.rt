@@ -11,11 +11,11 @@ ghost use Rattle.running.specs.PlanRun.{PlanRun};
 use crate::node::Made;
 use crate::node::run_node;
 use catalogue::judging::tables_ok;
-use catalogue::limits::WORDS;
 use plans::judging::PlanJudgement;
 use plans::judging::judge_plan;
-use plans::limits::NODE_WORDS;
-use plans::limits::NODES;
+use relations::limits::PLAN_NODE_WORDS;
+use relations::limits::PLAN_NODES;
+use relations::limits::WORDS;
 use values::clearing::clear_from;
 use values::placing::write_row;
 use values::rows::Value;
@@ -57,15 +57,15 @@ fn run_nodes(
     requires { ⌜ (tablesOk (now catalogue) (now tables) ≡ true) × (planJudgement (now catalogue) (now plan) ≡ PlanJudgement.Legal nodes) × Blank 0 (now work) ⌝ }
     ensures { λ r. ⌜ PlanRun (now (catalogue .entry)) (now (tables .entry)) (nodesOfPlan (now (plan .entry))) (now (work .exit)) r ⌝ }
 {
-    let mut widths = [0usize; NODES];
-    let mut rows = [0usize; NODES];
-    let mut bases = [0usize; NODES];
+    let mut widths = [0usize; PLAN_NODES];
+    let mut rows = [0usize; PLAN_NODES];
+    let mut bases = [0usize; PLAN_NODES];
     let mut heavy = 0;
     let mut out = 0;
     let mut place = 0;
     let mut at = 0;
     while place < nodes {
-        let next = at + NODE_WORDS;
+        let next = at + PLAN_NODE_WORDS;
         match run_node(
             catalogue,
             tables,

@@ -15,11 +15,15 @@ use conditions::atom::equates_with;
 use conditions::leaves::Leaves;
 use conditions::leaves::leaf;
 use conditions::leaves::leaves_of;
-use emission::limits::PAIRS;
-use emission::limits::TRIPLES;
 use emission::node_list::NodeList;
 use nodes::node::Node;
 use nodes::node::decode;
+use relations::limits::PAIRS;
+use relations::limits::TRIPLES;
+
+const MOST_TRIPLES: u32 = TRIPLES as u32;
+
+const MOST_PAIRS: u32 = PAIRS as u32;
 
 // S1: a project on all columns in order is not written.
 pub fn short_rule_1_fits(width: u32, attributes: NodeList) -> bool
@@ -66,7 +70,7 @@ fn short_rule_2_atoms(words: &[u32], x: u32, leaves: Leaves) -> bool
         i += 1;
         left -= 1;
     }
-    fits & (comparing <= TRIPLES)
+    fits & (comparing <= MOST_TRIPLES)
 }
 
 pub fn short_rule_2_fits(words: &[u32], x: u32, leaves: Leaves) -> bool
@@ -104,7 +108,10 @@ pub fn short_rule_5_fits(words: &[u32], z: u32, y: u32, leaves: Leaves) -> bool
         left -= 1;
     }
     leaves.conjoined
-        & (fits & ((1 <= shared) & (shared <= PAIRS) & ((1 <= outside) & (outside <= TRIPLES))))
+        & (fits
+            & ((1 <= shared)
+                & (shared <= MOST_PAIRS)
+                & ((1 <= outside) & (outside <= MOST_TRIPLES))))
 }
 
 // S3 or S6 fits a "not" above the condition that a reference names.

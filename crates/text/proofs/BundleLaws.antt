@@ -7,8 +7,7 @@ use native.Mathlib.Omega.{arith}
 use lib.ListN.{length, drop}
 use lib.Seq.{sets}
 use borrow.Author.Tests.{lt-ltb, le-ltb}
-use Rattle.relations.specs.Limits.{questionNodeLimit, questionNodeWords}
-use Rattle.text.specs.Limits.{byteLimit}
+use Rattle.relations.specs.Limits.{questionNodeLimit, questionNodeWords, byteLimit}
 use Rattle.catalogue.specs.Judging.{catalogueWords}
 use Rattle.text.specs.Reading as reads
 use Rattle.text.specs.Reading.{Next, goesOn, wrongAt, ReadTables, nodesOf, withTables, linesOf, bundleIn}

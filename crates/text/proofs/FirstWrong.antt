@@ -8,11 +8,10 @@ use native.Mathlib.Omega.{arith}
 use lib.Dec.{ltb, eqb}
 use lib.ListN.{length, drop, replicate, length-replicate}
 use borrow.Author.Tests.{le-ltb, ltb-true, ltb-false}
-use Rattle.relations.specs.Limits.{cataloguePairLimit, wordLimit, questionNodeLimit, questionNodeWords}
+use Rattle.relations.specs.Limits.{cataloguePairLimit, wordLimit, questionNodeLimit, questionNodeWords, byteLimit}
 use Rattle.relations.proofs.BoolLaws.{true-or-false}
 use Rattle.catalogue.specs.Judging.{pairsOk, catalogueWords}
 use Rattle.catalogue.proofs.Judgements.{GoodTables, tables-good}
-use Rattle.text.specs.Limits.{byteLimit}
 use Rattle.text.specs.Marks.{plainLine, shortLine, nodeKey}
 use Rattle.text.specs.Writing.{linesText, tablesText, modeText, bundleText}
 use Rattle.text.specs.Reading.{Bundle, Next, goesOn, wrongAt, ReadTables, begins, tablesOf, noBundle, nodesAfter, withTables, linesOf, bundleIn}

@@ -6,11 +6,10 @@ use mathlib.Core.Bool.{Bool, true, false, cond, _&&_}
 use native.Mathlib.Omega.{arith}
 use lib.ListN.{length, drop}
 use lib.Dec.{leb, ltb}
-use Rattle.relations.specs.Limits.{cataloguePairLimit, wordLimit, rowLimit, questionNodeLimit, questionNodeWords}
+use Rattle.relations.specs.Limits.{cataloguePairLimit, wordLimit, rowLimit, questionNodeLimit, questionNodeWords, byteLimit}
 use Rattle.relations.proofs.BoolLaws.{and-left}
 use Rattle.catalogue.specs.Judging.{pairOk, catalogueWords}
 use Rattle.catalogue.proofs.Judgements.{good-pair}
-use Rattle.text.specs.Limits.{byteLimit}
 use Rattle.text.specs.Marks.{lineFeed, space, separator, plainLine, shortLine, relationKey, rowKey, nodeKey}
 use Rattle.text.specs.Reading.{Number, value, noNumber, numberThen, Next, goesOn, wrongAt, Read, nothing, wordsThen, orWrong, numbers, begins, keyedLine, keyedLines, Relation, relation, noRelation, withRows, withColumns, relationOf, ReadTables, noTables, tableBehind, tableOf, tablesThen, tablesOf, unlessEnded, nodesOf, Bundle, noBundle, nodesAfter, withTables, linesOf, bundleIn}
 use Rattle.text.specs.ReadCall.{ReadNumbers, ReadOutcome, readRefused, bundleOutcome, smallBuffers, readNumbers, readOutcome}

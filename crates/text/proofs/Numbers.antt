@@ -8,7 +8,7 @@ use native.Mathlib.Omega.{arith}
 use native.Mathlib.Nat.{pow-suc}
 use lib.Dec.{leb, ltb, eqb}
 use borrow.Author.Tests.{ltb-true, ltb-false, leb-true, eqb-true, eqb-false, lt-ltb, le-ltb, le-leb, eq-eqb, ne-eqb}
-use Rattle.text.specs.Limits.{greatestNumber}
+use Rattle.relations.specs.Limits.{greatestNumber}
 use Rattle.text.specs.Marks.{zeroDigit, digit, separator}
 use Rattle.text.specs.Writing.{digits, decimal}
 use Rattle.text.specs.Reading.{Number, value, noNumber, moreDigits, number, endedBy, numberThen}

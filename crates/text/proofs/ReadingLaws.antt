@@ -10,8 +10,7 @@ use lib.Dec.{leb, ltb, eqb}
 use lib.ListN.{length, take, drop, length-append, length-drop}
 use lib.Seq.{take-at, drop-at, take-append-le, drop-append-le}
 use borrow.Author.Tests.{ltb-false, leb-true, eqb-true}
-use Rattle.relations.specs.Limits.{cataloguePairLimit, wordLimit, questionNodeLimit, questionNodeWords}
-use Rattle.text.specs.Limits.{byteLimit}
+use Rattle.relations.specs.Limits.{cataloguePairLimit, wordLimit, questionNodeLimit, questionNodeWords, byteLimit}
 use Rattle.catalogue.specs.Judging.{pairOk, pairsOk, catalogueWords}
 use Rattle.text.specs.Marks.{lineFeed, space, separator, plainLine, shortLine, relationKey, rowKey, nodeKey}
 use Rattle.text.specs.Writing.{decimal, numbersText, lineText, linesText, tablesText, modeText, bundleText}

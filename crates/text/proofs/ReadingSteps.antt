@@ -9,8 +9,7 @@ use lib.Dec.{leb, eqb}
 use lib.ListN.{length, getD, drop, drop-of-length-le}
 use lib.Seq.{drop-cons, drop-drop}
 use borrow.Author.Tests.{leb-true}
-use Rattle.relations.specs.Limits.{questionNodeWords}
-use Rattle.text.specs.Limits.{greatestNumber}
+use Rattle.relations.specs.Limits.{questionNodeWords, greatestNumber}
 use Rattle.catalogue.specs.Judging.{catalogueWords}
 use Rattle.text.specs.Marks.{zeroDigit, digit, separator, relationKey, nodeKey}
 use Rattle.relations.proofs.BoolLaws.{and-left, and-right}

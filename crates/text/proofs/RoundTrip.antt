@@ -8,8 +8,7 @@ use lib.Dec.{leb, ltb}
 use lib.ListN.{length, take, drop}
 use lib.Seq.{sets, sets-eq, take-at}
 use borrow.Author.Tests.{leb-true, le-leb, ltb-false}
-use Rattle.relations.specs.Limits.{cataloguePairLimit, wordLimit, questionNodeLimit, questionNodeWords}
-use Rattle.text.specs.Limits.{byteLimit}
+use Rattle.relations.specs.Limits.{cataloguePairLimit, wordLimit, questionNodeLimit, questionNodeWords, byteLimit}
 use Rattle.catalogue.specs.Judging.{tablesOk}
 use Rattle.text.specs.Writing.{bundleText}
 use Rattle.text.specs.Reading.{Bundle, Next, goesOn, wrongAt, bundleIn}

@@ -8,10 +8,9 @@ use native.Mathlib.Omega.{arith}
 use lib.ListN.{length, drop}
 use lib.Dec.{leb, ltb, eqb}
 use borrow.Author.Tests.{ltb-true, ltb-false, leb-true, eqb-true, ne-eqb}
-use Rattle.relations.specs.Limits.{cataloguePairLimit, wordLimit, questionNodeLimit, questionNodeWords}
+use Rattle.relations.specs.Limits.{cataloguePairLimit, wordLimit, questionNodeLimit, questionNodeWords, greatestNumber}
 use Rattle.relations.proofs.BoolLaws.{true-or-false, and-left}
 use Rattle.catalogue.specs.Judging.{pairOk, catalogueWords}
-use Rattle.text.specs.Limits.{greatestNumber}
 use Rattle.text.specs.Marks.{lineFeed, space, zeroDigit, digit, separator, plainLine, shortLine, relationKey, rowKey, nodeKey}
 use Rattle.text.specs.Reading.{Number, value, noNumber, moreDigits, number, endedBy, numberThen, Next, goesOn, wrongAt, Read, nothing, wordsThen, orWrong, numbers, begins, keyedLine, keyedLines, Relation, relation, noRelation, withRows, withColumns, relationOf, ReadTables, noTables, tableBehind, tableOf, tablesThen, tablesOf, unlessEnded, nodesOf, nodesAfter, withTables, linesOf}
 use Rattle.text.specs.FirstWrong.{firstLines}

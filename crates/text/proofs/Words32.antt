@@ -2,7 +2,7 @@
 use Prim.Native.Nat.{ℕ, zero, suc, _≤_}
 use mathlib.Core.List.{List, [], _∷_, _++_}
 use lib.ListN.{getD, take, drop}
-use Rattle.text.specs.Limits.{greatestNumber}
+use Rattle.relations.specs.Limits.{greatestNumber}
 use Rattle.text.specs.RoundTrip.{Words32}
 
 pub words32-append : (xs ys : List ℕ) → Words32 xs → Words32 ys → Words32 (xs ++ ys)

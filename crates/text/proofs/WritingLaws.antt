@@ -10,8 +10,7 @@ use lib.Dec.{leb, eqb}
 use lib.ListN.{length, take, drop, take-append-drop, length-drop}
 use lib.Seq.{drop-append-seam, length-take-le, take-all}
 use borrow.Author.Tests.{le-ltb, le-leb, eq-eqb}
-use Rattle.relations.specs.Limits.{cataloguePairLimit, wordLimit, questionNodeLimit, questionNodeWords}
-use Rattle.text.specs.Limits.{byteLimit}
+use Rattle.relations.specs.Limits.{cataloguePairLimit, wordLimit, questionNodeLimit, questionNodeWords, byteLimit}
 use Rattle.catalogue.specs.Judging.{pairOk, pairsOk, catalogueWords, tablesOk}
 use Rattle.text.specs.Marks.{lineFeed, space, separator, plainLine, shortLine, relationKey, rowKey, nodeKey}
 use Rattle.text.specs.Writing.{decimal, numbersText, lineText, linesText, tablesText, modeText, bundleText}

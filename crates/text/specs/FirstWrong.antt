@@ -6,7 +6,7 @@ use mathlib.Core.Bool.{true, false, cond}
 use lib.ListN.{length}
 use lib.Dec.{eqb}
 use Rattle.catalogue.specs.Judging.{tablesOk}
-use Rattle.text.specs.Limits.{byteLimit}
+use Rattle.relations.specs.Limits.{byteLimit}
 use Rattle.text.specs.Marks.{lineFeed}
 use Rattle.text.specs.Writing.{bundleText}
 use Rattle.text.specs.WriteCall.{nodesOk}

@@ -1,4 +1,3 @@
-pub mod Limits
 pub mod Marks
 pub mod Writing
 pub mod Reading

@@ -6,8 +6,7 @@ use mathlib.Core.List.{List, [], _∷_, _++_}
 use mathlib.Core.Bool.{Bool, true, false, cond, _&&_}
 use lib.ListN.{length, drop}
 use lib.Dec.{leb, ltb, eqb}
-use Rattle.relations.specs.Limits.{cataloguePairLimit, wordLimit, questionNodeLimit, questionNodeWords}
-use Rattle.text.specs.Limits.{byteLimit, greatestNumber}
+use Rattle.relations.specs.Limits.{cataloguePairLimit, wordLimit, questionNodeLimit, questionNodeWords, byteLimit, greatestNumber}
 use Rattle.catalogue.specs.Judging.{pairOk, catalogueWords}
 use Rattle.text.specs.Marks.{lineFeed, space, zeroDigit, digit, separator, plainLine, shortLine, relationKey, rowKey, nodeKey}
 

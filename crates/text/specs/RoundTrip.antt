@@ -7,8 +7,7 @@ use mathlib.Core.Bool.{true, false, cond}
 use lib.ListN.{length, take}
 use lib.Dec.{eqb}
 use lib.Seq.{sets}
-use Rattle.relations.specs.Limits.{questionNodeWords}
-use Rattle.text.specs.Limits.{byteLimit, greatestNumber}
+use Rattle.relations.specs.Limits.{questionNodeWords, byteLimit, greatestNumber}
 use Rattle.catalogue.specs.Judging.{tablesOk}
 use Rattle.text.specs.Writing.{bundleText}
 use Rattle.text.specs.Reading.{Bundle, goesOn, bundleIn}

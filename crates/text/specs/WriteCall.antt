@@ -5,8 +5,7 @@ use mathlib.Core.Bool.{Bool, cond, not, _&&_, _||_}
 use lib.ListN.{length}
 use lib.Dec.{leb, ltb, eqb}
 use lib.Seq.{sets}
-use Rattle.relations.specs.Limits.{questionNodeLimit, questionNodeWords}
-use Rattle.text.specs.Limits.{byteLimit}
+use Rattle.relations.specs.Limits.{questionNodeLimit, questionNodeWords, byteLimit}
 use Rattle.catalogue.specs.Judging.{tablesOk}
 use Rattle.text.specs.Writing.{bundleText}
 use Rattle.text.specs.declared.writing.Writing.{Writing}

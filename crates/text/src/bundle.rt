@@ -9,9 +9,6 @@ ghost use Rattle.text.specs.Put.{furthest};
 ghost use Rattle.text.specs.Reading.{begins, keyedLines, tableOf, tablesOf, nodesOf, withTables, linesOf};
 ghost use Rattle.text.specs.Answers.{Placed, LinesRead, TablesFound, NodesFound, linesAnswer, BundleFound};
 ghost use Rattle.text.specs.ReadCall.{readNumbers, readOutcome};
-use crate::limits::BYTES;
-use crate::limits::NODE_WORDS;
-use crate::limits::NODES;
 use crate::lines::Cursor;
 use crate::lines::Step;
 use crate::lines::begins_with;
@@ -19,8 +16,13 @@ use crate::lines::keep;
 use crate::reader::Line;
 use crate::reader::next_line;
 use catalogue::judging::wide;
-use catalogue::limits::PAIRS;
-use catalogue::limits::WORDS;
+use relations::limits::CATALOGUE_PAIRS;
+use relations::limits::CATALOGUE_WORDS;
+use relations::limits::QUESTION_NODE_WORDS;
+use relations::limits::QUESTION_NODES;
+use relations::limits::QUESTION_WORDS;
+use relations::limits::TEXT_BYTES;
+use relations::limits::WORDS;
 
 // How much was read, and where that ends.
 pub struct TablesRead {
@@ -134,7 +136,7 @@ fn read_tables(text: &[u8], start: Cursor, catalogue: &mut [u32], tables: &mut [
     let mut line = start.line;
     let mut pairs: usize = 0;
     let mut words: usize = 0;
-    while pairs < PAIRS {
+    while pairs < CATALOGUE_PAIRS {
         if begins_with(text, at, b"relation=") {
             let read = read_table(text, Cursor { at, line }, pairs, words, catalogue, tables);
             pairs = read.pairs;
@@ -183,7 +185,7 @@ fn read_nodes(text: &[u8], start: Cursor, question: &mut [u32]) -> NodesRead
             line,
             Line::Node { before: nodes },
             question,
-            NODE_WORDS * nodes,
+            QUESTION_NODE_WORDS * nodes,
         ) {
             Step::Next(next) => {
                 at = next.at;
@@ -263,16 +265,16 @@ fn judge(text: &[u8]) -> Lines
 pub fn read(text: &[u8], catalogue: &mut [u32], tables: &mut [u32], question: &mut [u32]) -> Reading
     ensures { λ r. ⌜ record { numbers = readNumbers r; catalogue = now (catalogue .exit); tables = now (tables .exit); question = now (question .exit) } ≡ readOutcome (now (text .entry)) (now (catalogue .entry)) (now (tables .entry)) (now (question .entry)) ⌝ }
 {
-    if catalogue.len() < 2 * PAIRS {
+    if catalogue.len() < CATALOGUE_WORDS {
         return Reading::SmallBuffer;
     }
     if tables.len() < WORDS {
         return Reading::SmallBuffer;
     }
-    if question.len() < NODE_WORDS * NODES {
+    if question.len() < QUESTION_WORDS {
         return Reading::SmallBuffer;
     }
-    if BYTES < text.len() {
+    if TEXT_BYTES < text.len() {
         return Reading::WrongLine(0);
     }
     match judge(text) {

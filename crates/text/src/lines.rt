@@ -2,12 +2,12 @@
 ghost use mathlib.Core.Path.{_≡_};
 ghost use Prim.Native.Nat.{_+_, _≤_, _<_};
 ghost use lib.ListN.{length, drop, set};
-ghost use Rattle.text.specs.Limits.{greatestNumber};
+ghost use Rattle.relations.specs.Limits.{greatestNumber};
 ghost use Rattle.text.specs.Marks.{digit, separator};
 ghost use Rattle.text.specs.Reading.{number, moreDigits, numberThen, begins, numbers, keyedLine};
 ghost use Rattle.text.specs.Put.{furthest};
 ghost use Rattle.text.specs.Answers.{NumberRead, Placed, LinesRead};
-use crate::limits::GREATEST;
+use relations::limits::GREATEST_WORD;
 
 // Where a reader stands, as a plain value: the position of the byte that comes next, and the number of its line, from 1.
 // A step hands it back, since no enum can hold a reader; a loop carries it to the next line.
@@ -51,7 +51,7 @@ fn more_digits(text: &[u8], at: usize, first: u64) -> Number
         let byte = text[i];
         if is_digit(byte) {
             let more = value * 10 + (wide(byte) - 48);
-            if GREATEST < more {
+            if GREATEST_WORD < more {
                 return Number::Wrong;
             }
             value = more;

@@ -7,8 +7,6 @@ ghost use Rattle.relations.specs.Limits.{wordLimit};
 ghost use Rattle.text.specs.Put.{furthest};
 ghost use Rattle.text.specs.declared.reader.Line.the-variants.{Mode, Relation};
 ghost use Rattle.text.specs.Answers.{Placed, LinesRead, oneLine, LineAsked};
-use crate::limits::NODE_WORDS;
-use crate::limits::NODES;
 use crate::lines::Cursor;
 use crate::lines::Number;
 use crate::lines::Step;
@@ -18,7 +16,9 @@ use crate::lines::keyed_line;
 use crate::lines::number_then;
 use catalogue::judging::pair_ok;
 use catalogue::judging::wide;
-use catalogue::limits::WORDS;
+use relations::limits::QUESTION_NODE_WORDS;
+use relations::limits::QUESTION_NODES;
+use relations::limits::WORDS;
 
 // The text, the position of the byte that comes next, and the number of its line, from 1. At the text's end that is one line after
 // the last, so whatever is missing there is wrong at the reader's own line.
@@ -109,8 +109,8 @@ fn line_at(text: &[u8], at: usize, line: usize, kind: Line, words: &mut [u32], t
         Line::Relation { total } => relation_line(text, start, total, words, to),
         Line::Row { columns } => keyed_line(text, start, b"row=", columns, words, to),
         Line::Node { before } => {
-            if before < NODES {
-                return keyed_line(text, start, b"node=", NODE_WORDS, words, to);
+            if before < QUESTION_NODES {
+                return keyed_line(text, start, b"node=", QUESTION_NODE_WORDS, words, to);
             }
             Step::Wrong(line)
         }

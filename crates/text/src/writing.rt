@@ -8,12 +8,12 @@ ghost use Rattle.catalogue.specs.Judging.{pairsOk, catalogueWords, tablesOk};
 ghost use Rattle.text.specs.Writing.{decimal, numbersText, linesText, tablesText, modeText, bundleText};
 ghost use Rattle.text.specs.Put.{Put, furthest};
 ghost use Rattle.text.specs.WriteCall.{writeNumbers, writeOutcome};
-use crate::limits::BYTES;
-use crate::limits::NODE_WORDS;
-use crate::limits::NODES;
 use crate::lines::separator_behind;
 use catalogue::judging::tables_ok;
 use catalogue::judging::wide;
+use relations::limits::QUESTION_NODE_WORDS;
+use relations::limits::QUESTION_NODES;
+use relations::limits::TEXT_BYTES;
 
 // What writing a bundle answers: its bytes; or refusal 7, 1 or 13.
 pub enum Writing {
@@ -144,8 +144,8 @@ fn put_bundle(mode: u32, catalogue: &[u32], tables: &[u32], nodes: &[u32], text:
         text,
         nodes_at,
         b"node=",
-        NODE_WORDS,
-        nodes.len() / NODE_WORDS,
+        QUESTION_NODE_WORDS,
+        nodes.len() / QUESTION_NODE_WORDS,
         nodes,
         0,
     )
@@ -173,18 +173,18 @@ pub fn write(
     if !tables_ok(catalogue, tables) {
         return Writing::WrongTables;
     }
-    let count = nodes.len() / NODE_WORDS;
-    if nodes.len() % NODE_WORDS != 0 {
+    let count = nodes.len() / QUESTION_NODE_WORDS;
+    if nodes.len() % QUESTION_NODE_WORDS != 0 {
         return Writing::WrongNodes;
     }
     if count == 0 {
         return Writing::WrongNodes;
     }
-    if NODES < count {
+    if QUESTION_NODES < count {
         return Writing::WrongNodes;
     }
     let bytes = count_bytes(mode, catalogue, tables, nodes);
-    if BYTES < bytes {
+    if TEXT_BYTES < bytes {
         return Writing::SmallBuffer;
     }
     if text.len() < bytes {

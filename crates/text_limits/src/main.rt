@@ -1,5 +1,8 @@
 // What no bundle on standard input can show: buffers that are one word or one byte too small, and calls that `write` refuses.
 use libc::STDOUT_FILENO;
+use relations::limits::CATALOGUE_WORDS;
+use relations::limits::QUESTION_WORDS;
+use relations::limits::WORDS;
 use text::bundle::Reading;
 use text::bundle::read;
 use text::writing::Writing;
@@ -41,12 +44,12 @@ fn show_writing(case: &[u8], writing: Writing) {
 
 fn reading_cases() {
     let text = b"mode=plain\nnode=1 0 0 0 0 0\n";
-    let mut pairs = [0u32; 32];
-    let mut words = [0u32; 16384];
-    let mut nodes = [0u32; 384];
-    let mut few_pairs = [0u32; 31];
-    let mut few_words = [0u32; 16383];
-    let mut few_nodes = [0u32; 383];
+    let mut pairs = [0u32; CATALOGUE_WORDS];
+    let mut words = [0u32; WORDS];
+    let mut nodes = [0u32; QUESTION_WORDS];
+    let mut few_pairs = [0u32; CATALOGUE_WORDS - 1];
+    let mut few_words = [0u32; WORDS - 1];
+    let mut few_nodes = [0u32; QUESTION_WORDS - 1];
     show_reading(
         b"32, 16384, 384 words",
         read(text, &mut pairs, &mut words, &mut nodes),
@@ -68,10 +71,10 @@ fn reading_cases() {
 // 14 comes before 12.
 fn empty_text_cases() {
     let nothing = [0u8; 1];
-    let mut pairs = [0u32; 32];
-    let mut few_pairs = [0u32; 31];
-    let mut words = [0u32; 16384];
-    let mut nodes = [0u32; 384];
+    let mut pairs = [0u32; CATALOGUE_WORDS];
+    let mut few_pairs = [0u32; CATALOGUE_WORDS - 1];
+    let mut words = [0u32; WORDS];
+    let mut nodes = [0u32; QUESTION_WORDS];
     show_reading(
         b"empty text",
         read(&nothing[..0], &mut pairs, &mut words, &mut nodes),

@@ -1,6 +1,10 @@
 // Reads a bundle from standard input, and writes it back from what it read; or prints status= and place= lines.
 use libc::STDIN_FILENO;
 use libc::STDOUT_FILENO;
+use relations::limits::CATALOGUE_WORDS;
+use relations::limits::QUESTION_WORDS;
+use relations::limits::TEXT_BYTES;
+use relations::limits::WORDS;
 use text::bundle::Reading;
 use text::writing::Writing;
 
@@ -17,7 +21,7 @@ fn refuse(status: u64, place: usize) {
 
 // What was read is written back.
 fn write_back(mode: u32, catalogue: &[u32], tables: &[u32], nodes: &[u32]) {
-    let mut text = [0u8; 65536];
+    let mut text = [0u8; TEXT_BYTES];
     match text::writing::write(mode, catalogue, tables, nodes, &mut text) {
         Writing::Bytes(bytes) => {
             io::write_all(STDOUT_FILENO, &text[..bytes]);
@@ -29,10 +33,10 @@ fn write_back(mode: u32, catalogue: &[u32], tables: &[u32], nodes: &[u32]) {
 }
 
 fn main() {
-    let mut text = [0u8; 65537];
-    let mut catalogue = [0u32; 32];
-    let mut tables = [0u32; 16384];
-    let mut nodes = [0u32; 384];
+    let mut text = [0u8; TEXT_BYTES + 1];
+    let mut catalogue = [0u32; CATALOGUE_WORDS];
+    let mut tables = [0u32; WORDS];
+    let mut nodes = [0u32; QUESTION_WORDS];
     let bytes = io::read_full(STDIN_FILENO, &mut text);
     match text::bundle::read(&text[..bytes], &mut catalogue, &mut tables, &mut nodes) {
         Reading::Bundle {

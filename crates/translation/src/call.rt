@@ -10,12 +10,12 @@ ghost use Rattle.translation.specs.TranslateCall.{translateNumbers, plan
 use catalogue::judging::Judged;
 use catalogue::judging::judge_catalogue;
 use emission::heavy::count_heavy;
-use emission::limits::PLAN_WORDS;
-use nodes::limits::NODE_WORDS;
 use planning::translate::translate_range;
 use question::judgement::Judgement;
 use question::judgement::judge;
 use question::judgement::judge_count;
+use relations::limits::PLAN_WORDS;
+use relations::limits::QUESTION_NODE_WORDS;
 
 pub enum Translated {
     Done { nodes: u32, heavy: u32 },
@@ -34,7 +34,7 @@ fn translate_accepted(
     requires { ⌜ (catalogueOk (now catalogue) ≡ true) × (planBufferWords ≤ length (now plan)) × (judgedByWalk (now catalogue) (now question) ≡ Accepted) ⌝ }
     ensures { λ r. ⌜ record { numbers = translateNumbers r; plan = now (plan .exit) } ≡ written (now (catalogue .entry)) (now (question .entry)) mode (now (plan .entry)) ⌝ }
 {
-    let last = (question.len() / NODE_WORDS) as u32;
+    let last = (question.len() / QUESTION_NODE_WORDS) as u32;
     let made = translate_range(catalogue, question, mode != 0, last, plan, 0);
     let heavy = count_heavy(plan, made.count);
     Translated::Done {

@@ -34,9 +34,6 @@ first-pair : (c : lts.After-wide2 (wide-reads.Asked, wide-reads.Learnt, pair-ok-
     → drop (c .before .before .before .before .before .loop .at) (c .before .before .before .before .before .before .before .before .args .catalogue .now) ≡ c .before .before .wide .result ∷ c .wide2 .result ∷ drop (c .before .before .before .before .before .loop .at + 2) (c .before .before .before .before .before .before .before .before .args .catalogue .now)
 first-pair c = drop-pair (c .before .before .before .before .before .before .before .before .args .catalogue .now) (c .before .before .before .before .before .loop .at) (c .before .before .wide .result) (c .wide2 .result) (omega arith) (c .before .before .wide .ensures) (c .wide2 .ensures)
 
-mul-if1 : tie.Need-mul-if1 Inv-loop μ-loop
-mul-if1 c = omega arith
-
 returns : tie.Need-returns Inv-loop μ-loop
 returns c = simp (lt-leb _ _ (c .if1 .taken))
 
@@ -127,7 +124,6 @@ judge-catalogue-spec =
     (tie.spec
     Inv-loop
     μ-loop
-    mul-if1
     returns
     loop-holds
     add-loop

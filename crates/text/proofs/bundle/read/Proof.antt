@@ -8,17 +8,11 @@ use borrow.Author.Needs.{needs}
 use Rattle.text.proofs.bundle.read.Statement.{statement}
 use Rattle.text.proofs.bundle.read.Tie as tie
 
-mul-if1 : tie.Need-mul-if1
-mul-if1 c = search needs
-
 returns : tie.Need-returns
 returns c = let a = c .before .before .before .before .before .args in sym (read-small (a .text .now) (a .catalogue .now) (a .tables .now) (a .question .now) (rw (lt-ltb _ _ (c .if1 .taken))))
 
 returns-2 : tie.Need-returns-2
 returns-2 c = let a = c .before .before .before .before .before .before .args in sym (read-small (a .text .now) (a .catalogue .now) (a .tables .now) (a .question .now) (rw (le-ltb _ _ (c .before .if1 .left), lt-ltb _ _ (c .if2 .taken))))
-
-mul-if3 : tie.Need-mul-if3
-mul-if3 c = search needs
 
 returns-3 : tie.Need-returns-3
 returns-3 c = let a = c .before .before .before .before .before .before .before .args in sym (read-small (a .text .now) (a .catalogue .now) (a .tables .now) (a .question .now) (rw (le-ltb _ _ (c .before .before .if1 .left), le-ltb _ _ (c .before .if2 .left), lt-ltb _ _ (c .if3 .taken))))
@@ -62,10 +56,8 @@ pub read-spec : {M : Type 1} → statement M
 read-spec =
     tie.close
     (tie.spec
-    mul-if1
     returns
     returns-2
-    mul-if3
     returns-3
     returns-4
     judge-requires

@@ -2,7 +2,7 @@
 -- Assumes nothing.
 use Rattle.text.proofs.ReadingSteps.{digits-step, digits-done, digit-bounds}
 use Rattle.text.specs.Reading.{moreDigits}
-use Rattle.text.specs.Limits.{greatestNumber}
+use Rattle.relations.specs.Limits.{greatestNumber}
 use borrow.Author.Tests.{eq-eqb, ne-eqb, le-leb, lt-leb}
 use lib.ListN.{length, drop, getD}
 use mathlib.Core.Path.{_≡_, refl, sym, _∙_}

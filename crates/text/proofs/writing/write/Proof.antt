@@ -7,8 +7,7 @@ use native.Mathlib.Omega.{arith}
 use borrow.Author.Needs.{needs}
 use borrow.Author.Tests.{not-true, not-false, eq-eqb, ne-eqb, le-leb, lt-leb}
 use lib.ListN.{length}
-use Rattle.relations.specs.Limits.{questionNodeWords, questionNodeLimit}
-use Rattle.text.specs.Limits.{byteLimit}
+use Rattle.relations.specs.Limits.{questionNodeWords, questionNodeLimit, byteLimit}
 use Rattle.catalogue.specs.Judging.{tablesOk}
 use Rattle.text.specs.Writing.{bundleText}
 use Rattle.text.specs.WriteCall.{nodesOk, writeOutcome}
