@@ -13,7 +13,7 @@ use borrow.Author.Tests.{leb-true}
 use denote.Enum.Declared.{tagOf}
 use types.Run.{OneOf, miss}
 use Rattle.relations.specs.Limits.{columnLimit, questionNodeLimit, questionNodeWords, variableCount, operatorCount}
-use Rattle.relations.specs.Comparison.{operatorNumber}
+use Rattle.relations.specs.Comparison.{operatorNumber, operatorNamed}
 use Rattle.relations.specs.Lists.{All}
 use Rattle.relations.proofs.ListLaws.{all-append}
 use Rattle.relations.proofs.StoreLaws.{sets-append}
@@ -33,7 +33,7 @@ use Rattle.nodes.proofs.node.Node.{the-type}
 use Rattle.nodes.proofs.Forms.{first-of, second-of, third-of}
 use Rattle.question.proofs.TreeLaws.{tree-of-reference}
 use Rattle.conditions.specs.Entries.{entries}
-use Rattle.conditions.specs.Atoms.{operatorNamed, OperandNarrow, AtomNarrow}
+use Rattle.conditions.specs.Atoms.{OperandNarrow, AtomNarrow}
 use Rattle.conditions.specs.Leaves.{emptyAtom, atomIn, leafOf, leafAt, atomsOf, LeavesFit, Collectable, Collected, LeavesOf, numbersBelow, leafNumbers, leavesFound, noLeaves, withLeaf, joinedBy, opposites}
 use Rattle.conditions.specs.declared.leaves.Leaves.{Leaves}
 use Rattle.conditions.specs.Readings.{Names, conditionAt}

@@ -9,12 +9,12 @@ ghost use Rattle.conditions.specs.Readings.{conditionAt};
 ghost use Rattle.conditions.specs.Leaves.{atomIn, leafAt, LeavesFit, Collectable, Collected, LeavesOf, leafNumbers, leavesFound, noLeaves, withLeaf, joinedBy, opposites};
 use crate::atom::opposite_atom;
 use nodes::node::Atom;
-use nodes::node::Attribute;
-use nodes::node::Constant;
 use nodes::node::Node;
 use nodes::node::Operand;
 use nodes::node::decode;
 use relations::limits::QUESTION_NODES;
+use terms::attribute::Attribute;
+use terms::constant::Constant;
 
 // The first `count` numbers are in use. `conjoined`: no node but "and" stands above them; `disjoined`: none but "or";
 // `opposite`: each stands for the opposite of its atom.

@@ -4,8 +4,8 @@ ghost use Prim.Native.Nat.{_+_, _≤_};
 ghost use Rattle.relations.specs.Limits.{columnLimit};
 ghost use Rattle.calculus.specs.Scope.{widthIn, columnNumber};
 ghost use Rattle.conditions.specs.Scopes.{noVariables, scopeOf, ScopeFits, Extended};
-use nodes::node::Attribute;
 use relations::limits::COLUMNS;
+use terms::attribute::Attribute;
 
 // The first `count` variables and widths are in use; `columns` is the sum of these widths.
 pub struct CarriedScope {

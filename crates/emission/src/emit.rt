@@ -9,11 +9,11 @@ ghost use Rattle.emission.specs.NodeLists.{attributesIn, triplesIn, pair
 ghost use Rattle.emission.specs.Selects.{NamesOperator, selecting};
 ghost use Rattle.emission.specs.Written.{Room, Written};
 use crate::node_list::NodeList;
-use nodes::node::Attribute;
-use nodes::node::Constant;
 use relations::limits::HEAD_WORDS;
 use relations::limits::LIST_WORDS;
 use relations::limits::PLAN_NODE_WORDS;
+use terms::attribute::Attribute;
+use terms::constant::Constant;
 
 fn push(
     plan: &mut [u32],

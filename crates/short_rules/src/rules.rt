@@ -27,7 +27,7 @@ use conditions::atom::opposite_atom;
 use conditions::atom::other_attribute;
 use conditions::atom::other_variable;
 use conditions::atom::own_attribute;
-use conditions::atom::turned;
+use conditions::atom::turned_number;
 use conditions::leaves::Leaves;
 use conditions::leaves::leaf;
 use conditions::leaves::opposites;
@@ -49,8 +49,8 @@ use emission::node_list::with_triple;
 use emission::node_list::with_triple_if;
 use emission::node_list::with_word_if;
 use nodes::node::Atom;
-use nodes::node::Attribute;
 use nodes::node::Operand;
+use terms::attribute::Attribute;
 
 // Atom: select. A select keeps the atom's sides.
 pub fn write_select(scope: CarriedScope, atom: Atom, p: u32, plan: &mut [u32], n: u32) -> u32
@@ -91,7 +91,7 @@ fn with_triple_of(list: NodeList, scope: CarriedScope, x: u32, atom: Atom) -> No
     let own = own_attribute(x, atom);
     let other = column_of(scope, other_variable(x, atom), other_attribute(x, atom));
     if atom.variable == x {
-        return with_triple(list, other, turned(atom.operator), own);
+        return with_triple(list, other, turned_number(atom.operator), own);
     }
     with_triple(list, other, atom.operator, own)
 }

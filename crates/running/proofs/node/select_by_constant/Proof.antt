@@ -1,10 +1,10 @@
 use mathlib.Core.Path.{ap, _∙_}
 use lib.ListN.{getD}
-use Rattle.relations.specs.Comparison.{Operator}
+use Rattle.relations.specs.Comparison.{Operator, operatorNamed}
 use Rattle.relations.specs.Columns as meaning
 use Rattle.relations.specs.Operations.{selectConstantCandidates}
 use Rattle.values.specs.Words.{rowsOf}
-use Rattle.operations.specs.Lists.{operatorIn, constantIn, operatorNamed}
+use Rattle.terms.specs.Terms.{operatorIn, constantIn}
 use Rattle.operations.proofs.FillSteps.{builds-by}
 use native.Mathlib.Omega.{arith}
 use borrow.Author.Needs.{needs}
