@@ -13,13 +13,12 @@ use terms::attribute::Attribute;
 use terms::operator::number_of;
 use terms::operator::operator_of;
 use terms::operator::opposite;
-use terms::operator::turned;
 
 // The number of the operator for the sides turned.
-pub fn turned_number(operator: u32) -> u32
+pub fn turned(operator: u32) -> u32
     ensures { λ r. ⌜ r ≡ operatorNumber (comparison.turned (operatorNamed operator)) ⌝ }
 {
-    number_of(turned(operator_of(operator)))
+    number_of(terms::operator::turned(operator_of(operator)))
 }
 
 pub fn opposite_atom(atom: Atom) -> Atom

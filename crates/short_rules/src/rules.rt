@@ -27,7 +27,7 @@ use conditions::atom::opposite_atom;
 use conditions::atom::other_attribute;
 use conditions::atom::other_variable;
 use conditions::atom::own_attribute;
-use conditions::atom::turned_number;
+use conditions::atom::turned;
 use conditions::leaves::Leaves;
 use conditions::leaves::leaf;
 use conditions::leaves::opposites;
@@ -91,7 +91,7 @@ fn with_triple_of(list: NodeList, scope: CarriedScope, x: u32, atom: Atom) -> No
     let own = own_attribute(x, atom);
     let other = column_of(scope, other_variable(x, atom), other_attribute(x, atom));
     if atom.variable == x {
-        return with_triple(list, other, turned_number(atom.operator), own);
+        return with_triple(list, other, turned(atom.operator), own);
     }
     with_triple(list, other, atom.operator, own)
 }

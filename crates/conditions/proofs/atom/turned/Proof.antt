@@ -1,8 +1,8 @@
 use mathlib.Core.Path.{ap, _∙_}
 use borrow.Author.Needs.{needs}
 use Rattle.relations.specs.Comparison.{operatorNumber, turned}
-use Rattle.conditions.proofs.atom.turned_number.Statement.{statement}
-use Rattle.conditions.proofs.atom.turned_number.Tie as tie
+use Rattle.conditions.proofs.atom.turned.Statement.{statement}
+use Rattle.conditions.proofs.atom.turned.Tie as tie
 
 operator-of-requires : tie.Need-operator-of-requires
 operator-of-requires c κs = search needs
@@ -16,6 +16,6 @@ number-of-requires c κs = search needs
 returns : tie.Need-returns
 returns c = c .number-of .ensures ∙ ap operatorNumber (c .before .turned .ensures ∙ ap turned (c .before .before .operator-of .ensures))
 
-pub turned-number-spec : {M : Type 1} → statement M
-turned-number-spec =
+pub turned-spec : {M : Type 1} → statement M
+turned-spec =
     tie.close (tie.spec operator-of-requires turned-requires number-of-requires returns)
