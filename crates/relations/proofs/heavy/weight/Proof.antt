@@ -1,5 +1,5 @@
-use Rattle.emission.proofs.heavy.weight.Statement.{statement}
-use Rattle.emission.proofs.heavy.weight.Tie as tie
+use Rattle.relations.proofs.heavy.weight.Statement.{statement}
+use Rattle.relations.proofs.heavy.weight.Tie as tie
 
 returns : tie.Need-returns
 returns c = simp (c .if1 .taken)
