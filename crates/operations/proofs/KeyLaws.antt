@@ -12,12 +12,12 @@ use Rattle.relations.specs.Lists.{any}
 use Rattle.relations.specs.Rows.{Row}
 use Rattle.relations.specs.Values.{Rows, canonical}
 use Rattle.relations.specs.Operations.{projectCandidates}
-use Rattle.relations.specs.Comparison.{holds}
+use Rattle.relations.specs.Comparison.{holds, operatorNamed}
 use Rattle.relations.specs.Columns.{Triple, attribute, column, wordAt, pick, meets}
 use Rattle.relations.proofs.BoolLaws.{and-left, and-right}
 use Rattle.relations.proofs.ListLaws.{any-map, any-same, filter-same}
 use Rattle.relations.proofs.ValueLaws.{any-canonical}
-use Rattle.operations.specs.Lists.{operatorNamed, triplesIn}
+use Rattle.operations.specs.Lists.{triplesIn}
 use Rattle.operations.specs.Keys.{renumbers, wantedRow, wantedRows}
 use Rattle.operations.proofs.ListLaws.{first-word, next-word, and-false}
 

@@ -11,11 +11,12 @@ use lib.Seq.{drop-drop, getD-drop}
 use lib.Dec.{eqb}
 use borrow.Author.Tests.{eqb-true, eq-eqb}
 use Rattle.relations.specs.Rows.{Row}
-use Rattle.relations.specs.Comparison.{Operator, equal, notEqual, less, atMost, greater, atLeast, holds, operatorOf}
+use Rattle.terms.proofs.NumberLaws.{operator-named}
+use Rattle.relations.specs.Comparison.{Operator, equal, notEqual, less, atMost, greater, atLeast, holds, operatorOf, operatorNamed}
 use Rattle.relations.specs.Columns.{Triple, wordAt, column, attribute, meets}
 use Rattle.relations.specs.PlanWords.{readTriples, tripleBefore}
 use Rattle.relations.proofs.BoolLaws.{true-and-false, not-so, and-left, and-right, and-both}
-use Rattle.operations.specs.Lists.{operatorNamed, firstTriple, firstPair, triplesIn}
+use Rattle.operations.specs.Lists.{firstTriple, firstPair, triplesIn}
 
 -- a column is the word one before its number, and 0 outside the row
 pub word-inside : (row : Row) (number : ℕ) → 0 < number → wordAt row number ≡ getD row (number - 1) 0
@@ -39,21 +40,6 @@ pub meets-step : (list : List ℕ) (at more : ℕ) (left right : Row) → 0 < mo
     ≡ (holds (firstTriple (drop at list) .operator) (column left (firstTriple (drop at list) .left)) (column right (firstTriple (drop at list) .right)) && meets (triplesIn (more - 1) (drop (at + 3) list)) left right)
 meets-step list at zero left right h = absurd (omega arith)
 meets-step list at (suc more) left right h = let e : suc more - 1 ≡ more = omega arith in rw (e, drop-drop 3 at list)
-
--- where a number is an operator's, it is the operator of that number
-pub operator-named : (number : ℕ) (o : Operator) → operatorOf number ≡ some o → operatorNamed number ≡ o
-operator-named number o h = go (eqb number 1) (eqb number 2) (eqb number 3) (eqb number 4) (eqb number 5) (eqb number 6) h
-  where
-    go : (a b c d e f : Bool)
-        → cond a (some equal) (cond b (some notEqual) (cond c (some less) (cond d (some atMost) (cond e (some greater) (cond f (some atLeast) none))))) ≡ some o
-        → cond a equal (cond b notEqual (cond c less (cond d atMost (cond e greater atLeast)))) ≡ o
-    go true b c d e f k = cc
-    go false true c d e f k = cc
-    go false false true d e f k = cc
-    go false false false true e f k = cc
-    go false false false false true f k = cc
-    go false false false false false true k = cc
-    go false false false false false false k = let z : _≡_ {A = ℕ} 0 1 = cc in absurd (omega arith)
 
 -- the triples that relations reads from a legal plan's words are those that the code reads
 pub triples-read : (count : ℕ) (list : List ℕ) (triples : List Triple) → readTriples count list ≡ some triples → triplesIn count list ≡ triples

@@ -9,7 +9,8 @@ use Rattle.relations.specs.Comparison.{holds}
 use Rattle.relations.specs.Columns.{column}
 use Rattle.values.specs.Words.{rowsOf, end}
 use Rattle.operations.specs.Keys.{wantedRow}
-use Rattle.operations.specs.Lists.{attributeIn, operatorIn, triplesIn}
+use Rattle.operations.specs.Lists.{triplesIn}
+use Rattle.terms.specs.Terms.{attributeIn, operatorIn}
 use Rattle.operations.specs.declared.keep.Test.{Test}
 use Rattle.operations.specs.declared.keep.Test.the-variants.{Constant, Attribute, Meets, In, NotIn}
 

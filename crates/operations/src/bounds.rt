@@ -5,8 +5,8 @@ ghost use lib.ListN.{length, getD};
 ghost use Rattle.relations.specs.Columns.{column, attribute};
 ghost use Rattle.operations.specs.Lists.{triplesIn};
 ghost use Rattle.operations.specs.Bounds.{Leads, Least, Most};
-use crate::columns::Attribute;
 use crate::columns::column_of;
+use terms::attribute::Attribute;
 
 // The most words of a bound.
 pub const LEADING: usize = 8;
