@@ -5,15 +5,16 @@ use mathlib.Core.Path.{_≡_, refl}
 use native.Mathlib.Omega.{arith}
 use borrow.Author.Needs.{needs}
 use lib.ListN.{length, length-take}
-use Rattle.text.proofs.Rooms.{BundleNumbers, bundle-numbers}
-use Rattle.text.proofs.LineNumbers.{wrong-line-within}
+use Rattle.bundles.proofs.Rooms.{BundleNumbers}
+use Rattle.bundle_reading.proofs.Rooms.{bundle-numbers}
+use Rattle.bundle_reading.proofs.Rooms.{wrong-line-within}
 use Rattle.desk_main.proofs.print_outcome.Statement.{statement}
 use Rattle.desk_main.proofs.print_outcome.Tie as tie
 use Rattle.desk_main.proofs.print_outcome.Reads as reads
 use Rattle.desk_main.proofs.print_outcome.Lts as lts
 use Rattle.desk_main.proofs.print_answer.Reads as print-answer-reads
 use Rattle.desk_main.proofs.print_refusal.Reads as print-refusal-reads
-use Rattle.text.proofs.bundle.read.Reads as read-reads
+use Rattle.bundle_reading.proofs.read.Reads as read-reads
 
 -- a bundle that was read: the parts that its numbers name are in the buffers
 abbrev Bundle : Type 0

@@ -1,6 +1,6 @@
 -- `text_main::main` meets its contract. What `read` hands back is within its limits (`bundle-numbers`), so the parts that it names can be lent.
 -- Assumes nothing.
-use Rattle.text.proofs.Rooms.{bundle-numbers}
+use Rattle.bundle_reading.proofs.Rooms.{bundle-numbers}
 use lib.ListN.{length-take}
 use mathlib.Core.Path.{refl}
 use Prim.Native.Nat.{_*_}
