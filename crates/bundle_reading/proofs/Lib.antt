@@ -1,6 +1,6 @@
 -- What the code's loops carry
 pub mod ReadingSteps
-pub mod OneLine
+pub mod BehindLines
 pub mod CarriesTables
 pub mod BundleLaws
 -- What a caller learns

@@ -1,27 +1,31 @@
--- What a caller learns of the numbers that an accepted call hands back: they are within the limits, so that the parts they name can be lent.
--- Assumes nothing.
+-- What a caller learns of the numbers that `read` hands back: the parts of the buffers that a bundle's name are there, so that they can be lent, and a wrong
+-- line is a small number. Assumes nothing.
 use Prim.Native.Nat.{ℕ, _≤_}
-use mathlib.Core.Path.{_≡_, sym, ap, _∙_}
+use mathlib.Core.Path.{_≡_, sym, ap, subst, _∙_}
 use mathlib.Core.List.{List}
 use native.Mathlib.Omega.{arith}
 use Rattle.bundles.specs.ReadCall.{ReadNumbers, ReadOutcome, readOutcome}
 use Rattle.bundle_reading.specs.ReadAnswer.{readNumbers}
 use Rattle.bundle_reading.specs.declared.Reading.{Reading}
 use Rattle.bundle_reading.specs.declared.Reading.the-variants.{Bundle, WrongLine}
-use Rattle.bundles.proofs.Rooms.{BundleNumbers, accepted-numbers}
+use Rattle.bundles.proofs.Rooms.{PartsThere, PartsOf, accepted-parts}
 use Rattle.bundles.proofs.LineNumbers.{lineLimit, place-within}
 
 -- `read` answered with a bundle
-pub bundle-numbers : (text catalogue tables question : List ℕ) {after : ReadOutcome} {answer : Reading} {mode pairs words nodes : ℕ}
-    → after ≡ readOutcome text catalogue tables question → after .numbers ≡ readNumbers answer → answer ≡ Bundle mode pairs words nodes → BundleNumbers pairs words nodes
-bundle-numbers text catalogue tables question {after} {answer} {mode} {pairs} {words} {nodes} e f g =
-    let numbers : readOutcome text catalogue tables question .numbers ≡ readNumbers (Bundle mode pairs words nodes) =
-    ap (λ (o : ReadOutcome). o .numbers) (sym e) ∙ f ∙ ap readNumbers g
+pub bundle-parts : (text catalogue tables question : List ℕ) {after : ReadOutcome} {answer : Reading} {mode pairs words nodes : ℕ}
+    → after ≡ readOutcome text catalogue tables question → after .numbers ≡ readNumbers answer → answer ≡ Bundle mode pairs words nodes
+    → PartsThere pairs words nodes (after .catalogue) (after .tables) (after .question)
+bundle-parts text catalogue tables question {after} {answer} {mode} {pairs} {words} {nodes} e f g =
+    let numbers : after .numbers ≡ readNumbers (Bundle mode pairs words nodes) = f ∙ ap readNumbers g in
+    let accepted : readOutcome text catalogue tables question .numbers .status ≡ 0 =
+    ap (λ (o : ReadOutcome). o .numbers .status) (sym e) ∙ ap (λ (n : ReadNumbers). n .status) numbers
     in
-    let p : readOutcome text catalogue tables question .numbers .pairs ≡ pairs = ap (λ (n : ReadNumbers). n .pairs) numbers in
-    let w : readOutcome text catalogue tables question .numbers .words ≡ words = ap (λ (n : ReadNumbers). n .words) numbers in
-    let n : readOutcome text catalogue tables question .numbers .nodes ≡ nodes = ap (λ (n : ReadNumbers). n .nodes) numbers in
-    rw (p, w, n) at (accepted-numbers text catalogue tables question (ap (λ (n : ReadNumbers). n .status) numbers))
+    let parts : PartsOf after = subst PartsOf (sym e) (accepted-parts text catalogue tables question accepted) in
+    rw (
+      ap (λ (n : ReadNumbers). n .pairs) numbers,
+      ap (λ (n : ReadNumbers). n .words) numbers,
+      ap (λ (n : ReadNumbers). n .nodes) numbers,
+    ) at parts
 
 -- `read` answered with a wrong line
 pub wrong-line-within : (text catalogue tables question : List ℕ) {after : ReadOutcome} {answer : Reading} {line : ℕ}

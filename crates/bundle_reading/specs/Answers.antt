@@ -1,60 +1,21 @@
 -- What the answers of the code's inner steps say of a text, as those of `lines` do. Each leaves one outcome (proofs/Once.antt). Assumes nothing.
-use Prim.Native.Nat.{ℕ, _+_, _*_, _/_, _≤_, _<_}
+use Prim.Native.Nat.{ℕ, _+_, _*_, _/_, _≤_}
 use mathlib.Core.Path.{_≡_}
-use mathlib.Core.List.{List, [], _∷_}
-use mathlib.Core.Bool.{cond}
-use lib.Dec.{ltb}
-use lib.ListN.{length, drop}
+use mathlib.Core.List.{List}
+use lib.ListN.{length}
 use lib.Seq.{sets}
-use Rattle.relations.specs.Limits.{wordLimit, questionNodeLimit, questionNodeWords}
+use Rattle.relations.specs.Limits.{wordLimit, questionNodeWords}
 use Rattle.catalogue.specs.Judging.{catalogueWords}
-use Rattle.lines.specs.Marks.{plainLine, shortLine, relationKey, rowKey, nodeKey}
-use Rattle.lines.specs.Put.{furthest}
-use Rattle.lines.specs.Reading.{Next, goesOn, wrongAt, Read, nothing, begins, keyedLine}
-use Rattle.bundles.specs.Reading.{relation, noRelation, relationOf, ReadTables}
-use Rattle.bundle_reading.specs.declared.reader.Line.{Line}
-use Rattle.bundle_reading.specs.declared.reader.Line.the-variants.{Mode, Relation, Row, Node}
+use Rattle.lines.specs.Reading.{Next, goesOn, wrongAt, Read}
+use Rattle.bundles.specs.Reading.{ReadTables}
 use Rattle.bundle_reading.specs.declared.TablesRead.{TablesRead}
 use Rattle.bundle_reading.specs.declared.NodesRead.{NodesRead}
 use Rattle.bundle_reading.specs.declared.Lines.{Lines}
 use Rattle.bundle_reading.specs.declared.Lines.the-variants.{Read as AllRead, Wrong as WrongLine}
-use Rattle.lines.specs.Answers.{Placed, standing, PlacedStep, LinesRead}
+use Rattle.lines.specs.Answers.{standing, PlacedStep, LinesRead}
 use Rattle.bundles.specs.Reading as reads
 
--- The line that must come next: the words on it, what was kept to so far, and what it reads as.
-abbrev pub wordsOn : Line → ℕ
-wordsOn Mode = 1
-wordsOn (Relation total) = 2
-wordsOn (Row columns) = columns
-wordsOn (Node before) = questionNodeWords
-
-abbrev pub Lawful : Line → Type 0
-Lawful Mode = Unit {0}
-Lawful (Relation total) = total ≤ wordLimit
-Lawful (Row columns) = 0 < columns
-Lawful (Node before) = Unit {0}
-
-abbrev pub modeRead : (mode line : ℕ) → List ℕ → Read
-modeRead mode line bytes = record { words = mode ∷ []; next = goesOn (line + 1) bytes }
-
-abbrev pub pairRead : (line : ℕ) → reads.Relation → Read
-pairRead line (relation columns rows bytes) = record { words = columns ∷ rows ∷ []; next = goesOn (line + 1) bytes }
-pairRead line noRelation = nothing (wrongAt line)
-
-abbrev pub oneLine : Line → (line : ℕ) → List ℕ → Read
-oneLine Mode line bytes =
-    cond (begins plainLine bytes) (modeRead 0 line (drop (length plainLine) bytes))
-    (cond (begins shortLine bytes) (modeRead 1 line (drop (length shortLine) bytes)) (nothing (wrongAt line)))
-oneLine (Relation total) line bytes =
-    cond (begins relationKey bytes) (pairRead line (relationOf total (drop (length relationKey) bytes))) (nothing (wrongAt line))
-oneLine (Row columns) line bytes = keyedLine rowKey columns line bytes
-oneLine (Node before) line bytes = cond (ltb before questionNodeLimit) (keyedLine nodeKey questionNodeWords line bytes) (nothing (wrongAt line))
-
 module _ (text : List ℕ) where
-  -- where a line is read: the text goes on there, its words have a place, and the limits were kept so far
-  abbrev pub LineAsked : (at line : ℕ) → Line → (to : ℕ) → Type 0
-  LineAsked at line kind to = Lawful kind × (to + wordsOn kind ≤ furthest) × Placed text (record { at = at; line = line })
-
   -- tables: what was read stands behind `pairs` pairs and `total` words
   pub record TablesFound (found : ReadTables) (pairs total : ℕ) (catalogue₀ catalogue₁ tables₀ tables₁ : List ℕ) (answer : TablesRead) : Type 0 where
     pub means : found .next ≡ standing text (answer .step)

@@ -12,8 +12,8 @@ ghost use Rattle.lines.specs.Answers.{Placed, LinesRead};
 ghost use Rattle.bundle_reading.specs.Answers.{TablesFound, NodesFound, linesAnswer, BundleFound};
 ghost use Rattle.bundle_reading.specs.ReadAnswer.{readNumbers};
 ghost use Rattle.bundles.specs.ReadCall.{readOutcome};
-use crate::reader::Line;
-use crate::reader::next_line;
+use bundle_lines::Line;
+use bundle_lines::next_line;
 use catalogue::judging::wide;
 use lines::reading::Cursor;
 use lines::reading::Step;
@@ -25,8 +25,6 @@ use relations::limits::QUESTION_NODE_WORDS;
 use relations::limits::QUESTION_WORDS;
 use relations::limits::TEXT_BYTES;
 use relations::limits::WORDS;
-
-pub mod reader;
 
 // How much was read, and where that ends.
 pub struct TablesRead {

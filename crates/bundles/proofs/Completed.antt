@@ -16,18 +16,15 @@ use Rattle.catalogue.proofs.Judgements.{good-pair}
 use Rattle.lines.specs.Marks.{lineFeed, separator, relationKey, rowKey, nodeKey}
 use Rattle.lines.specs.Writing.{decimal, numbersText, lineText, linesText}
 use Rattle.bundles.specs.Writing.{tablesText}
-use Rattle.lines.specs.Reading.{Number, value, noNumber, numberThen, Next, goesOn, wrongAt, Read, nothing, wordsThen, orWrong, numbers, begins, keyedLine, keyedLines}
+use Rattle.lines.specs.Reading.{Next, goesOn, wrongAt, Read, wordsThen, begins, keyedLine, keyedLines}
 use Rattle.bundles.specs.Reading.{Relation, relation, noRelation, relationOf, ReadTables, noTables, tableBehind, tableOf, tablesThen, andTables, tablesOf, unlessEnded, nodesOf}
 use Rattle.lines.specs.Words32.{Words32}
 use Rattle.bundles.specs.FirstWrong.{firstLines, endedLines}
 use Rattle.lines.proofs.Words32.{words32-append}
-use Rattle.lines.proofs.ReadingLaws.{LinesAsText, keyedLine-text, linesText-cons, begins-text}
+use Rattle.lines.proofs.ReadingLaws.{no-next, line-cut, LinesAsText, keyedLine-text, linesText-cons, begins-text}
 use Rattle.bundles.proofs.ReadingLaws.{RelationAsText, relationOf-text, TableAsText, tableOf-text, tablesText-cons}
 use Rattle.bundles.proofs.WritingLaws.{tablesAt, tableOf-of-text}
 use Rattle.bundles.proofs.SameLines.{Same, same-none, left}
-
-no-wrong {ℓ} : {C : Type ℓ} {line after : ℕ} {rest : List ℕ} → goesOn after rest ≡ wrongAt line → C
-no-wrong e = let z : _≡_ {A = ℕ} 0 1 = cc in absurd (omega arith)
 
 pub same-line : {a b : ℕ} → wrongAt a ≡ wrongAt b → a ≡ b
 same-line e = cc
@@ -104,23 +101,6 @@ zeros-32 zero = tt
 zeros-32 (suc count) = (omega arith, zeros-32 count)
 
 -- Lines.
-numbers-own : (count line : ℕ) (bytes : List ℕ) (place : ℕ) → numbers count line bytes .next ≡ wrongAt place → place ≡ line
-unfolding numbers
-numbers-own zero line bytes place e = no-wrong e
-numbers-own (suc more) line bytes place e = go (numberThen (separator more) bytes) e (λ rest f. numbers-own more line rest place f)
-  where
-    go : (found : Number) → orWrong line found (λ n rest. numbers more line rest) .next ≡ wrongAt place → ((rest : List ℕ) → numbers more line rest .next ≡ wrongAt place → place ≡ line) → place ≡ line
-    go (value n rest) e k = k rest e
-    go noNumber e k = sym (same-line e)
-
-keyedLine-own : (key : List ℕ) (count line : ℕ) (bytes : List ℕ) (place : ℕ) → keyedLine key count line bytes .next ≡ wrongAt place → place ≡ line
-unfolding keyedLine
-keyedLine-own key count line bytes place e = go (begins key bytes) e
-  where
-    go : (b : Bool) → cond b (numbers count line (drop (length key) bytes)) (nothing (wrongAt line)) .next ≡ wrongAt place → place ≡ line
-    go true e = numbers-own count line (drop (length key) bytes) place e
-    go false e = sym (same-line e)
-
 pub record LinesCompleted (key : List ℕ) (width count line : ℕ) (bytes : List ℕ) (place : ℕ) : Type 0 where
   pub words : List ℕ
   pub many : length words ≡ count * width
@@ -133,7 +113,7 @@ at-once place line xs ys e = let z : place - line ≡ 0 = omega arith in rw z (s
 
 keyedLines-completed : (key : List ℕ) (more count line : ℕ) (bytes : List ℕ) (place : ℕ) → keyedLines key (suc more) count line bytes .next ≡ wrongAt place → LinesCompleted key (suc more) count line bytes place
 unfolding keyedLines
-keyedLines-completed key more zero line bytes place e = no-wrong e
+keyedLines-completed key more zero line bytes place e = no-next (sym e)
 keyedLines-completed key more (suc count) line bytes place e =
     go (keyedLine key (suc more) line bytes .next) refl e (λ after rest f. keyedLines-completed key more count after rest place f)
   where
@@ -153,7 +133,7 @@ keyedLines-completed key more (suc count) line bytes place e =
           words = replicate (suc count * width) 0;
           many = length-replicate {A = ℕ} (suc count * width) 0;
           words32 = zeros-32 (suc count * width);
-          same = λ tail. at-once place line bytes (linesText key width (suc count) (replicate (suc count * width) 0) ++ tail) (sym (same-line e) ∙ keyedLine-own key width line bytes after is);
+          same = λ tail. at-once place line bytes (linesText key width (suc count) (replicate (suc count * width) 0) ++ tail) (sym (same-line e) ∙ line-cut key width line bytes (omega arith) is .0);
         }
     go (goesOn after rest) is e k =
         let first : LinesAsText (λ words. lineText key words) width 1 line bytes (keyedLine key width line bytes) after rest = keyedLine-text key width line bytes after rest is in
@@ -278,7 +258,7 @@ pair-words total catalogue columns rows e = rw e (omega arith)
 
 pub tablesOf-completed : (count total line : ℕ) (bytes : List ℕ) (place : ℕ) → tablesOf count total line bytes .next ≡ wrongAt place → TablesCompleted count total line bytes place
 unfolding tablesOf
-tablesOf-completed zero total line bytes place e = no-wrong e
+tablesOf-completed zero total line bytes place e = no-next (sym e)
 tablesOf-completed (suc more) total line bytes place e =
     keyed (begins relationKey bytes) refl e (λ words after rest f. tablesOf-completed more words after rest place f)
   where
@@ -304,7 +284,7 @@ tablesOf-completed (suc more) total line bytes place e =
 
     keyed : (key : Bool) → begins relationKey bytes ≡ key → cond key (andTables first then) (noTables (goesOn line bytes)) .next ≡ wrongAt place → Others → TablesCompleted (suc more) total line bytes place
     keyed true is e k = go is (first .next) refl e k
-    keyed false is e k = no-wrong e
+    keyed false is e k = no-next (sym e)
 
 -- tables that were read: where they end
 pub tables-feeds : (count total line : ℕ) (bytes : List ℕ) (after : ℕ) (rest : List ℕ) → tablesOf count total line bytes .next ≡ goesOn after rest
@@ -339,7 +319,7 @@ tables-feeds (suc more) total line bytes after rest e =
           table-feeds total line bytes line′ bytes′ t is,
           k (total + catalogueWords (first .catalogue)) line′ bytes′ e,
         )
-    go key (wrongAt line′) is e k = no-wrong (sym e)
+    go key (wrongAt line′) is e k = no-next e
 
     keyed : (key : Bool) → begins relationKey bytes ≡ key → cond key (andTables first then) (noTables (goesOn line bytes)) .next ≡ goesOn after rest → Others
         → after ≤ line + endedLines (tablesText (cond key (andTables first then) (noTables (goesOn line bytes)) .catalogue) (cond key (andTables first then) (noTables (goesOn line bytes)) .tables))
@@ -379,9 +359,9 @@ nodesOf-completed (suc more) line bytes place e =
           some = λ h. omega arith;
           many = length-replicate {A = ℕ} questionNodeWords 0;
           words32 = zeros-32 questionNodeWords;
-          same = at-once place line bytes (linesText nodeKey questionNodeWords 1 (replicate questionNodeWords 0)) (sym (same-line e) ∙ keyedLine-own nodeKey questionNodeWords line bytes after is);
+          same = at-once place line bytes (linesText nodeKey questionNodeWords 1 (replicate questionNodeWords 0)) (sym (same-line e) ∙ line-cut nodeKey questionNodeWords line bytes (omega arith) is .0);
         }
-    go (goesOn after []) is e k = no-wrong e
+    go (goesOn after []) is e k = no-next (sym e)
     go (goesOn after (byte ∷ rest)) is e k =
         let first : LinesAsText (λ words. lineText nodeKey words) questionNodeWords 1 line bytes (keyedLine nodeKey questionNodeWords line bytes) after (byte ∷ rest) = keyedLine-text nodeKey questionNodeWords line bytes after (byte ∷ rest) is in
         let others : NodesCompleted more after (byte ∷ rest) place = k after (byte ∷ rest) e in

@@ -19,7 +19,7 @@ use Rattle.lines.specs.Words32.{Words32}
 use Rattle.bundles.specs.RoundTrip.{BundleAsText, bundleOf, wrote, foundBundle, writeBack, readBack, RoundTrip, OneOutcome}
 use Rattle.relations.proofs.BoolLaws.{and-both, and-left, and-right, or-left-false, or-right-false}
 use Rattle.catalogue.proofs.Judgements.{pairs-even, GoodTables, good-tables}
-use Rattle.bundles.proofs.Judgements.{GoodNodes, good-nodes}
+use Rattle.bundles.proofs.Judgements.{GoodNodes, good-nodes, LargeBuffers, large-buffers}
 use Rattle.bundles.proofs.ReadingLaws.{reading-text}
 use Rattle.bundles.proofs.WritingLaws.{reading-of-text}
 
@@ -87,20 +87,12 @@ written-back text bundle rest catalogue tables question buffer line is large roo
     let ns : List ℕ = bundle .nodes in
     let good : GoodTables cs ts = good-tables cs ts (is .tables-ok) in
     let nodes : GoodNodes ns = good-nodes ns (is .nodes-ok) in
-    let noPairs : Bool = ltb (length catalogue) (2 * cataloguePairLimit) in
-    let noWords : Bool = ltb (length tables) wordLimit in
-    let noNodes : Bool = ltb (length question) (questionNodeWords * questionNodeLimit) in
-    let first : (noPairs || noWords) ≡ false = or-left-false (noPairs || noWords) noNodes large in
-    let pairs-room : 2 * cataloguePairLimit ≤ length catalogue = ltb-false (length catalogue) (2 * cataloguePairLimit) (or-left-false noPairs noWords first) in
-    let words-room : wordLimit ≤ length tables = ltb-false (length tables) wordLimit (or-right-false noPairs noWords first) in
-    let nodes-room : questionNodeWords * questionNodeLimit ≤ length question =
-    ltb-false (length question) (questionNodeWords * questionNodeLimit) (or-right-false (noPairs || noWords) noNodes large)
-    in
+    let rooms : LargeBuffers catalogue tables question = large-buffers catalogue tables question large in
     let same : bundleText (bundle .mode) cs ts ns ≡ text = is .text-is in
     rw (
-      take-sets catalogue cs (2 * (length cs / 2)) (sym (pairs-even cs (good .pairs))) (omega arith),
-      take-sets tables ts (length ts) refl (omega arith),
-      take-sets question ns (questionNodeWords * (length ns / questionNodeWords)) (omega arith) (omega arith),
+      take-sets catalogue cs (2 * (length cs / 2)) (sym (pairs-even cs (good .pairs))) (omega (arith, rooms .pairs-room)),
+      take-sets tables ts (length ts) refl (omega (arith, rooms .words-room)),
+      take-sets question ns (questionNodeWords * (length ns / questionNodeWords)) (omega arith) (omega (arith, rooms .nodes-room)),
     )
     (write-accepts (bundle .mode) cs ts ns buffer (is .tables-ok) (is .nodes-ok) (rw same (is .short-text)) (rw same room)
     ∙ ap (λ (bytes : List ℕ). wrote bytes buffer) same)

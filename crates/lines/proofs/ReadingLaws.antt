@@ -56,10 +56,6 @@ numbers-text (suc more) line bytes after rest e =
         }
     go noNumber is e ih = no-next e
 
-pub numbers-length : (count line : ℕ) (bytes : List ℕ) (after : ℕ) (rest : List ℕ) → numbers count line bytes .next ≡ goesOn after rest
-    → length (numbers count line bytes .words) ≡ count
-numbers-length count line bytes after rest e = numbers-text count line bytes after rest e .many
-
 pub begins-text : (key bytes : List ℕ) → begins key bytes ≡ true → bytes ≡ key ++ drop (length key) bytes
 unfolding begins
 begins-text [] bytes e = refl
@@ -143,10 +139,6 @@ keyedLines-text key width (suc more) line bytes after rest e =
           lines-read = omega (arith, first .lines-read, others .lines-read);
         }
     go (wrongAt line′) is e ih = no-next e
-
-pub keyedLines-length : (key : List ℕ) (width count line : ℕ) (bytes : List ℕ) (after : ℕ) (rest : List ℕ)
-    → keyedLines key width count line bytes .next ≡ goesOn after rest → length (keyedLines key width count line bytes .words) ≡ count * width
-keyedLines-length key width count line bytes after rest e = keyedLines-text key width count line bytes after rest e .many
 
 -- the words behind those that some lines take make no difference
 pub linesText-front : (key : List ℕ) (width count : ℕ) (first others : List ℕ) → length first ≡ count * width

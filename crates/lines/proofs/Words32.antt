@@ -1,8 +1,7 @@
--- Words of 32 bits: lists of them joined and cut; and a slice of a u32 is one, from what is known of each of its elements. Assumes nothing.
-use Prim.Native.Nat.{ℕ, zero, suc, _≤_}
+-- Words of 32 bits: lists of them joined and cut. Assumes nothing.
+use Prim.Native.Nat.{ℕ, zero, suc}
 use mathlib.Core.List.{List, [], _∷_, _++_}
-use lib.ListN.{getD, take, drop}
-use Rattle.relations.specs.Limits.{greatestNumber}
+use lib.ListN.{take, drop}
 use Rattle.lines.specs.Words32.{Words32}
 
 pub words32-append : (xs ys : List ℕ) → Words32 xs → Words32 ys → Words32 (xs ++ ys)
@@ -18,7 +17,3 @@ pub words32-drop : (n : ℕ) (words : List ℕ) → Words32 words → Words32 (d
 words32-drop zero words h = h
 words32-drop (suc n) [] h = tt
 words32-drop (suc n) (word ∷ words) h = words32-drop n words (h .1)
-
-pub words32-of-each : (words : List ℕ) → ((i : ℕ) → getD words i 0 ≤ greatestNumber) → Words32 words
-words32-of-each [] h = tt
-words32-of-each (word ∷ words) h = (h 0, words32-of-each words (λ i. h (suc i)))

@@ -2,7 +2,7 @@
 -- Assumes nothing.
 use mathlib.Core.Path.{refl}
 use Rattle.lines.proofs.Carries.{placed-at}
-use Rattle.bundle_reading.proofs.OneLine.{behind-mode, no-mode}
+use Rattle.bundle_reading.proofs.BehindLines.{behind-mode, no-mode}
 use borrow.Author.Needs.{needs}
 use Rattle.bundle_reading.proofs.read_all.Statement.{statement}
 use Rattle.bundle_reading.proofs.read_all.Tie as tie

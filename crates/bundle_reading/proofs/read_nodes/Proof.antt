@@ -2,10 +2,11 @@
 -- Assumes nothing.
 use Rattle.lines.proofs.Carries.{Carries, carries-start, carries-by, carries-lines, carries-off, carries-done, placed-at}
 use Rattle.bundle_reading.proofs.ReadingSteps.{text-ended, text-goes-on}
-use Rattle.bundle_reading.proofs.OneLine.{node-read, node-step, node-cut}
+use Rattle.bundle_lines.proofs.OneLine.{node-read}
+use Rattle.bundle_reading.proofs.BehindLines.{node-step, node-cut}
 use Rattle.lines.specs.Answers.{standing}
-use Rattle.bundle_reading.specs.Answers.{oneLine}
-use Rattle.bundle_reading.specs.declared.reader.Line.the-variants.{Node}
+use Rattle.bundle_lines.specs.OneLine.{oneLine}
+use Rattle.bundle_lines.specs.declared.Line.the-variants.{Node}
 use Rattle.lines.specs.Reading.{Read}
 use Rattle.bundles.specs.Reading.{unlessEnded, nodesOf}
 use Rattle.relations.specs.Limits.{questionNodeLimit, questionNodeWords}

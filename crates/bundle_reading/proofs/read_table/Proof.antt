@@ -11,7 +11,7 @@ use Rattle.catalogue.proofs.Judgements.{good-pair}
 use Rattle.lines.specs.Reading.{wrongAt}
 use Rattle.bundles.specs.Reading.{relation, tableOf, tableBehind}
 use Rattle.lines.proofs.Carries.{placed-at}
-use Rattle.bundle_reading.proofs.OneLine.{table-begun, no-table}
+use Rattle.bundle_reading.proofs.BehindLines.{table-begun, no-table}
 use native.Mathlib.Omega.{arith}
 use borrow.Author.Needs.{needs}
 use Rattle.bundle_reading.proofs.read_table.Statement.{statement}

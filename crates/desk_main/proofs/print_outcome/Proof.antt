@@ -1,7 +1,7 @@
 -- `desk_main::print_outcome` meets its contract. What `read` hands back is within its limits (`bundle-numbers`), so the parts that it names can be lent; and a wrong
 -- line is a small number (`wrong-line-within`), which a word holds. Assumes nothing.
 use Prim.Native.Nat.{_*_, _≤_}
-use mathlib.Core.Path.{_≡_, refl}
+use mathlib.Core.Path.{refl}
 use native.Mathlib.Omega.{arith}
 use borrow.Author.Needs.{needs}
 use lib.ListN.{length, length-take}

@@ -1,4 +1,4 @@
--- `bundle_reading::reader::read_line` meets its contract: a walk of its MIR, by hand. The reader is taken apart, and `line_at` is called on the slice, the two numbers, the kind of line, the buffer and its place. All that the proof knows of `line_at` is that it meets its contract.
+-- `bundle_lines::read_line` meets its contract: a walk of its MIR, by hand. The reader is taken apart, and `line_at` is called on the slice, the two numbers, the kind of line, the buffer and its place. All that the proof knows of `line_at` is that it meets its contract.
 -- The reader and the kind are Copy: what each owns is had twice, once for the exit and once for the callee. The buffer goes to the callee at its own lifetime, share and ghost name, and is given up for good: what `line_at` says of its last list, under that name, is what `read_line` says at exit.
 -- Assumes nothing.
 use mathlib.Core.Path.{_≡_, refl}
@@ -42,26 +42,26 @@ use denote.Triple.Walked.{says, needs, Stays, stay-none, gave-slice, walkOf, goe
 use denote.Exit.{yes}
 use denote.Triple.Clauses.{ensured, lasts}
 use Rattle.lines.specs.Answers.{LinesRead}
-use Rattle.bundle_reading.specs.Answers.{oneLine, LineAsked}
-use Rattle.bundle_reading.specs.declared.reader.Reader.{Reader}
-use Rattle.bundle_reading.specs.declared.reader.Line.{Line}
+use Rattle.bundle_lines.specs.OneLine.{oneLine, LineAsked}
+use Rattle.bundle_lines.specs.declared.Reader.{Reader}
+use Rattle.bundle_lines.specs.declared.Line.{Line}
 use Rattle.lines.specs.declared.reading.Step.{Step}
-use Rattle.bundle_reading.proofs.reader.line_at.Symbol.{name as #bundle-reading·line-at}
-use Rattle.bundle_reading.proofs.reader.read_line.Key.{name as #bundle-reading·read-line}
+use Rattle.bundle_lines.proofs.line_at.Symbol.{name as #bundle-lines·line-at}
+use Rattle.bundle_lines.proofs.read_line.Key.{name as #bundle-lines·read-line}
 use denote.Enum.Laws as EL
 use denote.Struct.Laws as LL
-use Rattle.bundle_reading.proofs.reader.Reader as T
-use Rattle.bundle_reading.proofs.reader.Reader.Laws as T′
-use Rattle.bundle_reading.proofs.reader.Line as N
-use Rattle.bundle_reading.proofs.reader.Line.Laws as N′
+use Rattle.bundle_lines.proofs.Reader as T
+use Rattle.bundle_lines.proofs.Reader.Laws as T′
+use Rattle.bundle_lines.proofs.Line as N
+use Rattle.bundle_lines.proofs.Line.Laws as N′
 use Rattle.lines.proofs.reading.Step as S
 use Rattle.lines.proofs.reading.Step.Laws as S′
-use Rattle.bundle_reading.proofs.reader.line_at as line-at
-use Rattle.bundle_reading.proofs.reader.line_at.Symbol as line-at-def
-use Rattle.bundle_reading.proofs.reader.line_at.Met as line-at-thm
-use Rattle.bundle_reading.proofs.reader.read_line as read-line
-use Rattle.bundle_reading.proofs.reader.read_line.Statement as stated
-use Rattle.bundle_reading.proofs.reader.read_line.Code as code
+use Rattle.bundle_lines.proofs.line_at as line-at
+use Rattle.bundle_lines.proofs.line_at.Symbol as line-at-def
+use Rattle.bundle_lines.proofs.line_at.Met as line-at-thm
+use Rattle.bundle_lines.proofs.read_line as read-line
+use Rattle.bundle_lines.proofs.read_line.Statement as stated
+use Rattle.bundle_lines.proofs.read_line.Code as code
 
 -- the struct's type, over the signature's lifetimes
 abbrev B : Lfts 2 → RattleType
@@ -173,7 +173,7 @@ module _ {M : Type 1} (𝓤 : URA M) (H : Heap 𝓤) (A : Atoms 𝓤) (W : Given
       suffices ! _ (ends-at 𝓤 H A read-line.ended stayed (read-line.clauses 𝓤 H A mem run) W ((κs, qs, tt, a, vals), tt) u r (tt, (tt, (xs, (tt, tt)))) (tt, (tt, (lx, (tt, tt))))) $ says ! e $ frame ! $
       nothing ! $ owned ! usize (Is usize) (uint-makes 𝓤 H A W w64) n _ (refl, n-fits) $ fjoin ! $ move ! (3 ∷ 0 ∷ []) $ fjoin ! $ move ! (2 ∷ 0 ∷ []) $ fjoin ! $ move ! (1 ∷ 0 ∷ []) $ fjoin ! $ frame ! $ done !
 
-  module _ (C : Calls 𝓤 H) (Λ : Loops 𝓤 H) (fm : FmC 𝓤 H (W .laws) C) (known : Triple 𝓤 (C #bundle-reading·line-at) (LineAt 𝓤 H A mem run)) where
+  module _ (C : Calls 𝓤 H) (Λ : Loops 𝓤 H) (fm : FmC 𝓤 H (W .laws) C) (known : Triple 𝓤 (C #bundle-lines·line-at) (LineAt 𝓤 H A mem run)) where
     walk : Holds (hasTy (T′.mir (named 0)) mach) × WT mach → Holds (hasTy N′.mir kind-mach) × WT kind-mach → Room u32 (length (now x)) → Asks
         → ent 𝓤 (onEntry 𝓤 H A read-line.signature κs qs a vals) (WpFn 𝓤 H C Λ code.function (mach ∷ kind-mach ∷ buffer ∷ vint w64 n ∷ []) Post)
     walk wt kind-wt room ok =
@@ -202,7 +202,7 @@ module _ {M : Type 1} (𝓤 : URA M) (H : Heap 𝓤) (A : Atoms 𝓤) (W : Given
         keep ! (1 ∷ 5 ∷ 4 ∷ 2 ∷ 0 ∷ []) $ by ! (exits r u (ws .1 .1 .1 .1 .0) e lx)))))))))))))))))
 
 module _ {M : Type 1} (𝓤 : URA M) (H : Heap 𝓤) (A : Atoms 𝓤) (W : Given 𝓤 H A) (mem : Memory → SProp 𝓤) (run : Routine → Fun 𝓤) where
-  read-line-walks : (C : Calls 𝓤 H) (Λ : Loops 𝓤 H) → FmC 𝓤 H (W .laws) C → Triple 𝓤 (C #bundle-reading·line-at) (LineAt 𝓤 H A mem run)
+  read-line-walks : (C : Calls 𝓤 H) (Λ : Loops 𝓤 H) → FmC 𝓤 H (W .laws) C → Triple 𝓤 (C #bundle-lines·line-at) (LineAt 𝓤 H A mem run)
       → Walks 𝓤 H A read-line.ended stayed (WpFn 𝓤 H C Λ code.function) (read-line.clauses 𝓤 H A mem run)
   read-line-walks C Λ fm known = walked 𝓤 H A read-line.ended stayed (read-line.clauses 𝓤 H A mem run) (WpFn 𝓤 H C Λ code.function)
       (λ κs. (LL.vals (T.the-type (namedLft 2 0 tt κs)) (T′.the-laws (namedLft 2 0 tt κs)), (EL.vals N.the-type N′.the-laws, (slice-vals, (uint-vals w64, tt)))))
@@ -213,7 +213,7 @@ module _ {M : Type 1} (𝓤 : URA M) (H : Heap 𝓤) (A : Atoms 𝓤) (W : Given
       (are .1 .1 .0 .0 .1) ok))
 
 read-line-meets : {M : Type 1} (𝓤 : URA M) (H : Heap 𝓤) (A : Atoms 𝓤) (W : Given 𝓤 H A) (mem : Memory → SProp 𝓤) (run : Routine → Fun 𝓤) (𝓣 : Tables 𝓤 H)
-    → Triple 𝓤 (𝓣 .C #bundle-reading·line-at) (LineAt 𝓤 H A mem run)
+    → Triple 𝓤 (𝓣 .C #bundle-lines·line-at) (LineAt 𝓤 H A mem run)
     → Meets 𝓤 H A read-line.signature (WpFn 𝓤 H (𝓣 .C) (𝓣 .Λ) code.function) (read-line.spec 𝓤 H A mem run)
 read-line-meets 𝓤 H A W mem run 𝓣 known =
     walk-meets 𝓤 H A read-line.ended stayed W
@@ -224,6 +224,6 @@ pub read-line-spec : {M : Type 1} → stated.statement M
 unfolding code.routine tablesOf
 read-line-spec 𝓤 H 𝓜 𝓖 𝓡 =
     entered 𝓤 H (tripleOf 𝓤 H (𝓖 .A) read-line.signature (read-line.spec 𝓤 H (𝓖 .A) (𝓜 .mem) (𝓡 .run)))
-    (tables 𝓤 H 𝓜 𝓡 code.env .C) (tables 𝓤 H 𝓜 𝓡 code.env .Λ) #bundle-reading·read-line code.function (code.unfolded 𝓤 H 𝓜 𝓡)
+    (tables 𝓤 H 𝓜 𝓡 code.env .C) (tables 𝓤 H 𝓜 𝓡 code.env .Λ) #bundle-lines·read-line code.function (code.unfolded 𝓤 H 𝓜 𝓡)
     (read-line-meets 𝓤 H (𝓖 .A) (givenOf 𝓤 H 𝓜 𝓖) (𝓜 .mem) (𝓡 .run) (tablesOf 𝓤 H 𝓜 (tables 𝓤 H 𝓜 𝓡 code.env))
-    (cited 𝓤 H (LineAt 𝓤 H (𝓖 .A) (𝓜 .mem) (𝓡 .run)) 𝓜 𝓡 code.env #bundle-reading·line-at line-at-def.routine code.calls-bundle-reading·reader·line-at (line-at-thm.met 𝓤 H 𝓜 𝓖 𝓡)))
+    (cited 𝓤 H (LineAt 𝓤 H (𝓖 .A) (𝓜 .mem) (𝓡 .run)) 𝓜 𝓡 code.env #bundle-lines·line-at line-at-def.routine code.calls-bundle-lines·line-at (line-at-thm.met 𝓤 H 𝓜 𝓖 𝓡)))

@@ -1,4 +1,4 @@
--- `bundle_reading::reader::next_line` meets its contract: a walk of its MIR, by hand. A reader is made of the text and the two numbers, held in a local and passed to `read_line`. All that the proof knows of `read_line` is that it meets its contract.
+-- `bundle_lines::next_line` meets its contract: a walk of its MIR, by hand. A reader is made of the text and the two numbers, held in a local and passed to `read_line`. All that the proof knows of `read_line` is that it meets its contract.
 -- The text and the kind are Copy: what each owns is had twice, once for the exit and once for the callee. The buffer goes to the callee at its own lifetime, share and ghost name, and is given up for good.
 -- Assumes nothing.
 use mathlib.Core.Path.{_≡_, refl}
@@ -41,26 +41,26 @@ use denote.Triple.Walked.{says, needs, Stays, stay-none, stay-none-slice, gave-s
 use denote.Exit.{yes}
 use denote.Triple.Clauses.{ensured, lasts}
 use Rattle.lines.specs.Answers.{LinesRead}
-use Rattle.bundle_reading.specs.Answers.{oneLine, LineAsked}
-use Rattle.bundle_reading.specs.declared.reader.Reader.{Reader}
-use Rattle.bundle_reading.specs.declared.reader.Line.{Line}
+use Rattle.bundle_lines.specs.OneLine.{oneLine, LineAsked}
+use Rattle.bundle_lines.specs.declared.Reader.{Reader}
+use Rattle.bundle_lines.specs.declared.Line.{Line}
 use Rattle.lines.specs.declared.reading.Step.{Step}
-use Rattle.bundle_reading.proofs.reader.read_line.Symbol.{name as #bundle-reading·read-line}
-use Rattle.bundle_reading.proofs.reader.next_line.Key.{name as #bundle-reading·next-line}
+use Rattle.bundle_lines.proofs.read_line.Symbol.{name as #bundle-lines·read-line}
+use Rattle.bundle_lines.proofs.next_line.Key.{name as #bundle-lines·next-line}
 use denote.Enum.Laws as EL
 use denote.Struct.Laws as LL
-use Rattle.bundle_reading.proofs.reader.Reader as T
-use Rattle.bundle_reading.proofs.reader.Reader.Laws as T′
-use Rattle.bundle_reading.proofs.reader.Line as N
-use Rattle.bundle_reading.proofs.reader.Line.Laws as N′
+use Rattle.bundle_lines.proofs.Reader as T
+use Rattle.bundle_lines.proofs.Reader.Laws as T′
+use Rattle.bundle_lines.proofs.Line as N
+use Rattle.bundle_lines.proofs.Line.Laws as N′
 use Rattle.lines.proofs.reading.Step as S
 use Rattle.lines.proofs.reading.Step.Laws as S′
-use Rattle.bundle_reading.proofs.reader.read_line as read-line
-use Rattle.bundle_reading.proofs.reader.read_line.Symbol as read-line-def
-use Rattle.bundle_reading.proofs.reader.read_line.Met as read-line-thm
-use Rattle.bundle_reading.proofs.reader.next_line as next-line
-use Rattle.bundle_reading.proofs.reader.next_line.Statement as stated
-use Rattle.bundle_reading.proofs.reader.next_line.Code as code
+use Rattle.bundle_lines.proofs.read_line as read-line
+use Rattle.bundle_lines.proofs.read_line.Symbol as read-line-def
+use Rattle.bundle_lines.proofs.read_line.Met as read-line-thm
+use Rattle.bundle_lines.proofs.next_line as next-line
+use Rattle.bundle_lines.proofs.next_line.Statement as stated
+use Rattle.bundle_lines.proofs.next_line.Code as code
 
 abbrev stayed : Stays (next-line.ended .signature .params) (next-line.ended .kept)
 stayed = (
@@ -173,7 +173,7 @@ module _ {M : Type 1} (𝓤 : URA M) (H : Heap 𝓤) (A : Atoms 𝓤) (W : Given
       nothing ! $ owned ! usize (Is usize) (uint-makes 𝓤 H A W w64) n _ (refl, n-fits) $ fjoin ! $ move ! (3 ∷ 0 ∷ []) $ fjoin ! $ move ! (2 ∷ 0 ∷ []) $ fjoin ! $
       owned ! usize (Is usize) (uint-makes 𝓤 H A W w64) line _ (refl, line-fits) $ fjoin ! $ owned ! usize (Is usize) (uint-makes 𝓤 H A W w64) at _ (refl, at-fits) $ fjoin ! $ move ! (1 ∷ 0 ∷ []) $ fjoin ! $ frame ! $ done !
 
-  module _ (C : Calls 𝓤 H) (Λ : Loops 𝓤 H) (fm : FmC 𝓤 H (W .laws) C) (known : Triple 𝓤 (C #bundle-reading·read-line) (ReadLine 𝓤 H A mem run)) where
+  module _ (C : Calls 𝓤 H) (Λ : Loops 𝓤 H) (fm : FmC 𝓤 H (W .laws) C) (known : Triple 𝓤 (C #bundle-lines·read-line) (ReadLine 𝓤 H A mem run)) where
     walk : Is (ShrSlice (named 0) κ₀ u8) s (slice s ∷ []) → Holds (hasTy N′.mir kind-mach) × WT kind-mach → Room u32 (length (now x)) → Asks
         → ent 𝓤 (onEntry 𝓤 H A next-line.signature κs qs a vals) (WpFn 𝓤 H C Λ code.function (slice s ∷ vint w64 at ∷ vint w64 line ∷ kind-mach ∷ slice x ∷ vint w64 n ∷ []) Post)
     walk p kind-wt room ok =
@@ -201,7 +201,7 @@ module _ {M : Type 1} (𝓤 : URA M) (H : Heap 𝓤) (A : Atoms 𝓤) (W : Given
         keep ! (1 ∷ 5 ∷ 4 ∷ 2 ∷ 0 ∷ []) $ by ! (exits r u (ws .1 .1 .0) e lx)))))))))))))))))
 
 module _ {M : Type 1} (𝓤 : URA M) (H : Heap 𝓤) (A : Atoms 𝓤) (W : Given 𝓤 H A) (mem : Memory → SProp 𝓤) (run : Routine → Fun 𝓤) where
-  next-line-walks : (C : Calls 𝓤 H) (Λ : Loops 𝓤 H) → FmC 𝓤 H (W .laws) C → Triple 𝓤 (C #bundle-reading·read-line) (ReadLine 𝓤 H A mem run)
+  next-line-walks : (C : Calls 𝓤 H) (Λ : Loops 𝓤 H) → FmC 𝓤 H (W .laws) C → Triple 𝓤 (C #bundle-lines·read-line) (ReadLine 𝓤 H A mem run)
       → Walks 𝓤 H A next-line.ended stayed (WpFn 𝓤 H C Λ code.function) (next-line.clauses 𝓤 H A mem run)
   next-line-walks C Λ fm known = walked 𝓤 H A next-line.ended stayed (next-line.clauses 𝓤 H A mem run) (WpFn 𝓤 H C Λ code.function)
       (λ κs. (slice-vals, (uint-vals w64, (uint-vals w64, (EL.vals N.the-type N′.the-laws, (slice-vals, (uint-vals w64, tt)))))))
@@ -211,7 +211,7 @@ module _ {M : Type 1} (𝓤 : URA M) (H : Heap 𝓤) (A : Atoms 𝓤) (W : Given
       (are .0) (EL.lawful N.the-type N′.the-laws 𝓤 H A W tt .typed (a .1 .1 .1 .0) _ (are .1 .1 .1 .0) .0) (are .1 .1 .1 .1 .0 .0 .1) ok))
 
 next-line-meets : {M : Type 1} (𝓤 : URA M) (H : Heap 𝓤) (A : Atoms 𝓤) (W : Given 𝓤 H A) (mem : Memory → SProp 𝓤) (run : Routine → Fun 𝓤) (𝓣 : Tables 𝓤 H)
-    → Triple 𝓤 (𝓣 .C #bundle-reading·read-line) (ReadLine 𝓤 H A mem run)
+    → Triple 𝓤 (𝓣 .C #bundle-lines·read-line) (ReadLine 𝓤 H A mem run)
     → Meets 𝓤 H A next-line.signature (WpFn 𝓤 H (𝓣 .C) (𝓣 .Λ) code.function) (next-line.spec 𝓤 H A mem run)
 next-line-meets 𝓤 H A W mem run 𝓣 known =
     walk-meets 𝓤 H A next-line.ended stayed W (
@@ -233,6 +233,6 @@ pub next-line-spec : {M : Type 1} → stated.statement M
 unfolding code.routine tablesOf
 next-line-spec 𝓤 H 𝓜 𝓖 𝓡 =
     entered 𝓤 H (tripleOf 𝓤 H (𝓖 .A) next-line.signature (next-line.spec 𝓤 H (𝓖 .A) (𝓜 .mem) (𝓡 .run)))
-    (tables 𝓤 H 𝓜 𝓡 code.env .C) (tables 𝓤 H 𝓜 𝓡 code.env .Λ) #bundle-reading·next-line code.function (code.unfolded 𝓤 H 𝓜 𝓡)
+    (tables 𝓤 H 𝓜 𝓡 code.env .C) (tables 𝓤 H 𝓜 𝓡 code.env .Λ) #bundle-lines·next-line code.function (code.unfolded 𝓤 H 𝓜 𝓡)
     (next-line-meets 𝓤 H (𝓖 .A) (givenOf 𝓤 H 𝓜 𝓖) (𝓜 .mem) (𝓡 .run) (tablesOf 𝓤 H 𝓜 (tables 𝓤 H 𝓜 𝓡 code.env))
-    (cited 𝓤 H (ReadLine 𝓤 H (𝓖 .A) (𝓜 .mem) (𝓡 .run)) 𝓜 𝓡 code.env #bundle-reading·read-line read-line-def.routine code.calls-bundle-reading·reader·read-line (read-line-thm.met 𝓤 H 𝓜 𝓖 𝓡)))
+    (cited 𝓤 H (ReadLine 𝓤 H (𝓖 .A) (𝓜 .mem) (𝓡 .run)) 𝓜 𝓡 code.env #bundle-lines·read-line read-line-def.routine code.calls-bundle-lines·read-line (read-line-thm.met 𝓤 H 𝓜 𝓖 𝓡)))

@@ -1,4 +1,4 @@
--- `bundle_reading::reader::relation_line` meets its contract. Behind the key two numbers with their bytes behind them, and then the tests of the definition, in its order.
+-- `bundle_lines::relation_line` meets its contract. Behind the key two numbers with their bytes behind them, and then the tests of the definition, in its order.
 -- Assumes nothing.
 use mathlib.Core.Path.{sym, _∙_}
 use Prim.Native.Nat.{_+_, _*_}
@@ -9,11 +9,11 @@ use Rattle.relations.specs.Limits.{wordLimit}
 use Rattle.catalogue.proofs.Judgements.{good-pair}
 use Rattle.bundles.specs.Reading.{relation, noRelation}
 use Rattle.lines.proofs.Answered.{number-found, number-missing, value-as}
-use Rattle.bundle_reading.proofs.OneLine.{line-read, line-wrong, relation-found, no-rows, no-columns, relation-begun, relation-other}
+use Rattle.bundle_lines.proofs.OneLine.{line-read, line-wrong, relation-found, no-rows, no-columns, relation-begun, relation-other}
 use native.Mathlib.Omega.{arith}
 use borrow.Author.Needs.{needs}
-use Rattle.bundle_reading.proofs.reader.relation_line.Statement.{statement}
-use Rattle.bundle_reading.proofs.reader.relation_line.Tie as tie
+use Rattle.bundle_lines.proofs.relation_line.Statement.{statement}
+use Rattle.bundle_lines.proofs.relation_line.Tie as tie
 
 slice-aggregate-begins-with : tie.Need-slice-aggregate-begins-with
 slice-aggregate-begins-with c = search needs

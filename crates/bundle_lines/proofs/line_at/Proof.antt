@@ -1,11 +1,11 @@
--- `bundle_reading::reader::line_at` meets its contract: each kind of line by the function that reads it.
+-- `bundle_lines::line_at` meets its contract: each kind of line by the function that reads it.
 -- Assumes nothing.
 use lib.Dec.{lit<}
 use lib.ListN.{drop}
-use Rattle.bundle_reading.proofs.OneLine.{line-wrong, asked-as, node-within, node-beyond}
+use Rattle.bundle_lines.proofs.OneLine.{line-wrong, asked-as, node-within, node-beyond}
 use borrow.Author.Needs.{needs}
-use Rattle.bundle_reading.proofs.reader.line_at.Statement.{statement}
-use Rattle.bundle_reading.proofs.reader.line_at.Tie as tie
+use Rattle.bundle_lines.proofs.line_at.Statement.{statement}
+use Rattle.bundle_lines.proofs.line_at.Tie as tie
 
 enum-told : tie.Need-enum-told
 enum-told c = search needs

@@ -1,4 +1,4 @@
--- `bundle_reading::reader::mode_line` meets its contract. Each test is one of the definition, and a line found has room for its bytes.
+-- `bundle_lines::mode_line` meets its contract. Each test is one of the definition, and a line found has room for its bytes.
 -- Assumes nothing.
 use mathlib.Core.Path.{_≡_, refl, sym, _∙_}
 use mathlib.Core.List.{List}
@@ -8,12 +8,12 @@ use lib.ListN.{length, drop, length-drop}
 use Rattle.lines.specs.Marks.{plainLine, shortLine}
 use Rattle.lines.specs.Reading.{begins}
 use Rattle.lines.specs.Answers.{Placed}
-use Rattle.bundle_reading.proofs.OneLine.{line-read, line-wrong, mode-plain, mode-short, mode-none}
+use Rattle.bundle_lines.proofs.OneLine.{line-read, line-wrong, mode-plain, mode-short, mode-none}
 use Rattle.lines.proofs.ReadingSteps.{begins-room}
 use native.Mathlib.Omega.{arith}
 use borrow.Author.Needs.{needs}
-use Rattle.bundle_reading.proofs.reader.mode_line.Statement.{statement}
-use Rattle.bundle_reading.proofs.reader.mode_line.Tie as tie
+use Rattle.bundle_lines.proofs.mode_line.Statement.{statement}
+use Rattle.bundle_lines.proofs.mode_line.Tie as tie
 
 -- a mode's line that begins there ends in the text
 behind : (text key : List ℕ) (at line : ℕ) → length key ≡ 11 → begins key (drop at text) ≡ true → at ≤ length text → line ≤ at + 1 → Placed text (record { at = at + 11; line = line + 1 })
