@@ -1,11 +1,11 @@
 -- What an accepted call of `read` left is there: the parts of its buffers that its numbers name can be lent. Assumes nothing.
 use Prim.Native.Nat.{ℕ, _*_, _≤_}
-use mathlib.Core.Path.{_≡_, refl}
+use mathlib.Core.Path.{_≡_, refl, sym}
 use mathlib.Core.List.{List}
 use mathlib.Core.Bool.{Bool, true, false, cond}
 use native.Mathlib.Omega.{arith}
-use lib.ListN.{length}
-use lib.Seq.{length-sets}
+use lib.ListN.{length, take}
+use lib.Seq.{length-take-le, length-sets}
 use Rattle.relations.specs.Limits.{questionNodeWords}
 use Rattle.catalogue.proofs.Judgements.{GoodTables, good-tables}
 use Rattle.lines.specs.Reading.{Next, goesOn, wrongAt}
@@ -18,6 +18,17 @@ pub record PartsThere (pairs words nodes : ℕ) (catalogue tables question : Lis
   pub pairs-there : 2 * pairs ≤ length catalogue
   pub words-there : words ≤ length tables
   pub nodes-there : questionNodeWords * nodes ≤ length question
+
+-- and as long as the numbers say
+module _ {pairs words nodes : ℕ} {catalogue tables question : List ℕ} (parts : PartsThere pairs words nodes catalogue tables question) where
+  pub pairs-long : 2 * pairs ≡ length (take (2 * pairs) catalogue)
+  pairs-long = sym (length-take-le (2 * pairs) catalogue (parts .pairs-there))
+
+  pub words-long : words ≡ length (take words tables)
+  words-long = sym (length-take-le words tables (parts .words-there))
+
+  pub nodes-long : questionNodeWords * nodes ≡ length (take (questionNodeWords * nodes) question)
+  nodes-long = sym (length-take-le (questionNodeWords * nodes) question (parts .nodes-there))
 
 abbrev pub PartsOf : ReadOutcome → Type 0
 PartsOf outcome = PartsThere (outcome .numbers .pairs) (outcome .numbers .words) (outcome .numbers .nodes) (outcome .catalogue) (outcome .tables) (outcome .question)
