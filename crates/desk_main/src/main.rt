@@ -2,6 +2,7 @@
 // its own: input that can't be read and a listing that can't be written whole are told on standard error, where nothing else is written.
 ghost use Rattle.io.specs.Counts.{Counts};
 ghost use Rattle.listing.specs.Listing.{Listable};
+use bundle_reading::Reading;
 use desk::Answered;
 use libc::STDERR_FILENO;
 use libc::STDIN_FILENO;
@@ -11,7 +12,6 @@ use relations::limits::PLAN_WORDS;
 use relations::limits::QUESTION_WORDS;
 use relations::limits::TEXT_BYTES;
 use relations::limits::WORDS;
-use text::bundle::Reading;
 
 struct Input {
     bytes: usize,
@@ -94,7 +94,7 @@ fn print_outcome(text: &[u8]) {
     let mut catalogue = [0u32; CATALOGUE_WORDS];
     let mut tables = [0u32; WORDS];
     let mut question = [0u32; QUESTION_WORDS];
-    match text::bundle::read(text, &mut catalogue, &mut tables, &mut question) {
+    match bundle_reading::read(text, &mut catalogue, &mut tables, &mut question) {
         Reading::Bundle {
             mode,
             pairs,

@@ -3,8 +3,8 @@ use Prim.Native.Nat.{ℕ, _*_, _≤_}
 use mathlib.Core.List.{List, [], _∷_, _++_}
 use lib.ListN.{length}
 use Rattle.relations.specs.Limits.{wordLimit}
-use Rattle.text.specs.Marks.{rowKey}
-use Rattle.text.specs.Writing.{lineText, linesText}
+use Rattle.lines.specs.Marks.{rowKey}
+use Rattle.lines.specs.Writing.{lineText, linesText}
 
 -- status=, place=, nodes=, heavy=, room=, width= and rows=
 abbrev pub statusKey : List ℕ

@@ -1,12 +1,12 @@
 // Reads a bundle from standard input, and writes it back from what it read; or prints status= and place= lines.
+use bundle_reading::Reading;
+use bundle_writing::Writing;
 use libc::STDIN_FILENO;
 use libc::STDOUT_FILENO;
 use relations::limits::CATALOGUE_WORDS;
 use relations::limits::QUESTION_WORDS;
 use relations::limits::TEXT_BYTES;
 use relations::limits::WORDS;
-use text::bundle::Reading;
-use text::writing::Writing;
 
 fn line(key: &[u8], number: u64) {
     io::write_all(STDOUT_FILENO, key);
@@ -22,7 +22,7 @@ fn refuse(status: u64, place: usize) {
 // What was read is written back.
 fn write_back(mode: u32, catalogue: &[u32], tables: &[u32], nodes: &[u32]) {
     let mut text = [0u8; TEXT_BYTES];
-    match text::writing::write(mode, catalogue, tables, nodes, &mut text) {
+    match bundle_writing::write(mode, catalogue, tables, nodes, &mut text) {
         Writing::Bytes(bytes) => {
             io::write_all(STDOUT_FILENO, &text[..bytes]);
         }
@@ -38,7 +38,7 @@ fn main() {
     let mut tables = [0u32; WORDS];
     let mut nodes = [0u32; QUESTION_WORDS];
     let bytes = io::read_full(STDIN_FILENO, &mut text);
-    match text::bundle::read(&text[..bytes], &mut catalogue, &mut tables, &mut nodes) {
+    match bundle_reading::read(&text[..bytes], &mut catalogue, &mut tables, &mut nodes) {
         Reading::Bundle {
             mode,
             pairs,

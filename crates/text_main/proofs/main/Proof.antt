@@ -1,13 +1,16 @@
--- `text_main::main` meets its contract. What `read` hands back is within its limits (`bundle-numbers`), so the parts that it names can be lent.
--- Assumes nothing.
-use Rattle.text.proofs.Rooms.{bundle-numbers}
-use lib.ListN.{length-take}
+-- `text_main::main` meets its contract. The parts of the buffers that `read` names are there (`bundle-parts`), so they can be lent. Assumes nothing.
 use mathlib.Core.Path.{refl}
-use Prim.Native.Nat.{_*_}
 use native.Mathlib.Omega.{arith}
 use borrow.Author.Needs.{needs}
+use Rattle.bundles.proofs.Rooms.{PartsThere, pairs-long, words-long, nodes-long}
+use Rattle.bundle_reading.proofs.Rooms.{bundle-parts}
 use Rattle.text_main.proofs.main.Statement.{statement}
 use Rattle.text_main.proofs.main.Tie as tie
+
+-- a bundle that was read
+parts : (c : tie.After-mode)
+    → PartsThere (c .mode .given .0 .1 .0) (c .mode .given .0 .1 .1 .0) (c .mode .given .0 .1 .1 .1 .0) (c .before .before .before .before .before .read .last .1 .0) (c .before .before .before .before .before .read .last .1 .1 .0) (c .before .before .before .before .before .read .last .1 .1 .1 .0)
+parts c = bundle-parts _ _ _ _ (c .before .before .before .before .before .read .ensures) refl (c .mode .given .1)
 
 slice-aggregate-read-full : tie.Need-slice-aggregate-read-full
 slice-aggregate-read-full c = search needs
@@ -37,28 +40,28 @@ enum-known-mode : tie.Need-enum-known-mode
 enum-known-mode c = search needs
 
 mul-catalogue : tie.Need-mul-catalogue
-mul-catalogue c = omega (arith, bundle-numbers _ _ _ _ (c .before .before .before .before .before .before .read .ensures) refl (c .before .mode .given .1) .few-pairs)
+mul-catalogue c = omega (arith, parts (c .before) .pairs-there, c .before .before .before .before .before .before .read .kept .1 .0)
 
 array-share-prefix-catalogue : tie.Need-array-share-prefix-catalogue
-array-share-prefix-catalogue c = omega (arith, bundle-numbers _ _ _ _ (c .before .before .before .before .before .before .read .ensures) refl (c .before .mode .given .1) .few-pairs, c .before .before .before .before .before .before .read .kept .1 .0)
+array-share-prefix-catalogue c = parts (c .before) .pairs-there
 
 slice-aggregate-write-back : tie.Need-slice-aggregate-write-back
-slice-aggregate-write-back c = omega (arith, bundle-numbers _ _ _ _ (c .before .before .before .before .before .before .before .read .ensures) refl (c .before .before .mode .given .1) .few-pairs, c .before .before .before .before .before .before .before .read .kept .1 .0, length-take (2 * c .before .before .mode .given .0 .1 .0) (c .before .before .before .before .before .before .before .read .last .1 .0))
+slice-aggregate-write-back c = pairs-long (parts (c .before .before))
 
 array-share-prefix-tables : tie.Need-array-share-prefix-tables
-array-share-prefix-tables c = omega (arith, bundle-numbers _ _ _ _ (c .before .before .before .before .before .before .before .read .ensures) refl (c .before .before .mode .given .1) .few-words, c .before .before .before .before .before .before .before .read .kept .1 .1 .0)
+array-share-prefix-tables c = parts (c .before .before) .words-there
 
 slice-aggregate-write-back-2 : tie.Need-slice-aggregate-write-back-2
-slice-aggregate-write-back-2 c = omega (arith, bundle-numbers _ _ _ _ (c .before .before .before .before .before .before .before .before .read .ensures) refl (c .before .before .before .mode .given .1) .few-words, c .before .before .before .before .before .before .before .before .read .kept .1 .1 .0, length-take (c .before .before .before .mode .given .0 .1 .1 .0) (c .before .before .before .before .before .before .before .before .read .last .1 .1 .0))
+slice-aggregate-write-back-2 c = words-long (parts (c .before .before .before))
 
 mul-nodes : tie.Need-mul-nodes
-mul-nodes c = omega (arith, bundle-numbers _ _ _ _ (c .before .before .before .before .before .before .before .before .read .ensures) refl (c .before .before .before .mode .given .1) .few-nodes)
+mul-nodes c = omega (arith, parts (c .before .before .before) .nodes-there, c .before .before .before .before .before .before .before .before .read .kept .1 .1 .1 .0)
 
 array-share-prefix-nodes : tie.Need-array-share-prefix-nodes
-array-share-prefix-nodes c = omega (arith, bundle-numbers _ _ _ _ (c .before .before .before .before .before .before .before .before .read .ensures) refl (c .before .before .before .mode .given .1) .few-nodes, c .before .before .before .before .before .before .before .before .read .kept .1 .1 .1 .0)
+array-share-prefix-nodes c = parts (c .before .before .before) .nodes-there
 
 slice-aggregate-write-back-3 : tie.Need-slice-aggregate-write-back-3
-slice-aggregate-write-back-3 c = omega (arith, bundle-numbers _ _ _ _ (c .before .before .before .before .before .before .before .before .before .read .ensures) refl (c .before .before .before .before .mode .given .1) .few-nodes, c .before .before .before .before .before .before .before .before .before .read .kept .1 .1 .1 .0, length-take (6 * c .before .before .before .before .mode .given .0 .1 .1 .1 .0) (c .before .before .before .before .before .before .before .before .before .read .last .1 .1 .1 .0))
+slice-aggregate-write-back-3 c = nodes-long (parts (c .before .before .before .before))
 
 write-back-requires : tie.Need-write-back-requires
 write-back-requires c κs = search needs
