@@ -15,11 +15,11 @@ use Rattle.relations.specs.Lists.{any, filter}
 use Rattle.relations.specs.Rows.{Row, rowBefore}
 use Rattle.relations.specs.Values.{Rows}
 use Rattle.relations.proofs.BoolLaws.{true-or-false}
-use Rattle.relations.specs.Comparison.{holds}
+use Rattle.relations.specs.Comparison.{holds, operatorNamed}
 use Rattle.relations.specs.Columns.{Triple, attribute, column, meets}
 use Rattle.relations.proofs.RowLaws.{rowBefore-itself, rowBefore-prefix}
 use Rattle.values.specs.Places.{rowsBefore, NoneBefore, NoneBehind}
-use Rattle.operations.specs.Lists.{operatorNamed, triplesIn}
+use Rattle.operations.specs.Lists.{triplesIn}
 use Rattle.joining.specs.Bounds.{bounding, Leads, Least, Most}
 use Rattle.joining.specs.declared.bounds.Bound.{Bound}
 use Rattle.joining.proofs.MeetLaws.{and-false, triple-says}

@@ -7,10 +7,10 @@ use native.Mathlib.Omega.{arith}
 use lib.ListN.{getD, drop}
 use lib.Seq.{drop-drop}
 use Rattle.relations.specs.Rows.{Row}
-use Rattle.relations.specs.Comparison.{holds}
+use Rattle.relations.specs.Comparison.{holds, operatorNamed}
 use Rattle.relations.specs.Columns.{Triple, column, attribute, meets}
 use Rattle.relations.proofs.BoolLaws.{true-and-false, not-so, and-left, and-right, and-both}
-use Rattle.operations.specs.Lists.{operatorNamed, firstTriple, triplesIn}
+use Rattle.operations.specs.Lists.{firstTriple, triplesIn}
 use Rattle.operations.proofs.ListLaws.{first-word, next-word}
 
 -- a turn of a loop over triples

@@ -7,8 +7,8 @@ ghost use lib.ListN.{length, drop};
 ghost use Rattle.relations.specs.Columns as meaning;
 ghost use Rattle.operations.specs.Lists.{firstTriple, triplesIn};
 use operations::columns::column_of;
-use operations::columns::holds;
 use operations::columns::triple_at;
+use terms::operator::holds;
 
 // Whether two rows meet the triple that starts at the word `at` of the list.
 fn meets_at(list: &[u32], at: usize, left: &[u32], right: &[u32]) -> bool

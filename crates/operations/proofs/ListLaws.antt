@@ -10,10 +10,11 @@ use lib.ListN.{length, getD, drop, List·getD-eq-default}
 use lib.Seq.{getD-drop}
 use lib.Dec.{eqb}
 use Rattle.relations.specs.Rows.{Row}
-use Rattle.relations.specs.Comparison.{Operator, equal, notEqual, less, atMost, greater, atLeast, holds, operatorOf}
+use Rattle.terms.proofs.NumberLaws.{operator-named}
+use Rattle.relations.specs.Comparison.{Operator, operatorOf, operatorNamed}
 use Rattle.relations.specs.Columns.{Triple, wordAt}
 use Rattle.relations.specs.PlanWords.{readTriples, tripleBefore}
-use Rattle.operations.specs.Lists.{operatorNamed, triplesIn}
+use Rattle.operations.specs.Lists.{triplesIn}
 
 -- a column is the word one before its number, and 0 outside the row
 pub word-inside : (row : Row) (number : ℕ) → 0 < number → wordAt row number ≡ getD row (number - 1) 0
@@ -31,20 +32,6 @@ first-word list at = getD-drop at list 0 0 ∙ rw add-zero
 pub next-word : (list : List ℕ) (at i : ℕ) → getD (drop at list) i 0 ≡ getD list (at + i) 0
 next-word list at i = getD-drop at list i 0
 
--- where a number is an operator's, it is the operator of that number
-pub operator-named : (number : ℕ) (o : Operator) → operatorOf number ≡ some o → operatorNamed number ≡ o
-operator-named number o h = go (eqb number 1) (eqb number 2) (eqb number 3) (eqb number 4) (eqb number 5) (eqb number 6) h
-  where
-    go : (a b c d e f : Bool)
-        → cond a (some equal) (cond b (some notEqual) (cond c (some less) (cond d (some atMost) (cond e (some greater) (cond f (some atLeast) none))))) ≡ some o
-        → cond a equal (cond b notEqual (cond c less (cond d atMost (cond e greater atLeast)))) ≡ o
-    go true b c d e f k = cc
-    go false true c d e f k = cc
-    go false false true d e f k = cc
-    go false false false true e f k = cc
-    go false false false false true f k = cc
-    go false false false false false true k = cc
-    go false false false false false false k = let z : _≡_ {A = ℕ} 0 1 = cc in absurd (omega arith)
 
 -- the triples that relations reads from a legal plan's words are those that the code reads
 pub triples-read : (count : ℕ) (list : List ℕ) (triples : List Triple) → readTriples count list ≡ some triples → triplesIn count list ≡ triples

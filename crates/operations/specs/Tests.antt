@@ -7,7 +7,7 @@ use Rattle.relations.specs.Values.{Rows, member, Ascending}
 use Rattle.relations.specs.Comparison.{holds}
 use Rattle.relations.specs.Columns.{column}
 use Rattle.values.specs.Words.{rowsOf, end}
-use Rattle.operations.specs.Lists.{attributeIn, operatorIn}
+use Rattle.terms.specs.Terms.{attributeIn, operatorIn}
 use Rattle.operations.specs.declared.keep.Test.{Test}
 use Rattle.operations.specs.declared.keep.Test.the-variants.{Constant, Attribute, In, NotIn}
 

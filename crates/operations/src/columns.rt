@@ -2,26 +2,15 @@
 ghost use mathlib.Core.Path.{_≡_};
 ghost use Prim.Native.Nat.{ℕ, _+_, _≤_};
 ghost use lib.ListN.{length, drop};
-ghost use Rattle.relations.specs.Comparison as comparison;
 ghost use Rattle.relations.specs.Columns as meaning;
-ghost use Rattle.operations.specs.Lists.{attributeIn, operatorIn, tripleIn, pairIn, operatorNamed, firstTriple, firstPair};
+ghost use Rattle.terms.specs.Terms.{attributeIn};
+ghost use Rattle.operations.specs.Lists.{tripleIn, pairIn, firstTriple, firstPair};
+use terms::attribute::Attribute;
+use terms::operator::Operator;
+use terms::operator::operator_of;
 
 // The list of a node that has none.
 pub const NO_WORDS: [u32; 0] = [];
-
-// A column's number, from 1.
-pub struct Attribute(pub u32);
-
-pub struct Constant(pub u32);
-
-pub enum Operator {
-    Equal,
-    NotEqual,
-    Less,
-    AtMost,
-    Greater,
-    AtLeast,
-}
 
 // A comparison of a left row's attribute with a right row's.
 pub struct Triple {
@@ -34,33 +23,6 @@ pub struct Triple {
 pub struct Pair {
     pub left: Attribute,
     pub right: Attribute,
-}
-
-pub fn holds(operator: Operator, x: u32, y: u32) -> bool
-    ensures { λ r. ⌜ r ≡ comparison.holds (operatorIn operator) x y ⌝ }
-{
-    match operator {
-        Operator::Equal => x == y,
-        Operator::NotEqual => x != y,
-        Operator::Less => x < y,
-        Operator::AtMost => x <= y,
-        Operator::Greater => y < x,
-        Operator::AtLeast => y <= x,
-    }
-}
-
-// The operator of a number from 1 to 6.
-pub fn operator_of(number: u32) -> Operator
-    ensures { λ r. ⌜ operatorIn r ≡ operatorNamed number ⌝ }
-{
-    match number {
-        1 => Operator::Equal,
-        2 => Operator::NotEqual,
-        3 => Operator::Less,
-        4 => Operator::AtMost,
-        5 => Operator::Greater,
-        _ => Operator::AtLeast,
-    }
 }
 
 // The word of a row at an attribute, 0 where the row has no such column.

@@ -10,7 +10,7 @@ use Rattle.joining.proofs.meeting.meets_at.Tie as tie
 use Rattle.joining.proofs.meeting.meets_at.Reads as reads
 use Rattle.joining.proofs.meeting.meets_at.Lts as lts
 use Rattle.operations.proofs.columns.column_of.Reads as column-of-reads
-use Rattle.operations.proofs.columns.holds.Reads as holds-reads
+use Rattle.terms.proofs.operator.holds.Reads as holds-reads
 use Rattle.operations.proofs.columns.triple_at.Reads as triple-at-reads
 
 -- src/columns.rt:113:9

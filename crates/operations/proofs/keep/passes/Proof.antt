@@ -10,7 +10,7 @@ use Rattle.operations.proofs.keep.passes.Tie as tie
 use Rattle.operations.proofs.keep.passes.Reads as reads
 use Rattle.operations.proofs.keep.passes.Lts as lts
 use Rattle.operations.proofs.columns.column_of.Reads as column-of-reads
-use Rattle.operations.proofs.columns.holds.Reads as holds-reads
+use Rattle.terms.proofs.operator.holds.Reads as holds-reads
 use Rattle.values.proofs.rows.row.Reads as row-reads
 use Rattle.values.proofs.search.has_row.Reads as has-row-reads
 
