@@ -1,25 +1,16 @@
--- `text_main::main` meets its contract. The parts of the buffers that `read` names are there (`bundle-parts`), so they can be lent. Assumes nothing.
+-- `text_main::rewrite` meets its contract. The parts of the buffers that `read` names are there (`bundle-parts`), so they can be lent. Assumes nothing.
 use mathlib.Core.Path.{refl}
 use native.Mathlib.Omega.{arith}
 use borrow.Author.Needs.{needs}
 use Rattle.bundles.proofs.Rooms.{PartsThere, pairs-long, words-long, nodes-long}
 use Rattle.bundle_reading.proofs.Rooms.{bundle-parts}
-use Rattle.text_main.proofs.main.Statement.{statement}
-use Rattle.text_main.proofs.main.Tie as tie
+use Rattle.text_main.proofs.rewrite.Statement.{statement}
+use Rattle.text_main.proofs.rewrite.Tie as tie
 
 -- a bundle that was read
 parts : (c : tie.After-mode)
     → PartsThere (c .mode .given .0 .1 .0) (c .mode .given .0 .1 .1 .0) (c .mode .given .0 .1 .1 .1 .0) (c .before .before .before .before .before .read .last .1 .0) (c .before .before .before .before .before .read .last .1 .1 .0) (c .before .before .before .before .before .read .last .1 .1 .1 .0)
 parts c = bundle-parts _ _ _ _ (c .before .before .before .before .before .read .ensures) refl (c .mode .given .1)
-
-slice-aggregate-read-full : tie.Need-slice-aggregate-read-full
-slice-aggregate-read-full c = search needs
-
-read-full-requires : tie.Need-read-full-requires
-read-full-requires c κs = search needs
-
-array-share-prefix-text : tie.Need-array-share-prefix-text
-array-share-prefix-text c = search needs
 
 slice-aggregate-read : tie.Need-slice-aggregate-read
 slice-aggregate-read c = search needs
@@ -29,9 +20,6 @@ slice-aggregate-read-2 c = search needs
 
 slice-aggregate-read-3 : tie.Need-slice-aggregate-read-3
 slice-aggregate-read-3 c = search needs
-
-slice-aggregate-read-4 : tie.Need-slice-aggregate-read-4
-slice-aggregate-read-4 c = search needs
 
 read-requires : tie.Need-read-requires
 read-requires c κs = search needs
@@ -54,11 +42,11 @@ array-share-prefix-tables c = parts (c .before .before) .words-there
 slice-aggregate-write-back-2 : tie.Need-slice-aggregate-write-back-2
 slice-aggregate-write-back-2 c = words-long (parts (c .before .before .before))
 
-mul-nodes : tie.Need-mul-nodes
-mul-nodes c = omega (arith, parts (c .before .before .before) .nodes-there, c .before .before .before .before .before .before .before .before .read .kept .1 .1 .1 .0)
+mul-question : tie.Need-mul-question
+mul-question c = omega (arith, parts (c .before .before .before) .nodes-there, c .before .before .before .before .before .before .before .before .read .kept .1 .1 .1 .0)
 
-array-share-prefix-nodes : tie.Need-array-share-prefix-nodes
-array-share-prefix-nodes c = parts (c .before .before .before) .nodes-there
+array-share-prefix-question : tie.Need-array-share-prefix-question
+array-share-prefix-question c = parts (c .before .before .before) .nodes-there
 
 slice-aggregate-write-back-3 : tie.Need-slice-aggregate-write-back-3
 slice-aggregate-write-back-3 c = nodes-long (parts (c .before .before .before .before))
@@ -66,8 +54,8 @@ slice-aggregate-write-back-3 c = nodes-long (parts (c .before .before .before .b
 write-back-requires : tie.Need-write-back-requires
 write-back-requires c κs = search needs
 
-enum-known-place : tie.Need-enum-known-place
-enum-known-place c = search needs
+enum-known-line : tie.Need-enum-known-line
+enum-known-line c = search needs
 
 refuse-requires : tie.Need-refuse-requires
 refuse-requires c κs = search needs
@@ -87,17 +75,13 @@ returns-2 c = search needs
 returns-3 : tie.Need-returns-3
 returns-3 c = search needs
 
-pub main-spec : {M : Type 1} → statement M
-main-spec =
+pub rewrite-spec : {M : Type 1} → statement M
+rewrite-spec =
     tie.close
     (tie.spec
-    slice-aggregate-read-full
-    read-full-requires
-    array-share-prefix-text
     slice-aggregate-read
     slice-aggregate-read-2
     slice-aggregate-read-3
-    slice-aggregate-read-4
     read-requires
     enum-known-mode
     mul-catalogue
@@ -105,11 +89,11 @@ main-spec =
     slice-aggregate-write-back
     array-share-prefix-tables
     slice-aggregate-write-back-2
-    mul-nodes
-    array-share-prefix-nodes
+    mul-question
+    array-share-prefix-question
     slice-aggregate-write-back-3
     write-back-requires
-    enum-known-place
+    enum-known-line
     refuse-requires
     enum-told
     refuse-requires-2
