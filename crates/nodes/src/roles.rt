@@ -1,9 +1,9 @@
 // What a node does to the scope in which it stands, for refusals 4, 5 and 6: many kinds share a role.
 ghost use mathlib.Core.Path.{_≡_};
 ghost use Rattle.nodes.specs.Roles.{roleOf};
-use crate::node::Attribute;
 use crate::node::Node;
 use crate::node::Operand;
+use terms::attribute::Attribute;
 
 pub enum Role {
     // 1: the rows of a relation.
