@@ -1,14 +1,13 @@
-use Rattle.conditions.proofs.LeafLaws.{collectable}
-use Rattle.short_rules.proofs.FitLaws.{some-nodes-below, conjoined-atoms, oppositeFits, some-opposite}
-use Rattle.conditions.proofs.Readings.{condition-is, some-parts}
+use Rattle.short_rules.proofs.FitLaws.{some-nodes-below, oppositeFits, some-opposite}
 use Rattle.conditions.proofs.OtherNodes.{reads-as-leaf}
-use Rattle.conditions.specs.Readings.{rangeAt, conditionAt}
-use Rattle.nodes.specs.Nodes.{nodeAt}
 use Rattle.nodes.specs.declared.node.Node.the-variants.{And, Or, Not, Some, Every}
-use Rattle.calculus.specs.Question.{forSome}
-use Rattle.calculus.specs.ShortRules.{shortRule2Atoms}
+use Rattle.conditions.proofs.Readings.{condition-is, some-parts}
+use Rattle.conditions.specs.Readings.{Names, rangeAt, conditionAt}
+use Rattle.relations.specs.Limits.{questionNodeLimit}
+use Rattle.nodes.specs.Nodes.{nodeAt}
+use Rattle.calculus.specs.Question.{forSome, conditionNodes}
 use mathlib.Core.Path.{_≡_, sym, ap, _∙_}
-use Prim.Native.Nat.{_-_}
+use Prim.Native.Nat.{_-_, _≤_}
 use borrow.Author.Needs.{needs}
 use Rattle.short_rules.proofs.fits.opposite_fits.Statement.{statement}
 use Rattle.short_rules.proofs.fits.opposite_fits.Tie as tie
@@ -20,6 +19,10 @@ some-node c = sym (c .before .node .given .1) ∙ c .before .before .before .dec
 some-reads : (c : tie.After-known-told) → conditionAt (c .before .before .before .before .before .args .words .now) (c .before .before .before .before .before .args .reference) ≡ forSome (c .before .node .given .0 .0) (rangeAt (c .before .before .before .before .before .args .words .now) (c .before .node .given .0 .1 .0)) (conditionAt (c .before .before .before .before .before .args .words .now) (c .before .node .given .0 .1 .1 .0))
 some-reads c = let s = c .before .before .before .before .before in
     condition-is (s .args .words .now) (s .args .reference) _ (s .pre .0 .0) (some-node c)
+
+some-ready : (c : tie.After-known-told) → Names (c .before .before .before .before .before .args .words .now) (c .before .node .given .0 .1 .1 .0) × (conditionNodes (conditionAt (c .before .before .before .before .before .args .words .now) (c .before .node .given .0 .1 .1 .0)) ≤ questionNodeLimit)
+some-ready c = let s = c .before .before .before .before .before in
+    (some-parts (s .args .words .now) (s .args .reference) (s .pre .0) (some-node c) .1 .0, some-nodes-below (some-reads c) (s .pre .1))
 
 sub-decode : tie.Need-sub-decode
 sub-decode c = search needs
@@ -33,13 +36,8 @@ decode-requires c κs = search needs
 enum-known-node : tie.Need-enum-known-node
 enum-known-node c = search needs
 
-leaves-of-requires : tie.Need-leaves-of-requires
-leaves-of-requires c κs = let s = c .before .before .before .before .before in
-    let words = s .args .words .now in
-    collectable words _ (some-parts words (s .args .reference) (s .pre .0) (some-node c) .1 .0) (some-nodes-below (some-reads c) (s .pre .1))
-
-short-rule-2-fits-requires : tie.Need-short-rule-2-fits-requires
-short-rule-2-fits-requires c κs = search needs
+tree-fits-requires : tie.Need-tree-fits-requires
+tree-fits-requires c κs = some-ready c
 
 enum-told : tie.Need-enum-told
 enum-told c = search needs
@@ -54,8 +52,7 @@ enum-told-4 : tie.Need-enum-told-4
 enum-told-4 c = search needs
 
 returns : tie.Need-returns
-returns c = let k = c .before .before in
-    conjoined-atoms (shortRule2Atoms (k .before .node .given .0 .0)) (c .before .leaves-of .ensures .1) (c .short-rule-2-fits .ensures) ∙ sym (some-opposite (some-reads k))
+returns c = c .tree-fits .ensures ∙ sym (some-opposite (some-reads (c .before)))
 
 returns-2 : tie.Need-returns-2
 returns-2 c = let s = c .before .before .before .before in
@@ -85,8 +82,7 @@ opposite-fits-spec =
     cast-decode
     decode-requires
     enum-known-node
-    leaves-of-requires
-    short-rule-2-fits-requires
+    tree-fits-requires
     enum-told
     enum-told-2
     enum-told-3

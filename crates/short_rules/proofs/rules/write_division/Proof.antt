@@ -1,3 +1,4 @@
+use mathlib.Core.Bool.{false}
 use Rattle.short_rules.proofs.RuleLaws.{dividend-size, division-written, outside-count, pairs-counted}
 use Rattle.emission.proofs.NodeListLaws.{names-triples, names-pairs, lists-triples, lists-pairs}
 use Rattle.emission.proofs.WrittenLaws.{room-after, room-less, written-as}
@@ -16,47 +17,51 @@ use mathlib.Core.List.{List, [], _∷_}
 use mathlib.Core.Path.{_≡_, sym, ap, _∙_}
 use Prim.Native.Nat.{suc, _-_}
 use native.Mathlib.Omega.{arith}
-use Rattle.short_rules.proofs.rules.write_short_rule_5.Statement.{statement}
-use Rattle.short_rules.proofs.rules.write_short_rule_5.Tie as tie
+use Rattle.short_rules.proofs.rules.write_division.Statement.{statement}
+use Rattle.short_rules.proofs.rules.write_division.Tie as tie
 
 abbrev atoms : tie.Start → List Atom
-atoms s = atomsOf (s .args .words .now) (s .args .leaves)
+atoms s = atomsOf (s .args .words .now) false (s .args .leaves .now)
 
 abbrev triples : tie.Start → List Triple
-triples s = outsideTriples (scopeOf (s .args .scope)) (s .args .z) (filter (equatesOutside (s .args .z) (s .args .y)) (atoms s)) 1
+triples s = outsideTriples (scopeOf (s .args .scope .now)) (s .args .z) (filter (equatesOutside (s .args .z) (s .args .y)) (atoms s)) 1
 
 abbrev pairs : tie.Start → List Pair
 pairs s = divisionPairs (s .args .z) (filter (equatesWith (s .args .z) (s .args .y)) (atoms s)) (suc (length (filter (equatesOutside (s .args .z) (s .args .y)) (atoms s))))
 
 pairs-listed : (c : tie.After-division-pairs) → c .division-pairs .result ≡ nodeList (flat pairWords (pairs (c .before .before .before .before .before)))
-pairs-listed c = let s = c .before .before .before .before .before in pairs-counted (scopeOf (s .args .scope)) (s .args .z) (s .args .y) (atoms s) (c .before .before .outside-triples .ensures) (c .division-pairs .ensures)
+pairs-listed c = let s = c .before .before .before .before .before in pairs-counted (scopeOf (s .args .scope .now)) (s .args .z) (s .args .y) (atoms s) (c .before .before .outside-triples .ensures) (c .division-pairs .ensures)
 
 outside-triples-requires : tie.Need-outside-triples-requires
-outside-triples-requires c κs = (c .before .before .pre .0, c .before .before .pre .1 .leaves-fit, c .before .before .pre .1 .few-outside)
+outside-triples-requires c κs = (c .before .before .pre .0, c .before .before .pre .1 .rule .leaves-fit, c .before .before .pre .1 .few-outside)
 
 add-division-pairs : tie.Need-add-division-pairs
 add-division-pairs c = let s = c .before .before .before .before in
-    omega (arith, outside-count (scopeOf (s .args .scope)) (s .args .z) (s .args .y) (atoms s) (c .before .outside-triples .ensures), s .pre .1 .few-outside)
+    omega (arith, outside-count (scopeOf (s .args .scope .now)) (s .args .z) (s .args .y) (atoms s) (c .before .outside-triples .ensures), s .pre .1 .few-outside)
 
 division-pairs-requires : tie.Need-division-pairs-requires
 division-pairs-requires c κs = let s = c .before .before .before .before in
-    (s .pre .1 .leaves-fit, s .pre .1 .few-shared, omega (arith, outside-count (scopeOf (s .args .scope)) (s .args .z) (s .args .y) (atoms s) (c .before .outside-triples .ensures), s .pre .1 .few-outside))
+    (s .pre .1 .rule .leaves-fit, s .pre .1 .few-shared, omega (arith, outside-count (scopeOf (s .args .scope .now)) (s .args .z) (s .args .y) (atoms s) (c .before .outside-triples .ensures), s .pre .1 .few-outside))
 
 write-dividend-requires : tie.Need-write-dividend-requires
 write-dividend-requires c κs = let d = c .before .before .before .before .before .before .pre .1 in
-    record { leaves-fit = d .leaves-fit; some-columns = d .some-columns; few-columns = d .few-columns; some-nodes = d .some-nodes; few-shared = d .few-shared; few-outside = d .few-outside; room = room-less _ (d .room) (omega arith) }
+    record {
+      rule = record { leaves-fit = d .rule .leaves-fit; some-columns = d .rule .some-columns; few-columns = d .rule .few-columns; some-nodes = d .rule .some-nodes; room = room-less _ (d .rule .room) (omega arith) };
+      few-shared = d .few-shared;
+      few-outside = d .few-outside;
+    }
 
 sub-divide : tie.Need-sub-divide
-sub-divide c = omega (arith, c .before .before .before .before .before .before .before .before .before .before .pre .1 .some-nodes, c .before .before .before .write-dividend .ensures .counted)
+sub-divide c = omega (arith, c .before .before .before .before .before .before .before .before .before .before .pre .1 .rule .some-nodes, c .before .before .before .write-dividend .ensures .counted)
 
 divide-requires : tie.Need-divide-requires
 divide-requires c κs = let s = c .before .before .before .before .before .before .before .before .before .before in
-    let r = room-after 4 (s .pre .1 .room) (c .before .before .before .write-dividend .ensures) (omega (arith, dividend-size (s .args .y) (s .args .z) (s .args .width) (atoms s) (s .args .n))) in
+    let r = room-after 4 (s .pre .1 .rule .room) (c .before .before .before .write-dividend .ensures) (omega (arith, dividend-size (s .args .y) (s .args .z) (s .args .width) (atoms s) (s .args .n))) in
     (room-less 1 r (omega arith), lists-pairs (pairs s) (pairs-listed (c .before .before .before .before .before)))
 
 semijoin-requires : tie.Need-semijoin-requires
 semijoin-requires c κs = let s = c .before .before .before .before .before .before .before .before .before .before .before .before .before .before in
-    let r = room-after 4 (s .pre .1 .room) (c .before .before .before .before .before .before .before .write-dividend .ensures) (omega (arith, dividend-size (s .args .y) (s .args .z) (s .args .width) (atoms s) (s .args .n))) in
+    let r = room-after 4 (s .pre .1 .rule .room) (c .before .before .before .before .before .before .before .write-dividend .ensures) (omega (arith, dividend-size (s .args .y) (s .args .z) (s .args .width) (atoms s) (s .args .n))) in
     (room-after 1 r (c .before .before .before .divide .ensures) (omega arith), lists-triples (triples s) (c .before .before .before .before .before .before .before .before .before .before .before .outside-triples .ensures))
 
 no-list-requires : tie.Need-no-list-requires
@@ -64,12 +69,12 @@ no-list-requires c κs = tt
 
 antijoin-requires : tie.Need-antijoin-requires
 antijoin-requires c κs = let s = c .before .before .before .before .before .before .before .before .before .before .before .before .before .before .before .before .before .before .before in
-    let r = room-after 4 (s .pre .1 .room) (c .before .before .before .before .before .before .before .before .before .before .before .before .write-dividend .ensures) (omega (arith, dividend-size (s .args .y) (s .args .z) (s .args .width) (atoms s) (s .args .n))) in
+    let r = room-after 4 (s .pre .1 .rule .room) (c .before .before .before .before .before .before .before .before .before .before .before .before .write-dividend .ensures) (omega (arith, dividend-size (s .args .y) (s .args .z) (s .args .width) (atoms s) (s .args .n))) in
     (room-after 1 (room-after 3 r (c .before .before .before .before .before .before .before .before .divide .ensures) (omega arith)) (c .before .before .before .before .semijoin .ensures) (omega arith), lists-triples [] (c .no-list .ensures))
 
 unite-requires : tie.Need-unite-requires
 unite-requires c κs = let s = c .before .before .before .before .before .before .before .before .before .before .before .before .before .before .before .before .before .before .before .before .before .before .before in
-    let r = room-after 4 (s .pre .1 .room) (c .before .before .before .before .before .before .before .before .before .before .before .before .before .before .before .before .write-dividend .ensures) (omega (arith, dividend-size (s .args .y) (s .args .z) (s .args .width) (atoms s) (s .args .n))) in
+    let r = room-after 4 (s .pre .1 .rule .room) (c .before .before .before .before .before .before .before .before .before .before .before .before .before .before .before .before .write-dividend .ensures) (omega (arith, dividend-size (s .args .y) (s .args .z) (s .args .width) (atoms s) (s .args .n))) in
     room-after 1 (room-after 2 (room-after 3 r (c .before .before .before .before .before .before .before .before .before .before .before .before .divide .ensures) (omega arith)) (c .before .before .before .before .before .before .before .before .semijoin .ensures) (omega arith)) (c .before .before .before .antijoin .ensures) (omega arith)
 
 same-length : tie.Need-same-length
@@ -85,8 +90,8 @@ returns c = let s = c .before .before .before .before .before .before .before .b
     (written-as (ap (λ (l : List Triple). antijoin (s .args .p) (s .args .k) l ∷ []) (sym (names-triples [] (c .before .before .before .before .before .before .before .no-list .ensures)))) (c .before .before .before .before .before .before .antijoin .ensures))
     (c .before .before .unite .ensures)
 
-pub write-short-rule-5-spec : {M : Type 1} → statement M
-write-short-rule-5-spec =
+pub write-division-spec : {M : Type 1} → statement M
+write-division-spec =
     tie.close
     (tie.spec
     outside-triples-requires
