@@ -62,9 +62,9 @@ module _ {catalogue scope : List ℕ} where
 
   -- whatever is wanted of a condition that S5 does not fit, it is ready in P's own scope
   pub plain-ready : {plan : List ℕ} {n : ℕ} (wanted : Wanted) (f : Condition) → ((y : ℕ) → shortRule5Fits y f ≡ false) → ConditionReady catalogue plan wanted (onCondition f) scope n → Ready catalogue scope plan f n
-  plain-ready itself f no r = r
-  plain-ready itsOpposite f no r = record { good = r .good .0; fits = r .fits; stored = r .stored; some-nodes = r .some-nodes; room = r .room }
-  plain-ready (divisionBy y k) f no r = absurd (false≢true (sym (no y) ∙ r .good .fits))
+  plain-ready itself f undivided r = r
+  plain-ready itsOpposite f undivided r = record { good = r .good .0; fits = r .fits; stored = r .stored; some-nodes = r .some-nodes; room = r .room }
+  plain-ready (divisionBy y k) f undivided r = absurd (false≢true (sym (undivided y) ∙ r .good .fits))
 
   part-ready : {plan : List ℕ} {n : ℕ} {w : MaybeCondition} (f : Condition) (more : ℕ) → ConditionReady catalogue plan itself w scope n → Good catalogue scope f → 4 * conditionNodes f + more ≤ 4 * maybeNodes w → ReadyWith catalogue scope plan f n more
   unfolding conditionNodes GoodCondition
@@ -164,12 +164,12 @@ module _ (columns : ℕ → ℕ) (short : Bool) where
     opposite-written f e w = written-as (chosen _ _ (short && (shortRule3Fits f || shortRule6Fits f)) e) w
 
 -- an atom, or its opposite (S6); it is never divided
-pub atom-written : {catalogue plan : List ℕ} {scope : List ℕ} {n : ℕ} (wanted : code.Wanted) (a : calculus.Atom) → ConditionReady catalogue plan (wantedIn wanted) (onCondition (calculus.atom a)) scope n → (short : Bool) {p : ℕ} {opposite : Bool} {after : List ℕ} {count : ℕ} → opposite ≡ oppositeWanted wanted
-    → Written plan n (atomNodes opposite (scopeOf scope) p (a)) after count → Written plan n (translateCondition (columnsOf catalogue) short (calculus.atom a) (wantedIn wanted) (scopeOf scope) p n) after count
+pub atom-written : {catalogue plan : List ℕ} {scope : List ℕ} {n : ℕ} (wanted : code.Wanted) (a : calculus.Atom) → ConditionReady catalogue plan (wantedIn wanted) (onCondition (calculus.atom a)) scope n → (short : Bool) (p : ℕ) {opposite : Bool} {after : List ℕ} {count : ℕ} → opposite ≡ oppositeWanted wanted
+    → Written plan n (atomNodes opposite (scopeOf scope) p a) after count → Written plan n (translateCondition (columnsOf catalogue) short (calculus.atom a) (wantedIn wanted) (scopeOf scope) p n) after count
 unfolding translateCondition
-atom-written {scope = scope} Itself a r short {p} e w = written-as (ap (λ (b : Bool). atomNodes b (scopeOf scope) p a) (sym e)) w
-atom-written {scope = scope} Opposite a r short {p} e w = written-as (ap (λ (b : Bool). atomNodes b (scopeOf scope) p a) (sym e)) w
-atom-written (Division y k) a r short e w = absurd (false≢true (r .good .fits))
+atom-written {scope = scope} Itself a r short p e w = written-as (ap (λ (b : Bool). atomNodes b (scopeOf scope) p a) (sym e)) w
+atom-written {scope = scope} Opposite a r short p e w = written-as (ap (λ (b : Bool). atomNodes b (scopeOf scope) p a) (sym e)) w
+atom-written (Division y k) a r short p e w = absurd (false≢true (r .good .fits))
 
 -- the nodes of a part that was handed down by its reference
 part-written : {catalogue scope : List ℕ} (short : Bool) (p : ℕ) (words : List ℕ) (reference : ℕ) {plan after : List ℕ} {n count : ℕ} → Ready catalogue scope plan (conditionAt words reference) n → WritesMaybe (columnsOf catalogue) short itself (scopeOf scope) p plan n (restrictionAt words reference) after count → Writes (columnsOf catalogue) short itself (scopeOf scope) p plan n (conditionAt words reference) after count

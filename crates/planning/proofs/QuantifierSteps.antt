@@ -82,7 +82,7 @@ some-condition (forSome x range f) = omega arith
 some-condition (forEvery x range f) = omega arith
 
 -- What every way asks for: a range that is ready, and room behind it.
-module _ (quantifier : Quantifier) (wanted : Wanted) {catalogue plan scope : List ℕ} {x : ℕ} {range : Range} {f : Condition} {n : ℕ} (r : ConditionReady catalogue plan (wantedIn wanted) (onCondition (quantified quantifier x range f)) scope n) where
+module _ (quantifier : Quantifier) (wanted : Wanted) (x : ℕ) (range : Range) (f : Condition) {catalogue plan scope : List ℕ} {n : ℕ} (r : ConditionReady catalogue plan (wantedIn wanted) (onCondition (quantified quantifier x range f)) scope n) where
   abbrev columns : ℕ → ℕ
   columns = columnsOf catalogue
 
@@ -108,11 +108,11 @@ module _ (quantifier : Quantifier) (wanted : Wanted) {catalogue plan scope : Lis
     room-behind : Room after (made .count) (4 * conditionNodes f + 4)
     room-behind = room-after _ (r .room) (done .written) (omega (arith, quantified-size quantifier x range f, range-size columns short range n))
 
-    pub scope-grows : ScopeFits scope × (1 ≤ made .width) × (columnsIn (scopeOf scope) + made .width ≤ columnLimit)
-    scope-grows = (r .fits, some-columns, few-columns)
+    pub inner-grows : ScopeFits scope × (1 ≤ made .width) × (columnsIn (scopeOf scope) + made .width ≤ columnLimit)
+    inner-grows = (r .fits, some-columns, few-columns)
 
-    pub room-product : Room after (made .count) 1
-    room-product = room-less 1 room-behind (omega arith)
+    pub room-inner : Room after (made .count) 1
+    room-inner = room-less 1 room-behind (omega arith)
 
     -- a short rule above the condition that a reference names
     pub rule-ready : (words : List ℕ) (condition : ℕ) → f ≡ conditionAt words condition → Names words condition → (rule : ShortRule) (y : ℕ) → ruleAtoms rule x y (leaves f) ≡ true → RuleReady words after scope rule x (made .width) condition y (made .count)
@@ -147,47 +147,41 @@ division-behind first s y k z width atoms p n =
     ap (λ dividend. dividend ++ nodes (n + length dividend)) (rule-behind first z width atoms n (λ m. projectNodes true width (pred m) (shortRule5Columns z y atoms)))
     ∙ behind-range first (dividendNodes y z width atoms (n + length first)) n nodes
 
-module _ {catalogue : List ℕ} {short : Bool} {x : ℕ} {range : Range} {f : Condition} {s₀ : calculus.Scope} where
-  abbrev columnsAll : ℕ → ℕ
-  columnsAll = columnsOf catalogue
-
-  abbrev wide : ℕ
-  wide = widthOfRange columnsAll range
-
-  pub rule-way : (quantifier : Quantifier) (wanted : Wanted) (rule : ShortRule) → GoodAs catalogue (wantedIn wanted) (onCondition (quantified quantifier x range f)) s₀ → wayOf short quantifier wanted x f ≡ ByRule rule → RuleWay columnsAll short quantifier wanted x range f 0 0 rule
+module _ (catalogue : List ℕ) (s₀ : calculus.Scope) {short : Bool} {x : ℕ} {range : Range} {f : Condition} where
+  pub rule-way : (quantifier : Quantifier) (wanted : Wanted) (rule : ShortRule) → GoodAs catalogue (wantedIn wanted) (onCondition (quantified quantifier x range f)) s₀ → wayOf short quantifier wanted x f ≡ ByRule rule → RuleWay (columnsOf catalogue) short quantifier wanted x range f 0 0 rule
   unfolding translateCondition
   rule-way Some Itself rule g e = go (short && shortRule2Fits x f) refl e
     where
-      go : (b : Bool) → (short && shortRule2Fits x f) ≡ b → cond b (ByRule S2) Plain ≡ ByRule rule → RuleWay columnsAll short Some Itself x range f 0 0 rule
+      go : (b : Bool) → (short && shortRule2Fits x f) ≡ b → cond b (ByRule S2) Plain ≡ ByRule rule → RuleWay (columnsOf catalogue) short Some Itself x range f 0 0 rule
       go true h e = let same : S2 ≡ rule = cc in
-          subst (RuleWay columnsAll short Some Itself x range f 0 0) same (record {
+          subst (RuleWay (columnsOf catalogue) short Some Itself x range f 0 0) same (record {
             atoms = and-right (isAndTree f) (shortRule2Atoms x (leaves f)) (and-right short (shortRule2Fits x f) h);
-            nodes = λ s p n. chosen _ _ (short && shortRule2Fits x f) h ∙ rule-behind (translateRange columnsAll short range n) x wide (leaves f) n (λ m. semijoin p (pred m) (triplesOf s x (leaves f)) ∷ []);
+            nodes = λ s p n. chosen _ _ (short && shortRule2Fits x f) h ∙ rule-behind (translateRange (columnsOf catalogue) short range n) x (widthOfRange (columnsOf catalogue) range) (leaves f) n (λ m. semijoin p (pred m) (triplesOf s x (leaves f)) ∷ []);
           })
       go false h e = let z : _≡_ {A = ℕ} 0 1 = cc in absurd (omega arith)
   rule-way Some Opposite rule g e = let same : S3 ≡ rule = cc in
-      subst (RuleWay columnsAll short Some Opposite x range f 0 0) same (record {
+      subst (RuleWay (columnsOf catalogue) short Some Opposite x range f 0 0) same (record {
         atoms = and-right (isAndTree f) (shortRule2Atoms x (leaves f)) (or-neither (shortRule2Fits x f) (g .1));
-        nodes = λ s p n. rule-behind (translateRange columnsAll short range n) x wide (leaves f) n (λ m. antijoin p (pred m) (triplesOf s x (leaves f)) ∷ []);
+        nodes = λ s p n. rule-behind (translateRange (columnsOf catalogue) short range n) x (widthOfRange (columnsOf catalogue) range) (leaves f) n (λ m. antijoin p (pred m) (triplesOf s x (leaves f)) ∷ []);
       })
   rule-way Some (Division y k) rule g e = let z : _≡_ {A = ℕ} 0 1 = cc in absurd (omega arith)
   rule-way Every wanted rule g e = go (short && shortRule4Fits x f) refl (short && shortRule5Fits x f) e
     where
-      go : (b : Bool) → (short && shortRule4Fits x f) ≡ b → (d : Bool) → cond b (ByRule S4) (cond d ByDivision Plain) ≡ ByRule rule → RuleWay columnsAll short Every wanted x range f 0 0 rule
+      go : (b : Bool) → (short && shortRule4Fits x f) ≡ b → (d : Bool) → cond b (ByRule S4) (cond d ByDivision Plain) ≡ ByRule rule → RuleWay (columnsOf catalogue) short Every wanted x range f 0 0 rule
       go true h d e = let same : S4 ≡ rule = cc in
-          subst (RuleWay columnsAll short Every wanted x range f 0 0) same (record {
+          subst (RuleWay (columnsOf catalogue) short Every wanted x range f 0 0) same (record {
             atoms = and-right (isOrTree f) (shortRule2Atoms x (leaves f)) (and-right short (shortRule4Fits x f) h);
-            nodes = λ s p n. chosen _ _ (short && shortRule4Fits x f) h ∙ rule-behind (translateRange columnsAll short range n) x wide (map oppositeAtom (leaves f)) n (λ m. antijoin p (pred m) (triplesOf s x (map oppositeAtom (leaves f))) ∷ []);
+            nodes = λ s p n. chosen _ _ (short && shortRule4Fits x f) h ∙ rule-behind (translateRange (columnsOf catalogue) short range n) x (widthOfRange (columnsOf catalogue) range) (map oppositeAtom (leaves f)) n (λ m. antijoin p (pred m) (triplesOf s x (map oppositeAtom (leaves f))) ∷ []);
           })
       go false h true e = let z : _≡_ {A = ℕ} 0 1 = cc in absurd (omega arith)
       go false h false e = let z : _≡_ {A = ℕ} 0 1 = cc in absurd (omega arith)
 
   -- only a "some" below an "every y" is divided
-  pub divisor-way : (quantifier : Quantifier) (wanted : Wanted) (y k : ℕ) → GoodAs catalogue (wantedIn wanted) (onCondition (quantified quantifier x range f)) s₀ → wayOf short quantifier wanted x f ≡ AsDivisor y k → RuleWay columnsAll short quantifier wanted x range f y k S5
+  pub divisor-way : (quantifier : Quantifier) (wanted : Wanted) (y k : ℕ) → GoodAs catalogue (wantedIn wanted) (onCondition (quantified quantifier x range f)) s₀ → wayOf short quantifier wanted x f ≡ AsDivisor y k → RuleWay (columnsOf catalogue) short quantifier wanted x range f y k S5
   unfolding translateCondition
   divisor-way Some Itself y k g e = never (short && shortRule2Fits x f) e
     where
-      never : (b : Bool) → cond b (ByRule S2) Plain ≡ AsDivisor y k → RuleWay columnsAll short Some Itself x range f y k S5
+      never : (b : Bool) → cond b (ByRule S2) Plain ≡ AsDivisor y k → RuleWay (columnsOf catalogue) short Some Itself x range f y k S5
       never true e = let z : _≡_ {A = ℕ} 0 1 = cc in absurd (omega arith)
       never false e = let z : _≡_ {A = ℕ} 0 1 = cc in absurd (omega arith)
   divisor-way Some Opposite y k g e = let z : _≡_ {A = ℕ} 0 1 = cc in absurd (omega arith)
@@ -196,11 +190,11 @@ module _ {catalogue : List ℕ} {short : Bool} {x : ℕ} {range : Range} {f : Co
       let node : j ≡ k = cc in
       record {
         atoms = subst (λ (u : ℕ). shortRule5Atoms x u (leaves f) ≡ true) same (and-right (isAndTree f) (shortRule5Atoms x v (leaves f)) (g .fits));
-        nodes = λ s p n. ap (λ (u : ℕ). shortRule5Nodes s u j x wide (leaves f) (translateRange columnsAll short range n) p n) same ∙ ap (λ (i : ℕ). shortRule5Nodes s y i x wide (leaves f) (translateRange columnsAll short range n) p n) node ∙ division-behind (translateRange columnsAll short range n) s y k x wide (leaves f) p n;
+        nodes = λ s p n. ap (λ (u : ℕ). shortRule5Nodes s u j x (widthOfRange (columnsOf catalogue) range) (leaves f) (translateRange (columnsOf catalogue) short range n) p n) same ∙ ap (λ (i : ℕ). shortRule5Nodes s y i x (widthOfRange (columnsOf catalogue) range) (leaves f) (translateRange (columnsOf catalogue) short range n) p n) node ∙ division-behind (translateRange (columnsOf catalogue) short range n) s y k x (widthOfRange (columnsOf catalogue) range) (leaves f) p n;
       }
   divisor-way Every wanted y k g e = never (short && shortRule4Fits x f) (short && shortRule5Fits x f) e
     where
-      never : (b d : Bool) → cond b (ByRule S4) (cond d ByDivision Plain) ≡ AsDivisor y k → RuleWay columnsAll short Every wanted x range f y k S5
+      never : (b d : Bool) → cond b (ByRule S4) (cond d ByDivision Plain) ≡ AsDivisor y k → RuleWay (columnsOf catalogue) short Every wanted x range f y k S5
       never true d e = let z : _≡_ {A = ℕ} 0 1 = cc in absurd (omega arith)
       never false true e = let z : _≡_ {A = ℕ} 0 1 = cc in absurd (omega arith)
       never false false e = let z : _≡_ {A = ℕ} 0 1 = cc in absurd (omega arith)
@@ -212,14 +206,14 @@ Inner (AsDivisor y k) = ⊥
 Inner ByDivision = Unit {0}
 Inner Plain = Unit {0}
 
-inner-good : (quantifier : Quantifier) (wanted : Wanted) {catalogue : List ℕ} (short : Bool) {x : ℕ} {range : Range} {f : Condition} {s : calculus.Scope} {way : Way} → GoodAs catalogue (wantedIn wanted) (onCondition (quantified quantifier x range f)) s → wayOf short quantifier wanted x f ≡ way → Inner way → Good catalogue f (calculus.extend s x (widthOfRange (columnsOf catalogue) range))
+inner-good : (quantifier : Quantifier) (wanted : Wanted) (catalogue : List ℕ) (short : Bool) (x : ℕ) (range : Range) (f : Condition) (s : calculus.Scope) {way : Way} → GoodAs catalogue (wantedIn wanted) (onCondition (quantified quantifier x range f)) s → wayOf short quantifier wanted x f ≡ way → Inner way → Good catalogue f (calculus.extend s x (widthOfRange (columnsOf catalogue) range))
 unfolding GoodCondition
-inner-good Some Itself {catalogue} short g e i = parts catalogue Some g .inside-good
-inner-good Some Opposite short g e i = absurd (subst Inner (sym e) i)
-inner-good Some (Division y k) short g e i = absurd (subst Inner (sym e) i)
-inner-good Every Itself {catalogue} short g e i = parts catalogue Every g .inside-good
-inner-good Every Opposite {catalogue} short g e i = parts catalogue Every (g .0) .inside-good
-inner-good Every (Division y k) short g e i = absurd (false≢true (g .fits))
+inner-good Some Itself catalogue short x range f s g e i = g .2
+inner-good Some Opposite catalogue short x range f s g e i = absurd (subst Inner (sym e) i)
+inner-good Some (Division y k) catalogue short x range f s g e i = absurd (subst Inner (sym e) i)
+inner-good Every Itself catalogue short x range f s g e i = g .2
+inner-good Every Opposite catalogue short x range f s g e i = g .0 .2
+inner-good Every (Division y k) catalogue short x range f s g e i = absurd (false≢true (g .fits))
 
 module _ (columns : ℕ → ℕ) (short : Bool) (x : ℕ) (range : Range) (f : Condition) where
   pub record DivisionWay (quantifier : Quantifier) (wanted : Wanted) : Type 0 where
@@ -301,7 +295,7 @@ module _ {catalogue : List ℕ} {short : Bool} {plan : List ℕ} {range : Range}
   written-behind : (nodes : ℕ → ℕ → List Node) {end : List ℕ} {count : ℕ} → Written after (made .count) (nodes (made .width) (made .count)) end count → Written plan n (first ++ nodes width (n + length first)) end count
   written-behind nodes w = written-then (done .written) (written-as (ap (λ (k : ℕ). nodes width k) (sym (done .written .counted)) ∙ ap (λ (k : ℕ). nodes k (made .count)) (sym (done .width))) w)
 
-  module _ {quantifier : Quantifier} {wanted : Wanted} {x : ℕ} {f : Condition} (s : calculus.Scope) (p : ℕ) where
+  module _ (quantifier : Quantifier) (wanted : Wanted) (x : ℕ) (f : Condition) (s : calculus.Scope) (p : ℕ) where
     pub rule-done : {y k : ℕ} {rule : ShortRule} → RuleWay (columnsOf catalogue) short quantifier wanted x range f y k rule → {end : List ℕ} {count : ℕ} → Written after (made .count) (ruleNodes rule s y k x (made .width) (leaves f) p (made .count)) end count
         → Written plan n (translateCondition (columnsOf catalogue) short (quantified quantifier x range f) (wantedIn wanted) s p n) end count
     rule-done {y} {k} {rule} way w = written-as (way .nodes s p n) (written-behind (λ v m. ruleNodes rule s y k x v (leaves f) p m) w)
@@ -321,19 +315,19 @@ module _ {catalogue : List ℕ} {short : Bool} {plan : List ℕ} {range : Range}
         written-as (way s p n) (written-then behind (written-as (ap (λ (m : ℕ). keptNodes quantifier (columnsIn s) p q m) total ∙ ap (λ (k : ℕ). keptNodes quantifier (columnsIn s) p k meeting) (sym (done .written .counted)) ∙ ap (λ (c : ℕ). keptNodes quantifier c p (made .count) meeting) (sym e)) w))
 
 -- The condition inside: below the division of S5, or on the product of P with the range.
-module _ (quantifier : Quantifier) (wanted : Wanted) {catalogue plan scope : List ℕ} {x : ℕ} {range : Range} (words : List ℕ) (condition : ℕ) {n : ℕ} (r : ConditionReady catalogue plan (wantedIn wanted) (onCondition (quantified quantifier x range (conditionAt words condition))) scope n) {short : Bool} {after : List ℕ} {made : MadeRange} (done : RangeDone catalogue short plan range n after made) where
+module _ (quantifier : Quantifier) (wanted : Wanted) (x : ℕ) (range : Range) (words : List ℕ) (condition : ℕ) {catalogue plan scope : List ℕ} {n : ℕ} (r : ConditionReady catalogue plan (wantedIn wanted) (onCondition (quantified quantifier x range (conditionAt words condition))) scope n) {short : Bool} {after : List ℕ} {made : MadeRange} (done : RangeDone catalogue short plan range n after made) where
   abbrev inner : Condition
   inner = conditionAt words condition
 
   module _ {way : Way} (e : wayOf short quantifier wanted x inner ≡ way) (i : Inner way) where
     good-inside : Good catalogue inner (calculus.extend (scopeOf scope) x (widthOfRange (columnsOf catalogue) range))
-    good-inside = inner-good quantifier wanted short (r .good) e i
+    good-inside = inner-good quantifier wanted catalogue short x range inner (scopeOf scope) (r .good) e i
 
     pub restricts : restrictionAt words condition ≡ onCondition inner
     restricts = restriction-good (columnsOf catalogue) (relationsOf catalogue) (calculus.extend (scopeOf scope) x (widthOfRange (columnsOf catalogue) range)) words condition good-inside
 
     room-inside : Room after (made .count) (4 * conditionNodes inner + 4)
-    room-inside = room-behind quantifier wanted r done
+    room-inside = room-behind quantifier wanted x range inner r done
 
     pub divided-ready : (k : ℕ) → shortRule5Fits x inner ≡ true → ConditionReady catalogue after (divisionBy x k) (restrictionAt words condition) scope (made .count)
     unfolding GoodMaybe maybeNodes

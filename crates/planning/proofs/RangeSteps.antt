@@ -68,11 +68,11 @@ module _ (columns : ℕ → ℕ) where
   sides-wide Intersect a b = refl
   sides-wide Subtract a b = refl
 
-  sides-good : (how : Pairing) {relations : ℕ} (a b : Range) → GoodRange columns relations (rangesBy how a b) → GoodRange columns relations a × GoodRange columns relations b
+  sides-good : (how : Pairing) (relations : ℕ) (a b : Range) → GoodRange columns relations (rangesBy how a b) → GoodRange columns relations a × GoodRange columns relations b
   unfolding GoodRange
-  sides-good Unite a b g = (g .0, g .1)
-  sides-good Intersect a b g = (g .0, g .1)
-  sides-good Subtract a b g = (g .0, g .1)
+  sides-good Unite relations a b g = (g .0, g .1)
+  sides-good Intersect relations a b g = (g .0, g .1)
+  sides-good Subtract relations a b g = (g .0, g .1)
 
   sides-nodes : (how : Pairing) (short : Bool) (a b : Range) (n : ℕ) → translateRange columns short (rangesBy how a b) n ≡ plainSides (paired how) (λ m. translateRange columns short a m) (λ m. translateRange columns short b m) n
   unfolding translateRange
@@ -81,7 +81,7 @@ module _ (columns : ℕ → ℕ) where
   sides-nodes Subtract short a b n = refl
 
 -- from what the whole was asked with: the calls on the two sides, room for the node behind them, and what is left
-module _ (how : Pairing) {catalogue words plan : List ℕ} {t n left right : ℕ} (asked : (2 * max left right + 1 ≡ t) × (Names words left × Names words right × RangeReady catalogue plan (rangesBy how (rangeAt words left) (rangeAt words right)) n)) where
+module _ (how : Pairing) (words : List ℕ) (left right : ℕ) {catalogue plan : List ℕ} {t n : ℕ} (asked : (2 * max left right + 1 ≡ t) × (Names words left × Names words right × RangeReady catalogue plan (rangesBy how (rangeAt words left) (rangeAt words right)) n)) where
   abbrev columns : ℕ → ℕ
   columns = columnsOf catalogue
 
@@ -95,7 +95,7 @@ module _ (how : Pairing) {catalogue words plan : List ℕ} {t n left right : ℕ
   ready = asked .1 .2
 
   good : GoodRange columns (relationsOf catalogue) a × GoodRange columns (relationsOf catalogue) b
-  good = sides-good columns how a b (ready .good)
+  good = sides-good columns how (relationsOf catalogue) a b (ready .good)
 
   pub call-left : (2 * left < t) × (Names words left × RangeReady catalogue plan a n)
   call-left = (omega (arith, asked .0), (asked .1 .0, record { good = good .0; stored = ready .stored; room = room-less _ (ready .room) (omega (arith, sides-size columns how a b)) }))
