@@ -12,7 +12,7 @@ use borrow.Author.Tests.{leb-true}
 use denote.Enum.Declared.{tagOf}
 use types.Run.{OneOf, miss}
 use Rattle.relations.specs.Limits.{columnLimit, questionNodeLimit, questionNodeWords, variableCount, operatorCount}
-use Rattle.relations.specs.Comparison.{operatorNumber}
+use Rattle.relations.specs.Comparison.{operatorNumber, operatorNamed}
 use Rattle.relations.specs.Lists.{All}
 use Rattle.relations.proofs.ListLaws.{all-append}
 use Rattle.relations.proofs.StoreLaws.{sets-append}
@@ -32,7 +32,7 @@ use Rattle.nodes.proofs.node.Node.{the-type}
 use Rattle.nodes.proofs.Forms.{first-of, second-of, third-of}
 use Rattle.question.proofs.TreeLaws.{tree-of-reference}
 use Rattle.conditions.specs.Entries.{entries}
-use Rattle.conditions.specs.Atoms.{operatorNamed, OperandNarrow, AtomNarrow}
+use Rattle.conditions.specs.Atoms.{OperandNarrow, AtomNarrow}
 use Rattle.conditions.specs.Leaves.{emptyAtom, atomIn, leafOf, numbersBelow, leafNumbers, leafWords, leafCount, withLeaves, isTree, leafNumbered, leafAt, atomsOf, LeavesFit, Collectable}
 use Rattle.conditions.specs.Readings.{Names, conditionAt}
 use Rattle.conditions.proofs.Readings.{readingIn, fits-in, condition-is, Part, and-parts, or-parts}

@@ -9,12 +9,12 @@ ghost use Rattle.conditions.specs.Readings.{conditionAt};
 ghost use Rattle.conditions.specs.Leaves.{atomIn, leafCount, leafAt, LeavesFit, Collectable, leafNumbers, withLeaves, isTree};
 use crate::atom::opposite_atom;
 use nodes::node::Atom;
-use nodes::node::Attribute;
-use nodes::node::Constant;
 use nodes::node::Node;
 use nodes::node::Operand;
 use nodes::node::decode;
 use relations::limits::QUESTION_NODES;
+use terms::attribute::Attribute;
+use terms::constant::Constant;
 
 // How many leaves there are, then their numbers.
 pub const LEAF_WORDS: usize = 1 + QUESTION_NODES;

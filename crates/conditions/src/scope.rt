@@ -4,8 +4,8 @@ ghost use Prim.Native.Nat.{_+_, _≤_};
 ghost use Rattle.relations.specs.Limits.{columnLimit};
 ghost use Rattle.calculus.specs.Scope.{columnsIn, widthIn, columnNumber};
 ghost use Rattle.conditions.specs.Scopes.{scopeOf, ScopeFits, Extended};
-use nodes::node::Attribute;
 use relations::limits::COLUMNS;
+use terms::attribute::Attribute;
 
 // How many variables there are, the sum of their widths, then each variable with its width.
 pub const SCOPE_WORDS: usize = 2 + 2 * COLUMNS;

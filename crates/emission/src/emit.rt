@@ -14,13 +14,13 @@ ghost use Rattle.emission.specs.Written.{Room, Written};
 use crate::node_list::NodeList;
 use crate::node_list::no_list;
 use crate::node_list::with_columns;
-use nodes::node::Attribute;
-use nodes::node::Constant;
 use relations::limits::HEAD_WORDS;
 use relations::limits::LIST_WORDS;
 use relations::limits::PAIR_WORDS;
 use relations::limits::PLAN_NODE_WORDS;
 use relations::limits::TRIPLE_WORDS;
+use terms::attribute::Attribute;
+use terms::constant::Constant;
 
 // A list's word; 0 behind its end.
 fn word_at(list: &[u32], place: usize) -> u32

@@ -1,11 +1,11 @@
 // When each of the short rules fits.
 ghost use mathlib.Core.Path.{_≡_};
-ghost use mathlib.Core.Bool.{false, cond, _&&_, _||_};
+ghost use mathlib.Core.Bool.{false, cond, _&&_};
 ghost use Prim.Native.Nat.{_≤_};
 ghost use Rattle.relations.specs.Limits.{listWords, questionNodeLimit};
 ghost use Rattle.calculus.specs.Question as calculus;
 ghost use Rattle.calculus.specs.Leaves.{leaves};
-ghost use Rattle.calculus.specs.ShortRules.{shortRule1Fits, shortRule2Atoms, shortRule3Fits, shortRule5Atoms, shortRule5Fits, shortRule6Fits};
+ghost use Rattle.calculus.specs.ShortRules.{shortRule1Fits, shortRule2Atoms, shortRule5Atoms, shortRule5Fits};
 ghost use Rattle.conditions.specs.Readings.{Names, conditionAt};
 ghost use Rattle.conditions.specs.Leaves.{isTree, atomsOf, LeavesFit};
 ghost use Rattle.emission.specs.NodeLists.{attributesIn};
@@ -108,30 +108,6 @@ fn tree_fits(words: &[u32], disjoined: bool, x: u32, reference: u32) -> bool
     tree & short_rule_2_atoms(words, x, &leaves)
 }
 
-// S3 or S6 fits a "not" above the condition that a reference names.
-fn opposite_fits(words: &[u32], reference: u32) -> bool
-    requires { ⌜ Names (now words) reference × (calculus.conditionNodes (conditionAt (now words) reference) ≤ questionNodeLimit) ⌝ }
-    ensures { λ r. ⌜ r ≡ (shortRule3Fits (conditionAt (now (words .entry)) reference) || shortRule6Fits (conditionAt (now (words .entry)) reference)) ⌝ }
-{
-    let node = decode(words, (reference - 1) as usize);
-    match node {
-        Node::Some {
-            variable,
-            range: _,
-            condition,
-        } => tree_fits(words, false, variable, condition),
-        Node::And { left: _, right: _ } => false,
-        Node::Or { left: _, right: _ } => false,
-        Node::Not { inner: _ } => false,
-        Node::Every {
-            variable: _,
-            range: _,
-            condition: _,
-        } => false,
-        _ => true,
-    }
-}
-
 // S5 fits an "every y" above the condition that a reference names.
 fn division_fits(words: &[u32], y: u32, reference: u32) -> bool
     requires { ⌜ Names (now words) reference × (calculus.conditionNodes (conditionAt (now words) reference) ≤ questionNodeLimit) ⌝ }
@@ -160,14 +136,33 @@ pub enum ShortRule {
     S5,
 }
 
-// The rule fits above the condition that a reference names. One function answers for all of them, so that no caller's frame holds their leaves.
+// The rule fits above the condition that a reference names. S3 is S2 of the "some" below the "not"; S6 fits every atom there. One function answers for all
+// of them and calls itself, so that no caller's frame holds their leaves: the compiler inlines no such function.
 pub fn rule_fits(words: &[u32], rule: ShortRule, x: u32, reference: u32) -> bool
     requires { ⌜ Names (now words) reference × (calculus.conditionNodes (conditionAt (now words) reference) ≤ questionNodeLimit) ⌝ }
     ensures { λ r. ⌜ r ≡ ruleFits rule x (conditionAt (now (words .entry)) reference) ⌝ }
 {
     match rule {
         ShortRule::S2 => tree_fits(words, false, x, reference),
-        ShortRule::S3 => opposite_fits(words, reference),
+        ShortRule::S3 => {
+            let node = decode(words, (reference - 1) as usize);
+            match node {
+                Node::Some {
+                    variable,
+                    range: _,
+                    condition,
+                } => rule_fits(words, ShortRule::S2, variable, condition),
+                Node::And { left: _, right: _ } => false,
+                Node::Or { left: _, right: _ } => false,
+                Node::Not { inner: _ } => false,
+                Node::Every {
+                    variable: _,
+                    range: _,
+                    condition: _,
+                } => false,
+                _ => true,
+            }
+        }
         ShortRule::S4 => tree_fits(words, true, x, reference),
         ShortRule::S5 => division_fits(words, x, reference),
     }

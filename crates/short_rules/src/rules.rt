@@ -37,12 +37,12 @@ use conditions::scope::SCOPE_WORDS;
 use conditions::scope::column_of;
 use conditions::scope::extend;
 use emission::emit::Comparand;
-use emission::emit::antijoin;
-use emission::emit::divide;
+use emission::emit::Linking;
+use emission::emit::Pairing;
+use emission::emit::link;
+use emission::emit::pair;
 use emission::emit::project;
 use emission::emit::select;
-use emission::emit::semijoin;
-use emission::emit::unite;
 use emission::node_list::NodeList;
 use emission::node_list::no_list;
 use emission::node_list::with_pair_if;
@@ -50,8 +50,8 @@ use emission::node_list::with_triple;
 use emission::node_list::with_triple_if;
 use emission::node_list::with_word_if;
 use nodes::node::Atom;
-use nodes::node::Attribute;
 use nodes::node::Operand;
+use terms::attribute::Attribute;
 
 // Atom: select. A select keeps the atom's sides.
 fn write_select(scope: &[u32; SCOPE_WORDS], atom: Atom, p: u32, plan: &mut [u32], n: u32) -> u32
@@ -190,9 +190,9 @@ fn write_join(
     let triples = triples_of(words, scope, x, leaves, opposite);
     let count = write_own_selects(words, x, width, leaves, opposite, plan, n);
     if anti {
-        return antijoin(plan, count, p, count - 1, triples);
+        return link(plan, count, Linking::Antijoin, p, count - 1, triples);
     }
-    semijoin(plan, count, p, count - 1, triples)
+    link(plan, count, Linking::Semijoin, p, count - 1, triples)
 }
 
 // Atom: select. S6, not above an atom, selects its opposite.
@@ -352,10 +352,10 @@ fn write_division(
     let triples = outside_triples(words, scope, z, y, leaves);
     let pairs = division_pairs(words, z, y, leaves, triples.used / 3 + 1);
     let q = write_dividend(words, y, z, width, leaves, plan, n);
-    let divided = divide(plan, q, q - 1, k, pairs);
-    let matched = semijoin(plan, divided, p, q, triples);
-    let unmatched = antijoin(plan, matched, p, k, no_list());
-    unite(plan, unmatched, divided, matched)
+    let divided = link(plan, q, Linking::Divide, q - 1, k, pairs);
+    let matched = link(plan, divided, Linking::Semijoin, p, q, triples);
+    let unmatched = link(plan, matched, Linking::Antijoin, p, k, no_list());
+    pair(plan, unmatched, Pairing::Unite, divided, matched)
 }
 
 // What a rule that fits writes behind the range of x, which stands before node n: S2 for "some x", S3 for a "not" above it, S4 for "every x", each above the

@@ -5,7 +5,7 @@ use Rattle.short_rules.proofs.RuleLaws.{not-false, three, triple-turned
 use Rattle.emission.proofs.NodeListLaws.{grown-none}
 use Rattle.emission.specs.NodeLists.{grownBy}
 use Rattle.conditions.specs.Scopes.{scopeOf}
-use Rattle.conditions.specs.Atoms.{operatorNamed}
+use Rattle.relations.specs.Comparison.{operatorNamed}
 use Rattle.question.specs.Trees.{operandOf, atomOf}
 use Rattle.calculus.specs.Scope.{columnNumber}
 use Rattle.relations.specs.Columns.{attribute}

@@ -51,44 +51,44 @@ write-dividend-requires c κs = let d = c .before .before .before .before .befor
       few-outside = d .few-outside;
     }
 
-sub-divide : tie.Need-sub-divide
-sub-divide c = omega (arith, c .before .before .before .before .before .before .before .before .before .before .pre .1 .rule .some-nodes, c .before .before .before .write-dividend .ensures .counted)
+sub-link : tie.Need-sub-link
+sub-link c = omega (arith, c .before .before .before .before .before .before .before .before .before .before .pre .1 .rule .some-nodes, c .before .before .before .write-dividend .ensures .counted)
 
-divide-requires : tie.Need-divide-requires
-divide-requires c κs = let s = c .before .before .before .before .before .before .before .before .before .before in
+link-requires : tie.Need-link-requires
+link-requires c κs = let s = c .before .before .before .before .before .before .before .before .before .before in
     let r = room-after 4 (s .pre .1 .rule .room) (c .before .before .before .write-dividend .ensures) (omega (arith, dividend-size (s .args .y) (s .args .z) (s .args .width) (atoms s) (s .args .n))) in
     (room-less 1 r (omega arith), lists-pairs (pairs s) (pairs-listed (c .before .before .before .before .before)))
 
-semijoin-requires : tie.Need-semijoin-requires
-semijoin-requires c κs = let s = c .before .before .before .before .before .before .before .before .before .before .before .before .before .before in
+link-requires-2 : tie.Need-link-requires-2
+link-requires-2 c κs = let s = c .before .before .before .before .before .before .before .before .before .before .before .before .before .before in
     let r = room-after 4 (s .pre .1 .rule .room) (c .before .before .before .before .before .before .before .write-dividend .ensures) (omega (arith, dividend-size (s .args .y) (s .args .z) (s .args .width) (atoms s) (s .args .n))) in
-    (room-after 1 r (c .before .before .before .divide .ensures) (omega arith), lists-triples (triples s) (c .before .before .before .before .before .before .before .before .before .before .before .outside-triples .ensures))
+    (room-after 1 r (c .before .before .before .link .ensures) (omega arith), lists-triples (triples s) (c .before .before .before .before .before .before .before .before .before .before .before .outside-triples .ensures))
 
 no-list-requires : tie.Need-no-list-requires
 no-list-requires c κs = tt
 
-antijoin-requires : tie.Need-antijoin-requires
-antijoin-requires c κs = let s = c .before .before .before .before .before .before .before .before .before .before .before .before .before .before .before .before .before .before .before in
+link-requires-3 : tie.Need-link-requires-3
+link-requires-3 c κs = let s = c .before .before .before .before .before .before .before .before .before .before .before .before .before .before .before .before .before .before .before in
     let r = room-after 4 (s .pre .1 .rule .room) (c .before .before .before .before .before .before .before .before .before .before .before .before .write-dividend .ensures) (omega (arith, dividend-size (s .args .y) (s .args .z) (s .args .width) (atoms s) (s .args .n))) in
-    (room-after 1 (room-after 3 r (c .before .before .before .before .before .before .before .before .divide .ensures) (omega arith)) (c .before .before .before .before .semijoin .ensures) (omega arith), lists-triples [] (c .no-list .ensures))
+    (room-after 1 (room-after 3 r (c .before .before .before .before .before .before .before .before .link .ensures) (omega arith)) (c .before .before .before .before .link2 .ensures) (omega arith), lists-triples [] (c .no-list .ensures))
 
-unite-requires : tie.Need-unite-requires
-unite-requires c κs = let s = c .before .before .before .before .before .before .before .before .before .before .before .before .before .before .before .before .before .before .before .before .before .before .before in
+pair-requires : tie.Need-pair-requires
+pair-requires c κs = let s = c .before .before .before .before .before .before .before .before .before .before .before .before .before .before .before .before .before .before .before .before .before .before .before in
     let r = room-after 4 (s .pre .1 .rule .room) (c .before .before .before .before .before .before .before .before .before .before .before .before .before .before .before .before .write-dividend .ensures) (omega (arith, dividend-size (s .args .y) (s .args .z) (s .args .width) (atoms s) (s .args .n))) in
-    room-after 1 (room-after 2 (room-after 3 r (c .before .before .before .before .before .before .before .before .before .before .before .before .divide .ensures) (omega arith)) (c .before .before .before .before .before .before .before .before .semijoin .ensures) (omega arith)) (c .before .before .before .antijoin .ensures) (omega arith)
+    room-after 1 (room-after 2 (room-after 3 r (c .before .before .before .before .before .before .before .before .before .before .before .before .link .ensures) (omega arith)) (c .before .before .before .before .before .before .before .before .link2 .ensures) (omega arith)) (c .before .before .before .link3 .ensures) (omega arith)
 
 same-length : tie.Need-same-length
-same-length c = (((c .before .before .unite .kept .0 ∙ c .before .before .before .before .before .before .antijoin .kept .0) ∙ c .before .before .before .before .before .before .before .before .before .before .before .semijoin .kept .0) ∙ c .before .before .before .before .before .before .before .before .before .before .before .before .before .before .before .divide .kept .0) ∙ c .before .before .before .before .before .before .before .before .before .before .before .before .before .before .before .before .before .before .before .write-dividend .kept .1 .1 .1 .1 .1 .0
+same-length c = (((c .before .before .pair .kept .0 ∙ c .before .before .before .before .before .before .link3 .kept .0) ∙ c .before .before .before .before .before .before .before .before .before .before .before .link2 .kept .0) ∙ c .before .before .before .before .before .before .before .before .before .before .before .before .before .before .before .link .kept .0) ∙ c .before .before .before .before .before .before .before .before .before .before .before .before .before .before .before .before .before .before .before .write-dividend .kept .1 .1 .1 .1 .1 .0
 
 returns : tie.Need-returns
 returns c = let s = c .before .before .before .before .before .before .before .before .before .before .before .before .before .before .before .before .before .before .before .before .before .before .before .before .before .before in
     let q = c .before .before .before .before .before .before .before .before .before .before .before .before .before .before .before .before .before .before .before .write-dividend .result in
     division-written
     (c .before .before .before .before .before .before .before .before .before .before .before .before .before .before .before .before .before .before .before .write-dividend .ensures)
-    (written-as (ap (λ (l : List Pair). divide (q - 1) (s .args .k) l ∷ []) (sym (names-pairs (pairs s) (pairs-listed (c .before .before .before .before .before .before .before .before .before .before .before .before .before .before .before .before .before .before .before .before .before))))) (c .before .before .before .before .before .before .before .before .before .before .before .before .before .before .before .divide .ensures))
-    (written-as (ap (λ (l : List Triple). semijoin (s .args .p) q l ∷ []) (sym (names-triples (triples s) (c .before .before .before .before .before .before .before .before .before .before .before .before .before .before .before .before .before .before .before .before .before .before .before .outside-triples .ensures)))) (c .before .before .before .before .before .before .before .before .before .before .before .semijoin .ensures))
-    (written-as (ap (λ (l : List Triple). antijoin (s .args .p) (s .args .k) l ∷ []) (sym (names-triples [] (c .before .before .before .before .before .before .before .no-list .ensures)))) (c .before .before .before .before .before .before .antijoin .ensures))
-    (c .before .before .unite .ensures)
+    (written-as (ap (λ (l : List Pair). divide (q - 1) (s .args .k) l ∷ []) (sym (names-pairs (pairs s) (pairs-listed (c .before .before .before .before .before .before .before .before .before .before .before .before .before .before .before .before .before .before .before .before .before))))) (c .before .before .before .before .before .before .before .before .before .before .before .before .before .before .before .link .ensures))
+    (written-as (ap (λ (l : List Triple). semijoin (s .args .p) q l ∷ []) (sym (names-triples (triples s) (c .before .before .before .before .before .before .before .before .before .before .before .before .before .before .before .before .before .before .before .before .before .before .before .outside-triples .ensures)))) (c .before .before .before .before .before .before .before .before .before .before .before .link2 .ensures))
+    (written-as (ap (λ (l : List Triple). antijoin (s .args .p) (s .args .k) l ∷ []) (sym (names-triples [] (c .before .before .before .before .before .before .before .no-list .ensures)))) (c .before .before .before .before .before .before .link3 .ensures))
+    (c .before .before .pair .ensures)
 
 pub write-division-spec : {M : Type 1} → statement M
 write-division-spec =
@@ -98,11 +98,11 @@ write-division-spec =
     add-division-pairs
     division-pairs-requires
     write-dividend-requires
-    sub-divide
-    divide-requires
-    semijoin-requires
+    sub-link
+    link-requires
+    link-requires-2
     no-list-requires
-    antijoin-requires
-    unite-requires
+    link-requires-3
+    pair-requires
     same-length
     returns)

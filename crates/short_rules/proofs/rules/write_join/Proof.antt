@@ -21,11 +21,11 @@ write-own-selects-requires : tie.Need-write-own-selects-requires
 write-own-selects-requires c κs = let s = c .before .before .before .before in
     (s .pre .1 .leaves-fit, s .pre .1 .some-columns, s .pre .1 .few-columns, s .pre .1 .some-nodes, room-less _ (s .pre .1 .room) (omega arith))
 
-sub-antijoin : tie.Need-sub-antijoin
-sub-antijoin c = omega arith
+sub-link : tie.Need-sub-link
+sub-link c = omega arith
 
-antijoin-requires : tie.Need-antijoin-requires
-antijoin-requires c κs = let s = c .before .before .before .before .before .before .before .before .before in
+link-requires : tie.Need-link-requires
+link-requires c κs = let s = c .before .before .before .before .before .before .before .before .before in
     (room-after 1 (s .pre .1 .room) (c .before .before .before .before .write-own-selects .ensures) (omega (arith, behind-size (s .args .x) (s .args .width) (atomsOf (s .args .words .now) (s .args .opposite) (s .args .leaves .now)) (s .args .n))), lists-triples (triplesOf (scopeOf (s .args .scope .now)) (s .args .x) (atomsOf (s .args .words .now) (s .args .opposite) (s .args .leaves .now))) (c .before .before .before .before .before .before .triples-of .ensures))
 
 same-length : tie.Need-same-length
@@ -35,13 +35,13 @@ returns : tie.Need-returns
 returns c = let s = c .before .before .before .before .before .before .before .before .before .before .before .before in
     let ts = triplesOf (scopeOf (s .args .scope .now)) (s .args .x) (atomsOf (s .args .words .now) (s .args .opposite) (s .args .leaves .now)) in
     let w = c .before .before .before .before .before .before .before .write-own-selects .ensures in
-    rw (c .before .before .before .before .if1 .taken) (written-then w (written-as (ap₂ (λ (m : ℕ) (l : List Triple). antijoin (s .args .p) m l ∷ []) (last-is w) (sym (names-triples ts (c .before .before .before .before .before .before .before .before .before .triples-of .ensures)))) (c .before .before .antijoin .ensures)))
+    rw (c .before .before .before .before .if1 .taken) (written-then w (written-as (ap₂ (λ (m : ℕ) (l : List Triple). antijoin (s .args .p) m l ∷ []) (last-is w) (sym (names-triples ts (c .before .before .before .before .before .before .before .before .before .triples-of .ensures)))) (c .before .before .link .ensures)))
 
-sub-semijoin : tie.Need-sub-semijoin
-sub-semijoin c = omega arith
+sub-link-2 : tie.Need-sub-link-2
+sub-link-2 c = omega arith
 
-semijoin-requires : tie.Need-semijoin-requires
-semijoin-requires c κs = let s = c .before .before .before .before .before .before .before .before .before in
+link-requires-2 : tie.Need-link-requires-2
+link-requires-2 c κs = let s = c .before .before .before .before .before .before .before .before .before in
     (room-after 1 (s .pre .1 .room) (c .before .before .before .before .write-own-selects .ensures) (omega (arith, behind-size (s .args .x) (s .args .width) (atomsOf (s .args .words .now) (s .args .opposite) (s .args .leaves .now)) (s .args .n))), lists-triples (triplesOf (scopeOf (s .args .scope .now)) (s .args .x) (atomsOf (s .args .words .now) (s .args .opposite) (s .args .leaves .now))) (c .before .before .before .before .before .before .triples-of .ensures))
 
 same-length-2 : tie.Need-same-length-2
@@ -51,7 +51,7 @@ returns-2 : tie.Need-returns-2
 returns-2 c = let s = c .before .before .before .before .before .before .before .before .before .before .before .before in
     let ts = triplesOf (scopeOf (s .args .scope .now)) (s .args .x) (atomsOf (s .args .words .now) (s .args .opposite) (s .args .leaves .now)) in
     let w = c .before .before .before .before .before .before .before .write-own-selects .ensures in
-    rw (c .before .before .before .before .if1 .left) (written-then w (written-as (ap₂ (λ (m : ℕ) (l : List Triple). semijoin (s .args .p) m l ∷ []) (last-is w) (sym (names-triples ts (c .before .before .before .before .before .before .before .before .before .triples-of .ensures)))) (c .before .before .semijoin .ensures)))
+    rw (c .before .before .before .before .if1 .left) (written-then w (written-as (ap₂ (λ (m : ℕ) (l : List Triple). semijoin (s .args .p) m l ∷ []) (last-is w) (sym (names-triples ts (c .before .before .before .before .before .before .before .before .before .triples-of .ensures)))) (c .before .before .link2 .ensures)))
 
 pub write-join-spec : {M : Type 1} → statement M
 write-join-spec =
@@ -59,11 +59,11 @@ write-join-spec =
     (tie.spec
     triples-of-requires
     write-own-selects-requires
-    sub-antijoin
-    antijoin-requires
+    sub-link
+    link-requires
     same-length
     returns
-    sub-semijoin
-    semijoin-requires
+    sub-link-2
+    link-requires-2
     same-length-2
     returns-2)

@@ -1,7 +1,7 @@
 use Rattle.emission.proofs.WrittenLaws.{written-as}
 use Rattle.conditions.proofs.AtomLaws.{read}
 use Rattle.conditions.specs.Scopes.{scopeOf}
-use Rattle.conditions.specs.Atoms.{operatorNamed}
+use Rattle.relations.specs.Comparison.{operatorNamed}
 use Rattle.calculus.specs.ShortRules.{selectNode}
 use Rattle.calculus.specs.Question as calculus
 use Rattle.relations.specs.Nodes.{selectConstant, selectAttribute}
