@@ -184,31 +184,3 @@ pub fn link(plan: &mut [u32], n: u32, how: Linking, left: u32, right: u32, list:
         &words,
     )
 }
-
-pub fn semijoin(plan: &mut [u32], n: u32, left: u32, right: u32, triples: NodeList) -> u32
-    requires { ⌜ Room (now plan) n 1 × ListsTriples triples ⌝ }
-    ensures { λ r. ⌜ Written (now (plan .entry)) n (nodes.semijoin left right (triplesIn triples) ∷ []) (now (plan .exit)) r ⌝ }
-{
-    link(plan, n, Linking::Semijoin, left, right, triples)
-}
-
-pub fn antijoin(plan: &mut [u32], n: u32, left: u32, right: u32, triples: NodeList) -> u32
-    requires { ⌜ Room (now plan) n 1 × ListsTriples triples ⌝ }
-    ensures { λ r. ⌜ Written (now (plan .entry)) n (nodes.antijoin left right (triplesIn triples) ∷ []) (now (plan .exit)) r ⌝ }
-{
-    link(plan, n, Linking::Antijoin, left, right, triples)
-}
-
-pub fn divide(plan: &mut [u32], n: u32, left: u32, right: u32, pairs: NodeList) -> u32
-    requires { ⌜ Room (now plan) n 1 × ListsPairs pairs ⌝ }
-    ensures { λ r. ⌜ Written (now (plan .entry)) n (nodes.divide left right (pairsIn pairs) ∷ []) (now (plan .exit)) r ⌝ }
-{
-    link(plan, n, Linking::Divide, left, right, pairs)
-}
-
-pub fn unite(plan: &mut [u32], n: u32, left: u32, right: u32) -> u32
-    requires { ⌜ Room (now plan) n 1 ⌝ }
-    ensures { λ r. ⌜ Written (now (plan .entry)) n (nodes.unite left right ∷ []) (now (plan .exit)) r ⌝ }
-{
-    pair(plan, n, Pairing::Unite, left, right)
-}
