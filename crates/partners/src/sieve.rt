@@ -78,9 +78,10 @@ fn range_of(operator: Operator, word: u32) -> Range
     }
 }
 
-// The entry of a column, as far as can be told by looking at them one after another; or how many there are.
+// The first entry of a column, or how many entries there are. It is a hint: whoever asks looks at the entry.
 pub fn likely_entry(sieve: &[usize], count: usize, column: usize) -> usize
     requires { ⌜ count * 4 ≤ length (now sieve) ⌝ }
+    ensures { λ r. ⌜ Unit {0} ⌝ }
 {
     let mut at: usize = 0;
     let mut i: usize = 0;
