@@ -1,3 +1,1 @@
--- In reading order.
-pub mod Keys
 pub mod Joins

@@ -1,4 +1,2 @@
-// The operations that set a left row beside right rows: join, semijoin and antijoin. A sieve of the left row tells which right rows it meets, and bounds where they can stand.
+// Operation 5: a left row beside the right rows that it meets.
 pub mod join;
-pub mod keyed;
-pub mod wanted;

@@ -2,3 +2,4 @@
 pub mod RangeLaws
 pub mod SieveLaws
 pub mod BoundSteps
+pub mod RestLaws

@@ -10,7 +10,7 @@ use Rattle.values.proofs.RowsLaws.{times-step, times-most}
 use Rattle.values.proofs.BoundLaws.{ascending-from, ascending-next, filter-behind-words}
 use Rattle.joining.specs.Joins.{joined}
 use Rattle.partners.specs.Sieves.{sifts}
-use Rattle.joining.proofs.RestLaws.{times-rest}
+use Rattle.partners.proofs.RestLaws.{times-rest}
 use Rattle.operations.proofs.FillSteps.{builds-by, filled-row}
 use Rattle.joining.proofs.JoinLaws.{joined-step, pair-now}
 use Rattle.operations.proofs.RowSteps.{no-rows}

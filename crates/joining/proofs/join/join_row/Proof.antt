@@ -5,7 +5,7 @@ use lib.Seq.{length-take-le}
 use Rattle.relations.specs.Rows.{Row}
 use Rattle.values.specs.Words.{rowIn, rowsAt, rowsOf}
 use Rattle.operations.proofs.FillSteps.{builds-by}
-use Rattle.joining.proofs.RestLaws.{filter-through}
+use Rattle.partners.proofs.RestLaws.{filter-through}
 use native.Mathlib.Omega.{arith}
 use borrow.Author.Needs.{needs}
 use Rattle.joining.proofs.join.join_row.Statement.{statement}

@@ -1,0 +1,4 @@
+-- In reading order.
+pub mod WantedLaws
+pub mod KeyLaws
+pub mod TriedLaws
