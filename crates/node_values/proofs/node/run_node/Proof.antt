@@ -1,19 +1,19 @@
 use Rattle.relations.specs.PlanWords.{readNode}
 use Rattle.catalogue.specs.Stored.{relationsOf, columnsOf}
-use Rattle.running.proofs.NodeLaws.{width-read, weight-read, makes-told, no-node}
+use Rattle.node_values.proofs.NodeLaws.{width-read, weight-read, makes-told, no-node}
 use mathlib.Core.Path.{_≡_, sym, _∙_}
 use Rattle.plans.proofs.DecodeLaws.{stands}
 use Rattle.plans.proofs.JudgeLaws.{fits-if-legal}
 use native.Mathlib.Omega.{arith}
 use borrow.Author.Needs.{needs}
-use Rattle.running.proofs.node.run_node.Statement.{statement}
-use Rattle.running.proofs.node.run_node.Tie as tie
-use Rattle.running.proofs.node.run_node.Reads as reads
-use Rattle.running.proofs.node.run_node.Lts as lts
+use Rattle.node_values.proofs.node.run_node.Statement.{statement}
+use Rattle.node_values.proofs.node.run_node.Tie as tie
+use Rattle.node_values.proofs.node.run_node.Reads as reads
+use Rattle.node_values.proofs.node.run_node.Lts as lts
 use Rattle.plans.proofs.legal.width_of.Reads as width-of-reads
 use Rattle.plans.proofs.nodes.decode_node.Reads as decode-node-reads
-use Rattle.running.proofs.node.make_value.Reads as make-value-reads
-use Rattle.running.proofs.node.weight.Reads as weight-reads
+use Rattle.node_values.proofs.node.make_value.Reads as make-value-reads
+use Rattle.node_values.proofs.node.weight.Reads as weight-reads
 
 -- src/node.rt:143:11
 decode-node-requires : tie.Need-decode-node-requires
