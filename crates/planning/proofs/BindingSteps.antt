@@ -13,7 +13,8 @@ use Rattle.calculus.specs.Form.{widthOfRange, scopeOfBindings, GoodRange, GoodB
 use Rattle.calculus.specs.Translation.{translateBindings}
 use Rattle.calculus.proofs.SizeTheorem.{range-size}
 use Rattle.catalogue.specs.Stored.{relationsOf, columnsOf}
-use Rattle.nodes.specs.Nodes.{isBinding, isRange, kindNamed, nodeAt}
+use Rattle.nodes.specs.Kinds.{isBinding, isRange}
+use Rattle.nodes.specs.Nodes.{kindNamed, nodeAt}
 use Rattle.nodes.specs.declared.node.Node.the-variants.{Binding}
 use Rattle.nodes.proofs.Forms.{lower, second-of, references-lower}
 use Rattle.conditions.specs.Readings.{Inside, Names, rangeAt, bindingsAt}

@@ -17,7 +17,8 @@ use Rattle.calculus.proofs.ScopeLaws.{targets-width}
 use Rattle.calculus.proofs.SizeTheorem.{range-size}
 use Rattle.judgements.specs.Accepted.{HasColumns}
 use Rattle.catalogue.specs.Stored.{relationsOf, columnsOf}
-use Rattle.nodes.specs.Nodes.{isTarget, isBinding, isRange, isCondition, kindNamed, nodeAt}
+use Rattle.nodes.specs.Kinds.{isTarget, isBinding, isRange, isCondition}
+use Rattle.nodes.specs.Nodes.{kindNamed, nodeAt}
 use Rattle.question.specs.Trees.{alphaOf}
 use Rattle.nodes.specs.declared.node.Node.the-variants.{Alpha}
 use Rattle.nodes.proofs.Forms.{lower, second-of, references-lower}
