@@ -13,13 +13,11 @@ use Rattle.nodes.specs.Roles.{roleOf}
 use Rattle.nodes.specs.declared.roles.Role.{Role}
 use Rattle.nodes.specs.declared.roles.Role.the-variants.{Stored, Opens, Takes, Binds, Sides, Compares, Joins}
 use Rattle.nodes.specs.Nodes.{nodeCount, nodeAt}
-use Rattle.nodes.specs.References.{references}
 use Rattle.question.specs.Trees.{Tree, nothing, branch, questionTree}
-use Rattle.question.specs.Judgement.{countOk, isAlphaRole, isAlpha, lowestIllFormed, lastNode, lowestNotOnce, lowestUnknown}
+use Rattle.question.specs.Judgement.{countOk, isAlpha, lowestIllFormed, lastNode, lowestNotOnce, lowestUnknown}
 use Rattle.nodes.specs.declared.node.Operand.{Operand}
 use Rattle.nodes.specs.declared.node.Operand.the-variants.{Of, Fixed}
 use Rattle.nodes.specs.declared.node.Node.{Node}
-use Rattle.question.specs.declared.walking.Parts.{Parts}
 use Rattle.question.specs.declared.judgement.Judgement.{Judgement}
 use Rattle.question.specs.declared.judgement.Judgement.the-variants.{Accepted, Refused}
 
@@ -54,11 +52,6 @@ boundBy (Binds variable) = variable
 boundBy Sides = variableCount
 boundBy (Compares left right) = variableCount
 boundBy Joins = variableCount
-
--- what the walk needs to know of a node before its parts
-abbrev pub partsOf : Node → Parts
-partsOf node =
-    record { first = references node .first; second = references node .second; third = references node .third; opens = isAlphaRole (roleOf node); variable = boundBy (roleOf node) }
 
 abbrev pub entered : List ℕ → (variable width : ℕ) → List ℕ
 entered scope variable width = cond (ltb variable variableCount) (bind scope variable width) scope

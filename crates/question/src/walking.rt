@@ -8,7 +8,7 @@ ghost use Rattle.nodes.specs.Nodes.{nodeAt, RoleFits, OperandVariableFits};
 ghost use Rattle.nodes.specs.Roles.{roleOf};
 ghost use Rattle.catalogue.specs.Stored.{columnsOf};
 ghost use Rattle.question.specs.Trees.{treeOf};
-ghost use Rattle.question.specs.Walk.{widthKept, columnsKept, addWidths, boundWidth, bind, boundBy, partsOf, entered, operandUnboundAt, operandUnfitAt, takenWidth, stepOf, placeOf, PlacesSoFar, judgedAt, walked, bindingsWalked};
+ghost use Rattle.question.specs.Walk.{widthKept, columnsKept, addWidths, boundWidth, bind, boundBy, entered, operandUnboundAt, operandUnfitAt, takenWidth, stepOf, placeOf, PlacesSoFar, judgedAt, walked, bindingsWalked};
 use crate::judgement::is_alpha;
 use catalogue::stored::columns_of;
 use nodes::node::Operand;
@@ -97,33 +97,6 @@ fn bound_by(role: Role) -> u32
         Role::Sides => VARIABLES,
         Role::Compares { left: _, right: _ } => VARIABLES,
         Role::Joins => VARIABLES,
-    }
-}
-
-// What the walk needs to know of a node before its parts: their references, whether it opens a scope for them, and the variable that it binds.
-pub struct Parts {
-    pub first: u32,
-    pub second: u32,
-    pub third: u32,
-    pub opens: bool,
-    pub variable: u32,
-}
-
-fn parts_at(words: &[u32], i: u32) -> Parts
-    requires { ⌜ i * questionNodeWords + questionNodeWords ≤ length (now words) ⌝ }
-    ensures { λ r. ⌜ r ≡ partsOf (nodeAt (now (words .entry)) i) ⌝ }
-{
-    let node = decode(words, i as usize);
-    let named = references_of(node);
-    let role = role_of(node);
-    let opens = is_alpha(role);
-    let variable = bound_by(role);
-    Parts {
-        first: named.first,
-        second: named.second,
-        third: named.third,
-        opens,
-        variable,
     }
 }
 
@@ -285,13 +258,14 @@ fn walk_bindings(
         return;
     }
     let i = reference - 1;
-    let parts = parts_at(words, i);
-    let variable = parts.variable;
+    let node = decode(words, i as usize);
+    let named = references_of(node);
+    let variable = bound_by(role_of(node));
     if variable < VARIABLES {
-        let width = walk(catalogue, words, parts.first, scope, lowest);
+        let width = walk(catalogue, words, named.first, scope, lowest);
         judge_at(catalogue, words, i, scope, width, 0, lowest);
         bind(scope, variable, width);
-        walk_bindings(catalogue, words, parts.second, scope, lowest);
+        walk_bindings(catalogue, words, named.second, scope, lowest);
         return;
     }
     walk(catalogue, words, reference, scope, lowest);
@@ -312,21 +286,23 @@ pub fn walk(
         return 0;
     }
     let i = reference - 1;
-    let parts = parts_at(words, i);
-    if parts.opens {
+    let node = decode(words, i as usize);
+    let named = references_of(node);
+    let role = role_of(node);
+    if is_alpha(role) {
         let mut own = [0u8; SCOPE];
-        walk_bindings(catalogue, words, parts.first, &mut own, lowest);
-        let width = walk(catalogue, words, parts.second, &mut own, lowest);
-        walk(catalogue, words, parts.third, &mut own, lowest);
+        walk_bindings(catalogue, words, named.first, &mut own, lowest);
+        let width = walk(catalogue, words, named.second, &mut own, lowest);
+        walk(catalogue, words, named.third, &mut own, lowest);
         return judge_at(catalogue, words, i, scope, 0, width, lowest);
     }
-    let variable = parts.variable;
-    let first = walk(catalogue, words, parts.first, scope, lowest);
+    let variable = bound_by(role);
+    let first = walk(catalogue, words, named.first, scope, lowest);
     let width = scope[variable as usize];
     let columns = scope[ALL_COLUMNS];
     enter(scope, variable, first);
-    let second = walk(catalogue, words, parts.second, scope, lowest);
-    walk(catalogue, words, parts.third, scope, lowest);
+    let second = walk(catalogue, words, named.second, scope, lowest);
+    walk(catalogue, words, named.third, scope, lowest);
     scope[variable as usize] = width;
     scope[ALL_COLUMNS] = columns;
     judge_at(catalogue, words, i, scope, first, second, lowest)
