@@ -8,7 +8,7 @@ use Rattle.relations.specs.Limits.{questionNodeLimit, variableCount}
 use Rattle.relations.specs.Nodes.{Node, unite, subtract}
 use Rattle.relations.proofs.BoolLaws.{and-right}
 use Rattle.calculus.specs.Question as calculus
-use Rattle.calculus.specs.Question.{Range, MaybeCondition, onCondition, Condition, conditionAnd, conditionOr, conditionNot, maybeNodes, conditionNodes}
+use Rattle.calculus.specs.Question.{MaybeCondition, onCondition, Condition, conditionAnd, conditionOr, conditionNot, maybeNodes, conditionNodes}
 use Rattle.calculus.specs.Scope as scopes
 use Rattle.calculus.specs.Form.{GoodCondition}
 use Rattle.calculus.specs.ShortRules.{shortRule3Fits, shortRule5Fits, shortRule6Fits}

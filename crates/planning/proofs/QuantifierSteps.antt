@@ -19,7 +19,6 @@ use Rattle.calculus.specs.Translation.{itself, divisionBy, translateRange, tran
 use Rattle.calculus.proofs.ScopeLaws.{columns-extend}
 use Rattle.calculus.proofs.SizeTheorem.{range-size, condition-size}
 use Rattle.catalogue.specs.Stored.{relationsOf, columnsOf}
-use Rattle.judgements.specs.Accepted.{HasColumns}
 use Rattle.conditions.specs.Readings.{Names, conditionAt, restrictionAt}
 use Rattle.conditions.specs.Scopes.{scopeOf, ScopeFits, Extended}
 use Rattle.short_rules.specs.Rules.{ruleAtoms, ruleNodes, dividendNodes, RuleReady}

@@ -26,12 +26,7 @@ use nodes::node::decode;
 use short_rules::rules::write_project;
 
 // A target's columns behind those of the list; attribute 0 is the whole row.
-fn with_target(
-    scope: &[u8; SCOPE_BYTES],
-    variable: u32,
-    attribute: u32,
-    list: NodeList,
-) -> NodeList
+fn with_target(scope: &[u8; SCOPE_BYTES], variable: u32, attribute: u32, list: NodeList) -> NodeList
     requires { ⌜ ScopeFits (now scope) × GoodTarget (scopeOf (now scope)) (targetOf variable attribute) × (list .used + length (targetColumns (scopeOf (now scope)) (targetOf variable attribute)) ≤ listWords) ⌝ }
     ensures { λ r. ⌜ r ≡ grownBy list (numbersOf (targetColumns (scopeOf (now (scope .entry))) (targetOf variable attribute))) ⌝ }
 {

@@ -1,7 +1,6 @@
 // Translation: a range, the parts of an alpha and a condition call each other. Each function has a number of its own that falls at each call:
 // twice the reference of the node that it is handed, or one more than twice the greatest of the references of a node's parts. Nothing that is
 // long stands in these functions' frames but a scope that grows, so that the deepest question takes little stack.
-ghost use mathlib.Core.Path.{_≡_};
 ghost use Prim.Native.Nat.{_<_};
 ghost use Rattle.relations.specs.Limits.{variableCount};
 ghost use Rattle.calculus.specs.Question as calculus;
