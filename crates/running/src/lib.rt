@@ -4,23 +4,21 @@ ghost use mathlib.Core.Bool.{true};
 ghost use Prim.Native.Nat.{ℕ, _≤_};
 ghost use lib.ListN.{length, replicate};
 ghost use Rattle.catalogue.specs.Judging.{tablesOk};
-ghost use Rattle.plans.specs.Judging.{planJudgement, nodesOfPlan};
+ghost use Rattle.plan_reading.specs.Judging.{planJudgement, nodesOfPlan};
 ghost use Rattle.values.specs.Building.{Blank};
 ghost use Rattle.running.specs.RunCall.{runNumbers, runOutcome, capacityOf, fitWithin, ranOutcome};
 ghost use Rattle.running.specs.PlanRun.{PlanRun};
-use crate::node::Made;
-use crate::node::run_node;
 use catalogue::judging::tables_ok;
-use plans::judging::PlanJudgement;
-use plans::judging::judge_plan;
+use node_values::node::Made;
+use node_values::node::run_node;
+use plan_reading::judging::PlanJudgement;
+use plan_reading::judging::judge_plan;
 use relations::limits::PLAN_NODE_WORDS;
 use relations::limits::PLAN_NODES;
 use relations::limits::WORDS;
 use values::clearing::clear_from;
 use values::placing::write_row;
 use values::rows::Value;
-
-pub mod node;
 
 pub enum Ran {
     Done {
