@@ -1,2 +1,2 @@
 -- In reading order.
-pub mod NumberLaws
+pub mod OfferLaws
