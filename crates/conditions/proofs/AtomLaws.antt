@@ -5,24 +5,20 @@ use mathlib.Core.Bool.{cond}
 use lib.Dec.{eqb}
 use borrow.Author.Tests.{eq-eqb, ne-eqb}
 use Rattle.relations.specs.Columns.{attribute}
-use Rattle.relations.specs.Comparison.{Operator, equal, notEqual, less, atMost, greater, atLeast, operatorNumber}
-use Rattle.relations.proofs.ComparisonLaws.{operator-back}
+use Rattle.relations.specs.Comparison.{Operator, equal, notEqual, less, atMost, greater, atLeast, operatorNumber, operatorFor, operatorNamed}
+use Rattle.terms.proofs.NumberLaws.{named-back}
 use Rattle.calculus.specs.Question.{compare}
 use Rattle.calculus.specs.Question as calculus
 use Rattle.calculus.specs.Leaves.{isEqual}
-use Rattle.question.specs.Trees.{operatorFor, operandOf, atomOf}
+use Rattle.question.specs.Trees.{operandOf, atomOf}
 use Rattle.nodes.specs.declared.node.Operand.{Operand}
 use Rattle.nodes.specs.declared.node.Atom.{Atom}
-use Rattle.conditions.specs.Atoms.{operatorNamed}
 
 abbrev pub withOperand : Atom → Operand → calculus.Atom
 withOperand atom operand = compare (atom .variable) (attribute (atom .attribute .0)) (operatorNamed (atom .operator)) (operandOf operand)
 
 pub read : (atom : Atom) {operand : Operand} → atom .operand ≡ operand → atomOf atom ≡ withOperand atom operand
 read atom e = ap (withOperand atom) e
-
-pub named-back : (o : Operator) → operatorNamed (operatorNumber o) ≡ o
-named-back o = ap operatorFor (operator-back o)
 
 -- "=" has the number 1
 pub equal-number : (number : ℕ) → number ≡ operatorNumber (operatorNamed number) → eqb number 1 ≡ isEqual (operatorNamed number)
@@ -41,11 +37,3 @@ taken {a = a} {b = b} x y e = rw (eq-eqb a b e)
 
 pub passed : {A : Type 0} {a b : ℕ} (x y : A) → (a ≡ b → ⊥) → cond (eqb a b) x y ≡ y
 passed {a = a} {b = b} x y e = rw (ne-eqb a b e)
-
--- a number that is no operator's reads as "="
-pub no-operator : (number : ℕ) → (number ≡ 1 → ⊥) → (number ≡ 2 → ⊥) → (number ≡ 3 → ⊥) → (number ≡ 4 → ⊥) → (number ≡ 5 → ⊥) → (number ≡ 6 → ⊥) → operatorNamed number ≡ equal
-no-operator number a b c d e f = rw (ne-eqb number 1 a, ne-eqb number 2 b, ne-eqb number 3 c, ne-eqb number 4 d, ne-eqb number 5 e, ne-eqb number 6 f)
-
--- an operator that a number was made of
-pub made-of : {number : ℕ} (o : Operator) → number ≡ operatorNumber o → operatorNamed number ≡ o
-made-of o e = ap operatorNamed e ∙ named-back o

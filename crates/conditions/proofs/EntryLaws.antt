@@ -1,10 +1,10 @@
 -- Lists kept in arrays: the first entry, the last one, and those that a store leaves. Assumes nothing.
 use Prim.Native.Nat.{ℕ, zero, suc, _+_, _-_, _<_}
-use mathlib.Core.Path.{_≡_, refl, ap, ap₂}
-use mathlib.Core.List.{[], _∷_, _++_}
+use mathlib.Core.Path.{_≡_, refl, ap, ap₂, _∙_}
+use mathlib.Core.List.{List, [], _∷_, _++_, map}
 use native.Mathlib.Omega.{arith}
 use native.Mathlib.Numerals.{add-one}
-use lib.ListN.{length}
+use lib.ListN.{length, getD}
 use Rattle.conditions.specs.Entries.{entries}
 
 module _ {A : Type 0} where
@@ -27,6 +27,7 @@ module _ {A : Type 0} where
   entries-same at as-well i (suc left) h =
       ap₂ (λ first rest. first ∷ rest) (h i (omega arith)) (entries-same at as-well (suc i) left (λ k l. h k (omega arith)))
 
-pub entries-length : {A : Type 0} (at : ℕ → A) (i left : ℕ) → length (entries at i left) ≡ left
-entries-length at i zero = refl
-entries-length at i (suc left) = ap suc (entries-length at (suc i) left)
+pub entries-map : {A : Type 0} (at : ℕ → A) (make : ℕ → A) (i : ℕ) (numbers : List ℕ) → ((k : ℕ) → k < length numbers → at (i + k) ≡ make (getD numbers k 0)) → entries at i (length numbers) ≡ map make numbers
+entries-map at make i [] h = refl
+entries-map at make i (number ∷ numbers) h =
+    ap₂ (λ first rest. first ∷ rest) (ap at (omega arith) ∙ h 0 (omega arith)) (entries-map at make (suc i) numbers (λ k l. ap at (omega arith) ∙ h (suc k) (omega arith)))

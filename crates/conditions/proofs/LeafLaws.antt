@@ -1,26 +1,25 @@
 -- Leaves collected one behind another, and the atoms that they stand for. Assumes nothing.
 use Prim.Native.Nat.{ℕ, zero, suc, _+_, _*_, _-_, _≤_, _<_}
-use mathlib.Core.Path.{_≡_, refl, sym, ap, ap₂, subst, _∙_}
-use mathlib.Core.Bool.{Bool, true, false, cond, _&&_, and-true, and-false}
-use mathlib.Core.List.{List, [], _∷_, _++_, map, append-assoc, append-nil}
+use mathlib.Core.Path.{_≡_, refl, sym, ap, ap₂, _∙_}
+use mathlib.Core.Bool.{Bool, true, false, cond, not, _&&_}
+use mathlib.Core.List.{List, [], _∷_, _++_, map, append-assoc, map-append, map-map}
 use native.Mathlib.Nat.{zero-add}
-use native.Mathlib.Numerals.{add-one}
 use native.Mathlib.Omega.{arith}
 use lib.Dec.{ltb, leb}
-use lib.ListN.{length, getD, take, set, length-append}
-use lib.Seq.{sets, getD-set-same, getD-set-other, getD-take, length-take-le, take-suc-set}
+use lib.ListN.{length, getD, take, drop, set, replicate, length-set, length-append, length-map, length-replicate, List·getD-append}
+use lib.Seq.{sets, length-sets, sets-eq, set-set, set-comm, set-getD, getD-set-same, getD-set-other, getD-append-add, length-take-le}
 use borrow.Author.Tests.{leb-true}
 use denote.Enum.Declared.{tagOf}
 use types.Run.{OneOf, miss}
 use Rattle.relations.specs.Limits.{columnLimit, questionNodeLimit, questionNodeWords, variableCount, operatorCount}
-use Rattle.relations.specs.Comparison.{operatorNumber}
+use Rattle.relations.specs.Comparison.{operatorNumber, operatorNamed}
 use Rattle.relations.specs.Lists.{All}
 use Rattle.relations.proofs.ListLaws.{all-append}
 use Rattle.relations.proofs.StoreLaws.{sets-append}
 use Rattle.relations.proofs.BoolLaws.{and-left, and-right}
 use Rattle.calculus.specs.Question as calculus
 use Rattle.calculus.proofs.SizeTheorem.{leaves-size}
-use Rattle.calculus.specs.Leaves.{isAndTree, isOrTree, leaves, oppositeAtom}
+use Rattle.calculus.specs.Leaves.{leaves, oppositeAtom}
 use Rattle.nodes.specs.Nodes.{kindNamed, fits, operandFits, nodeAt}
 use Rattle.nodes.specs.References.{references}
 use Rattle.question.specs.Trees.{Tree, treeOf, reading, atomOf}
@@ -33,12 +32,11 @@ use Rattle.nodes.proofs.node.Node.{the-type}
 use Rattle.nodes.proofs.Forms.{first-of, second-of, third-of}
 use Rattle.question.proofs.TreeLaws.{tree-of-reference}
 use Rattle.conditions.specs.Entries.{entries}
-use Rattle.conditions.specs.Atoms.{operatorNamed, OperandNarrow, AtomNarrow}
-use Rattle.conditions.specs.Leaves.{emptyAtom, atomIn, leafOf, leafAt, atomsOf, LeavesFit, Collectable, Collected, LeavesOf, numbersBelow, leafNumbers, leavesFound, noLeaves, withLeaf, joinedBy, opposites}
-use Rattle.conditions.specs.declared.leaves.Leaves.{Leaves}
+use Rattle.conditions.specs.Atoms.{OperandNarrow, AtomNarrow}
+use Rattle.conditions.specs.Leaves.{emptyAtom, atomIn, leafOf, numbersBelow, leafNumbers, leafWords, leafCount, withLeaves, isTree, leafNumbered, leafAt, atomsOf, LeavesFit, Collectable}
 use Rattle.conditions.specs.Readings.{Names, conditionAt}
-use Rattle.conditions.proofs.Readings.{fits-in}
-use Rattle.conditions.proofs.EntryLaws.{entries-last, entries-same}
+use Rattle.conditions.proofs.Readings.{readingIn, fits-in, condition-is, Part, and-parts, or-parts}
+use Rattle.conditions.proofs.EntryLaws.{entries-map}
 
 -- an atom of the table is narrow
 
@@ -110,116 +108,78 @@ module _ (words : List ℕ) (i : ℕ) {node : Node} {found : Atom} (e : node ≡
   pub found-is : atomOf found ≡ leafOf (nodeAt words i)
   found-is = ap atomOf f ∙ ap leafOf e
 
--- one leaf, two trees, no tree
+-- two sides joined
 
-no-tree : (a b : Bool) → (a && false) ≡ (b && false)
-no-tree a b = and-false a ∙ sym (and-false b)
+pub joined-and : (disjoined : Bool) {first second : Bool} (f g : calculus.Condition) → first ≡ isTree disjoined f → second ≡ isTree disjoined g → (not disjoined && (first && second)) ≡ isTree disjoined (calculus.conditionAnd f g)
+joined-and true f g p q = refl
+joined-and false f g p q = ap₂ (λ (a b : Bool). a && b) p q
 
-and-then : (a b c d e : Bool) → b ≡ (a && d) → c ≡ (b && e) → (c && true) ≡ (a && (d && e))
-and-then true b c true e p q = and-true c ∙ q ∙ ap (λ x. x && e) p
-and-then true b c false e p q = and-true c ∙ q ∙ ap (λ x. x && e) p
-and-then false b c d e p q = and-true c ∙ q ∙ ap (λ x. x && e) p
+pub joined-or : (disjoined : Bool) {first second : Bool} (f g : calculus.Condition) → first ≡ isTree disjoined f → second ≡ isTree disjoined g → (disjoined && (first && second)) ≡ isTree disjoined (calculus.conditionOr f g)
+joined-or true f g p q = ap₂ (λ (a b : Bool). a && b) p q
+joined-or false f g p q = refl
 
-abbrev leavesWith : List ℕ → ℕ → Bool → Bool → Bool → Leaves
-leavesWith numbers count conjoined disjoined opposite = record { numbers = numbers; count = count; conjoined = conjoined; disjoined = disjoined; opposite = opposite }
+either : (disjoined tree : Bool) → tree ≡ cond disjoined tree tree
+either true tree = refl
+either false tree = refl
 
--- leaves are equal when their five parts are
-five : {a b : Leaves} → a .numbers ≡ b .numbers → a .count ≡ b .count → a .conjoined ≡ b .conjoined → a .disjoined ≡ b .disjoined → a .opposite ≡ b .opposite → a ≡ b
-five {a} {b} e f g h k = parts e f g h k
-  where
-    parts : {n m : List ℕ} {c d : ℕ} {p q r s t u : Bool} → n ≡ m → c ≡ d → p ≡ q → r ≡ s → t ≡ u → leavesWith n c p r t ≡ leavesWith m d q s u
-    parts e f g h k = rw (e, f, g, h, k)
+-- leaves behind others
+
+sets-behind : (l : List ℕ) (k a : ℕ) (numbers : List ℕ) → 0 < k → sets (set l 0 a) k numbers ≡ set (sets l k numbers) 0 a
+sets-behind l k a [] h = refl
+sets-behind l k a (number ∷ numbers) h =
+    ap (λ (m : List ℕ). sets m (suc k) numbers) (set-comm l 0 k a number (λ e. omega arith)) ∙ sets-behind (set l k number) (suc k) a numbers (omega arith)
+
+sets-at : (l : List ℕ) (k : ℕ) (numbers : List ℕ) (i : ℕ) → i < length numbers → k + length numbers ≤ length l → getD (sets l k numbers) (k + i) 0 ≡ getD numbers i 0
+sets-at l k numbers i h room =
+    let rest : List ℕ = numbers ++ drop (k + length numbers) l in
+    ap (λ (m : List ℕ). getD m (k + i) 0) (sets-eq numbers l k room ∙ append-assoc (take k l) numbers (drop (k + length numbers) l))
+    ∙ ap (λ (j : ℕ). getD (take k l ++ rest) (j + i) 0) (sym (length-take-le k l (omega arith)))
+    ∙ getD-append-add (take k l) rest i 0
+    ∙ List·getD-append numbers (drop (k + length numbers) l) 0 i h
+
+length-behind : (before numbers : List ℕ) → length (withLeaves before numbers) ≡ length before
+unfolding withLeaves
+length-behind before numbers = length-set (sets before (1 + leafCount before) numbers) 0 (leafCount before + length numbers) ∙ length-sets before (1 + leafCount before) numbers
+
+module _ (before : List ℕ) (size : length before ≡ leafWords) where
+  pub count-behind : (numbers : List ℕ) → leafCount (withLeaves before numbers) ≡ leafCount before + length numbers
+  unfolding withLeaves
+  count-behind numbers = getD-set-same (sets before (1 + leafCount before) numbers) 0 (leafCount before + length numbers) 0 (omega (arith, size, length-sets before (1 + leafCount before) numbers))
+
+  pub none-behind : before ≡ withLeaves before []
+  unfolding withLeaves
+  none-behind = sym (ap (set before 0) (omega arith) ∙ set-getD before 0 0)
+
+  twice : (xs ys : List ℕ) → leafCount (withLeaves before xs) ≡ leafCount before + length xs → withLeaves (withLeaves before xs) ys ≡ withLeaves before (xs ++ ys)
+  unfolding withLeaves
+  twice xs ys e =
+      let count : ℕ = leafCount before in
+      let both : ℕ = count + length xs in
+      let one : List ℕ = sets before (1 + count) xs in
+      let place : 1 + both ≡ 1 + count + length xs = omega arith in
+      let sum : both + length ys ≡ count + length (xs ++ ys) = omega (arith, length-append xs ys) in
+      ap (λ (k : ℕ). set (sets (set one 0 both) (1 + k) ys) 0 (k + length ys)) e
+      ∙ ap (λ (l : List ℕ). set l 0 (both + length ys)) (sets-behind one (1 + both) both ys (omega arith))
+      ∙ set-set (sets one (1 + both) ys) 0 both (both + length ys)
+      ∙ ap₂ (λ (l : List ℕ) (k : ℕ). set l 0 k) (ap (λ (k : ℕ). sets one k ys) place ∙ sym (sets-append before (1 + count) xs ys)) sum
+
+  -- collected one after the other
+  pub leaves-behind : (xs ys : List ℕ) → withLeaves (withLeaves before xs) ys ≡ withLeaves before (xs ++ ys)
+  leaves-behind xs ys = twice xs ys (count-behind xs)
+
+  -- the first ones
+  module _ (none : leafCount before ≡ 0) (numbers : List ℕ) (few : length numbers ≤ questionNodeLimit) where
+    pub count-first : leafCount (withLeaves before numbers) ≡ length numbers
+    count-first = omega (arith, count-behind numbers, none)
+
+    pub number-first : (i : ℕ) → i < length numbers → getD (withLeaves before numbers) (1 + i) 0 ≡ getD numbers i 0
+    unfolding withLeaves
+    number-first i h =
+        getD-set-other (sets before (1 + leafCount before) numbers) 0 (1 + i) (leafCount before + length numbers) 0 (λ e. omega arith)
+        ∙ ap (λ (k : ℕ). getD (sets before (1 + k) numbers) (1 + i) 0) none
+        ∙ sets-at before 1 numbers i h (omega (arith, size, few))
 
 module _ (words : List ℕ) where
-  pub nothing-collected : LeavesFit words noLeaves
-  nothing-collected = record { few = omega arith; inside = tt }
-
-  -- one leaf of those collected
-  pub leaf-inside : {collected : Leaves} (i : ℕ) → LeavesFit words collected → length (collected .numbers) ≡ questionNodeLimit → i < collected .count → getD (collected .numbers) i 0 * questionNodeWords + questionNodeWords ≤ length words
-  leaf-inside {collected} i fits size h =
-      rw (sym (getD-take (collected .count) (collected .numbers) i 0 h)) (at (take (collected .count) (collected .numbers)) i (fits .inside) (omega (arith, h, fits .few, length-take-le (collected .count) (collected .numbers) (omega (arith, fits .few, size)))))
-    where
-      at : (numbers : List ℕ) (k : ℕ) → All (λ number. number * questionNodeWords + questionNodeWords ≤ length words) numbers → k < length numbers → getD numbers k 0 * questionNodeWords + questionNodeWords ≤ length words
-      at [] k all l = absurd (omega arith)
-      at (number ∷ numbers) zero all l = all .0
-      at (number ∷ numbers) (suc k) all l = at numbers k (all .1) (omega arith)
-
-  module _ {before middle after : Leaves} {xs ys : List ℕ} {f g : calculus.Condition} (c : Collected words before xs f middle) (d : Collected words middle ys g after) where
-    both-stored : after .numbers ≡ sets (before .numbers) (before .count) (xs ++ ys)
-    both-stored = d .stored ∙ ap₂ (λ (numbers : List ℕ) (k : ℕ). sets numbers k ys) (c .stored) (c .counted ∙ ap (λ (k : ℕ). before .count + k) (sym (c .each))) ∙ sym (sets-append (before .numbers) (before .count) xs ys)
-
-    both-each : length (xs ++ ys) ≡ length (leaves f ++ leaves g)
-    both-each = omega (arith, c .each, d .each, length-append xs ys, length-append (leaves f) (leaves g))
-
-    both-counted : after .count ≡ before .count + length (leaves f ++ leaves g)
-    both-counted = omega (arith, c .counted, d .counted, length-append (leaves f) (leaves g))
-
-    both-atoms : atomsOf words after ≡ atomsOf words before ++ (leaves f ++ leaves g)
-    both-atoms = d .atoms ∙ ap (λ front. front ++ leaves g) (c .atoms) ∙ append-assoc (atomsOf words before) (leaves f) (leaves g)
-
-    pub collected-and : Collected words before (xs ++ ys) (calculus.conditionAnd f g) (joinedBy after true false)
-    collected-and =
-        record {
-          fits = record { few = d .fits .few; inside = d .fits .inside };
-          stored = both-stored;
-          each = both-each;
-          counted = both-counted;
-          atoms = both-atoms;
-          and-tree = and-then (before .conjoined) (middle .conjoined) (after .conjoined) (isAndTree f) (isAndTree g) (c .and-tree) (d .and-tree);
-          or-tree = no-tree (after .disjoined) (before .disjoined);
-          straight = d .straight;
-        }
-
-    pub collected-or : Collected words before (xs ++ ys) (calculus.conditionOr f g) (joinedBy after false true)
-    collected-or =
-        record {
-          fits = record { few = d .fits .few; inside = d .fits .inside };
-          stored = both-stored;
-          each = both-each;
-          counted = both-counted;
-          atoms = both-atoms;
-          and-tree = no-tree (after .conjoined) (before .conjoined);
-          or-tree = and-then (before .disjoined) (middle .disjoined) (after .disjoined) (isOrTree f) (isOrTree g) (c .or-tree) (d .or-tree);
-          straight = d .straight;
-        }
-
-  -- a condition that has no leaves and is no tree
-  pub collected-none : {before : Leaves} (f : calculus.Condition) → leaves f ≡ [] → isAndTree f ≡ false → isOrTree f ≡ false → LeavesFit words before → before .opposite ≡ false → Collected words before [] f (joinedBy before false false)
-  collected-none {before} f l a o fits straight =
-      record {
-        fits = record { few = fits .few; inside = fits .inside };
-        stored = refl;
-        each = sym (ap length l);
-        counted = omega (arith, ap length l);
-        atoms = sym (append-nil (atomsOf words before)) ∙ ap (λ more. atomsOf words before ++ more) (sym l);
-        and-tree = ap (λ b. before .conjoined && b) (sym a);
-        or-tree = ap (λ b. before .disjoined && b) (sym o);
-        straight = straight;
-      }
-
-  pub collected-leaf : {before : Leaves} (number : ℕ) → length (before .numbers) ≡ questionNodeLimit → LeavesFit words before → before .opposite ≡ false → before .count < questionNodeLimit → number * questionNodeWords + questionNodeWords ≤ length words
-      → Collected words before (number ∷ []) (calculus.atom (leafOf (nodeAt words number))) (withLeaf before number)
-  collected-leaf {before} number size fits straight room inside =
-      let after : Leaves = withLeaf before number in
-      let here : getD (set (before .numbers) (before .count) number) (before .count) 0 ≡ number = getD-set-same (before .numbers) (before .count) number 0 (omega arith) in
-      let there : (k : ℕ) → k < before .count → getD (set (before .numbers) (before .count) number) k 0 ≡ getD (before .numbers) k 0 = λ k h. getD-set-other (before .numbers) (before .count) k number 0 (λ e. omega arith) in
-      let last : leafAt words after (0 + before .count) ≡ leafOf (nodeAt words number) = rw (zero-add (before .count), straight, here) in
-      let others : (k : ℕ) → k < 0 + before .count → leafAt words after k ≡ leafAt words before k = λ k h. ap (λ (j : ℕ). cond (before .opposite) (oppositeAtom (leafOf (nodeAt words j))) (leafOf (nodeAt words j))) (there k (omega arith)) in
-      record {
-        fits =
-            record {
-              few = omega arith;
-              inside = rw (add-one (before .count), take-suc-set (before .numbers) (before .count) number (omega arith)) (all-append (λ k. k * questionNodeWords + questionNodeWords ≤ length words) (take (before .count) (before .numbers)) (number ∷ []) (fits .inside) (inside, tt));
-            };
-        stored = refl;
-        each = refl;
-        counted = refl;
-        atoms = rw (add-one (before .count), entries-last (leafAt words after) 0 (before .count), entries-same (leafAt words after) (leafAt words before) 0 (before .count) others, last);
-        and-tree = sym (and-true (before .conjoined));
-        or-tree = sym (and-true (before .disjoined));
-        straight = straight;
-      }
-
   -- the numbers of a node's leaves, by those of its references
   pub leaf-numbers : (reference : ℕ) (node : Node) {f : calculus.Condition} → 1 ≤ reference → node ≡ nodeAt words (reference - 1) → conditionAt words reference ≡ f
       → leafNumbers (treeOf words reference) ≡ numbersBelow f (reference - 1) (leafNumbers (treeOf words (references node .first))) (leafNumbers (treeOf words (references node .second)))
@@ -228,53 +188,141 @@ module _ (words : List ℕ) where
       let t = tree-of-reference words reference h in
       rw e (ap leafNumbers t ∙ ap (λ (g : calculus.Condition). numbersBelow g (reference - 1) (leafNumbers (treeOf words (references (nodeAt words (reference - 1)) .first))) (leafNumbers (treeOf words (references (nodeAt words (reference - 1)) .second)))) (ap (λ (tree : Tree). reading tree .condition) (sym t) ∙ c))
 
-  pub leaves-of : (reference : ℕ) {after : Leaves} → Collected words noLeaves (leafNumbers (treeOf words reference)) (conditionAt words reference) after → (after ≡ leavesFound words reference) × LeavesOf words (conditionAt words reference) after
-  leaves-of reference c =
-      (five (c .stored) (omega (arith, c .counted, c .each)) (c .and-tree) (c .or-tree) (c .straight), record { fits = c .fits; atoms = c .atoms; and-tree = c .and-tree; or-tree = c .or-tree; straight = c .straight })
+  -- what `collect` ensures
+  abbrev pub Collected : Bool → ℕ → List ℕ → List ℕ → Bool → Type 0
+  Collected disjoined reference before after tree = (after ≡ withLeaves before (leafNumbers (treeOf words reference))) × (tree ≡ isTree disjoined (conditionAt words reference))
 
-  pub collected-unique : {before a b : Leaves} {numbers : List ℕ} {f : calculus.Condition} → Collected words before numbers f a → Collected words before numbers f b → a ≡ b
-  collected-unique c d = five (c .stored ∙ sym (d .stored)) (c .counted ∙ sym (d .counted)) (c .and-tree ∙ sym (d .and-tree)) (c .or-tree ∙ sym (d .or-tree)) (c .straight ∙ sym (d .straight))
+  module _ {reference : ℕ} (h : 1 ≤ reference) where
+    module _ (left right : ℕ) where
+      abbrev Sides : Type 0
+      Sides = leafNumbers (treeOf words reference) ≡ leafNumbers (treeOf words left) ++ leafNumbers (treeOf words right)
 
-  -- each for its opposite
-  pub opposite-atoms : (collected : Leaves) → collected .opposite ≡ false → atomsOf words (opposites collected) ≡ map oppositeAtom (atomsOf words collected)
-  opposite-atoms collected straight = go 0 (collected .count)
-    where
-      go : (i left : ℕ) → entries (leafAt words (opposites collected)) i left ≡ map oppositeAtom (entries (leafAt words collected) i left)
-      go i zero = refl
-      go i (suc left) = ap₂ (λ first rest. first ∷ rest) (rw straight) (go (suc i) left)
+      pub and-numbers : And left right ≡ nodeAt words (reference - 1) → Sides
+      and-numbers e = leaf-numbers reference (And left right) h e (condition-is words reference (And left right) h e)
 
-  pub collected-as : {before after as-well : Leaves} {xs ys : List ℕ} {f g : calculus.Condition} → xs ≡ ys → f ≡ g → after ≡ as-well → Collected words before ys g as-well → Collected words before xs f after
-  collected-as {before} {after} {as-well} {xs} {ys} {f} {g} n e r c =
-      subst (λ numbers. Collected words before numbers f after) (sym n) (subst (λ h. Collected words before ys h after) (sym e) (subst (λ l. Collected words before ys g l) (sym r) c))
+      pub or-numbers : Or left right ≡ nodeAt words (reference - 1) → Sides
+      or-numbers e = leaf-numbers reference (Or left right) h e (condition-is words reference (Or left right) h e)
+
+      module _ (disjoined : Bool) (before : List ℕ) (size : length before ≡ leafWords) {middle after : List ℕ} {first second : Bool} (c : Collected disjoined left before middle first) (d : Collected disjoined right middle after second) where
+        both-stored : Sides → after ≡ withLeaves before (leafNumbers (treeOf words reference))
+        both-stored n = d .0 ∙ ap (λ (l : List ℕ). withLeaves l (leafNumbers (treeOf words right))) (c .0) ∙ leaves-behind before size (leafNumbers (treeOf words left)) (leafNumbers (treeOf words right)) ∙ ap (withLeaves before) (sym n)
+
+        pub collected-and : And left right ≡ nodeAt words (reference - 1) → Collected disjoined reference before after (not disjoined && (first && second))
+        collected-and e = (both-stored (and-numbers e), joined-and disjoined (conditionAt words left) (conditionAt words right) (c .1) (d .1) ∙ ap (isTree disjoined) (sym (condition-is words reference (And left right) h e)))
+
+        pub collected-or : Or left right ≡ nodeAt words (reference - 1) → Collected disjoined reference before after (disjoined && (first && second))
+        collected-or e = (both-stored (or-numbers e), joined-or disjoined (conditionAt words left) (conditionAt words right) (c .1) (d .1) ∙ ap (isTree disjoined) (sym (condition-is words reference (Or left right) h e)))
+
+    module _ (disjoined : Bool) (before : List ℕ) {node : Node} (e : node ≡ nodeAt words (reference - 1)) where
+      -- a condition that has no leaves and is no tree
+      pub collected-none : length before ≡ leafWords → numbersBelow (readingIn words node .condition) (reference - 1) (leafNumbers (treeOf words (references node .first))) (leafNumbers (treeOf words (references node .second))) ≡ [] → isTree disjoined (readingIn words node .condition) ≡ cond disjoined false false → Collected disjoined reference before before false
+      collected-none size n t =
+          let f = condition-is words reference node h e in
+          (none-behind before size ∙ ap (withLeaves before) (sym (leaf-numbers reference node h e f ∙ n)), either disjoined false ∙ sym t ∙ ap (isTree disjoined) (sym f))
+
+      pub collected-leaf : {after : List ℕ} → readingIn words node .condition ≡ calculus.atom (leafOf node) → after ≡ withLeaves before ((reference - 1) ∷ []) → Collected disjoined reference before after true
+      collected-leaf c stored =
+          let f = condition-is words reference node h e ∙ c in
+          (stored ∙ ap (withLeaves before) (sym (leaf-numbers reference node h e f)), either disjoined true ∙ ap (isTree disjoined) (sym f))
 
   -- the two sides of an "and" or an "or"
-  module _ {reference left right : ℕ} (both : leaves (conditionAt words reference) ≡ leaves (conditionAt words left) ++ leaves (conditionAt words right)) (below : ((1 ≤ left) × (left ≤ reference - 1)) × ((1 ≤ right) × (right ≤ reference - 1))) where
-    pub collect-left : {before : Leaves} → Collectable words reference before → Collectable words left before
-    collect-left s =
+  module _ {reference left right : ℕ} {before : List ℕ} (s : Collectable words reference before) (n : leafNumbers (treeOf words reference) ≡ leafNumbers (treeOf words left) ++ leafNumbers (treeOf words right)) (p : Part words reference left × Part words reference right) where
+    pub collect-left : Collectable words left before
+    collect-left = record { named = p .0 .0 .0; inside = p .0 .0 .1; whole = s .whole; room = omega (arith, s .room, ap length n, length-append (leafNumbers (treeOf words left)) (leafNumbers (treeOf words right))) }
+
+    pub collect-right : {middle : List ℕ} → middle ≡ withLeaves before (leafNumbers (treeOf words left)) → Collectable words right middle
+    collect-right e =
         record {
-          named = below .0 .0;
-          inside = omega (arith, s .inside, s .named, below .0 .1);
-          fits = s .fits;
-          room = omega (arith, s .room, ap length both, length-append (leaves (conditionAt words left)) (leaves (conditionAt words right)));
-          straight = s .straight;
+          named = p .1 .0 .0;
+          inside = p .1 .0 .1;
+          whole = ap length e ∙ length-behind before (leafNumbers (treeOf words left)) ∙ s .whole;
+          room = omega (arith, s .room, ap leafCount e, count-behind before (s .whole) (leafNumbers (treeOf words left)), ap length n, length-append (leafNumbers (treeOf words left)) (leafNumbers (treeOf words right)));
         }
 
-    pub collect-right : {before middle : Leaves} → Collectable words reference before → Collected words before (leafNumbers (treeOf words left)) (conditionAt words left) middle → Collectable words right middle
-    collect-right s c =
-        record {
-          named = below .1 .0;
-          inside = omega (arith, s .inside, s .named, below .1 .1);
-          fits = c .fits;
-          room = omega (arith, s .room, c .counted, ap length both, length-append (leaves (conditionAt words left)) (leaves (conditionAt words right)));
-          straight = c .straight;
-        }
+  abbrev Stored : ℕ → Type 0
+  Stored number = number * questionNodeWords + questionNodeWords ≤ length words
 
-pub collectable : (words : List ℕ) (reference : ℕ) → Names words reference → calculus.conditionNodes (conditionAt words reference) ≤ questionNodeLimit → Collectable words reference noLeaves
-collectable words reference h few =
-    record {
-      named = h .0;
-      inside = h .1;
-      fits = nothing-collected words;
-      room = omega (arith, leaves-size (conditionAt words reference));
-      straight = refl;
-    }
+  -- numbers of nodes in the table, and the leaves of a condition that they are
+  record LeavesRead (numbers : List ℕ) (f : calculus.Condition) : Type 0 where
+    pub inside : All Stored numbers
+    pub atoms : map (leafNumbered words) numbers ≡ leaves f
+
+  both : {xs ys : List ℕ} {f g h : calculus.Condition} → leaves h ≡ leaves f ++ leaves g → LeavesRead xs f → LeavesRead ys g → LeavesRead (xs ++ ys) h
+  both {xs} {ys} e a b =
+      record {
+        inside = all-append Stored xs ys (a .inside) (b .inside);
+        atoms = map-append (leafNumbered words) xs ys ∙ ap₂ (λ (l r : List calculus.Atom). l ++ r) (a .atoms) (b .atoms) ∙ sym e;
+      }
+
+  abbrev ReadAt : ℕ → Type 0
+  ReadAt reference = LeavesRead (leafNumbers (treeOf words reference)) (conditionAt words reference)
+
+  module _ (reference : ℕ) (h : Names words reference) (below : (part : ℕ) → part < reference → Names words part → ReadAt part) where
+    is : (node : Node) → node ≡ nodeAt words (reference - 1) → conditionAt words reference ≡ readingIn words node .condition
+    is node e = condition-is words reference node (h .0) e
+
+    numbered : (node : Node) → node ≡ nodeAt words (reference - 1) → LeavesRead (numbersBelow (readingIn words node .condition) (reference - 1) (leafNumbers (treeOf words (references node .first))) (leafNumbers (treeOf words (references node .second)))) (readingIn words node .condition) → ReadAt reference
+    numbered node e r = rw (leaf-numbers reference node (h .0) e (is node e), is node e) r
+
+    sides : {left right : ℕ} {f : calculus.Condition} → leaves f ≡ leaves (conditionAt words left) ++ leaves (conditionAt words right) → Part words reference left × Part words reference right → LeavesRead (leafNumbers (treeOf words left) ++ leafNumbers (treeOf words right)) f
+    sides {left} {right} f p = both f (below left (p .0 .1) (p .0 .0)) (below right (p .1 .1) (p .1 .0))
+
+    one : (node : Node) (e : node ≡ nodeAt words (reference - 1)) → readingIn words node .condition ≡ calculus.atom (leafOf node) → ReadAt reference
+    one node e c =
+        rw (leaf-numbers reference node (h .0) e (is node e ∙ c), is node e ∙ c) (record { inside = (omega (arith, h .0, h .1), tt); atoms = ap (λ (d : Node). leafOf d ∷ []) (sym e) })
+
+    by-node : (node : Node) → node ≡ nodeAt words (reference - 1) → ReadAt reference
+    by-node (Table relation) e = one _ e refl
+    by-node (Alpha target binding condition) e = one _ e refl
+    by-node (Target variable attribute next) e = one _ e refl
+    by-node (Binding variable range next) e = one _ e refl
+    by-node (RangeOr left right) e = one _ e refl
+    by-node (RangeAnd left right) e = one _ e refl
+    by-node (RangeAndNot left right) e = one _ e refl
+    by-node (AtomNode atom) e = one _ e refl
+    by-node (And left right) e = numbered _ e (sides refl (and-parts words reference h e))
+    by-node (Or left right) e = numbered _ e (sides refl (or-parts words reference h e))
+    by-node (Not inner) e = numbered _ e (record { inside = tt; atoms = refl })
+    by-node (Some variable range condition) e = numbered _ e (record { inside = tt; atoms = refl })
+    by-node (Every variable range condition) e = numbered _ e (record { inside = tt; atoms = refl })
+    by-node IllFormed e = one _ e refl
+
+  leaves-read : (fuel reference : ℕ) → reference ≤ fuel → Names words reference → ReadAt reference
+  leaves-read zero reference l h = absurd (omega (arith, h .0))
+  leaves-read (suc fuel) reference l h = by-node reference h (λ part m n. leaves-read fuel part (omega arith) n) (nodeAt words (reference - 1)) refl
+
+  -- what a call of `collect` over no leaves leaves
+  pub record FoundLeaves (f : calculus.Condition) (found : List ℕ) : Type 0 where
+    pub fit : LeavesFit words found
+    pub straight : atomsOf words false found ≡ leaves f
+    pub turned : atomsOf words true found ≡ map oppositeAtom (leaves f)
+
+  module _ (reference : ℕ) (h : Names words reference) (small : calculus.conditionNodes (conditionAt words reference) ≤ questionNodeLimit) where
+    abbrev numbers : List ℕ
+    numbers = leafNumbers (treeOf words reference)
+
+    read : ReadAt reference
+    read = leaves-read reference reference (omega arith) h
+
+    few : length numbers ≤ questionNodeLimit
+    few = omega (arith, small, sym (length-map numbers (leafNumbered words)) ∙ ap length (read .atoms), leaves-size (conditionAt words reference))
+
+    pub collectable : Collectable words reference (replicate leafWords 0)
+    collectable = record { named = h .0; inside = h .1; whole = length-replicate {A = ℕ} leafWords 0; room = omega (arith, few) }
+
+    at : (xs : List ℕ) (k : ℕ) → All Stored xs → k < length xs → Stored (getD xs k 0)
+    at [] k all l = absurd (omega arith)
+    at (x ∷ xs) zero all l = all .0
+    at (x ∷ xs) (suc k) all l = at xs k (all .1) (omega arith)
+
+    pub found-leaves : {found : List ℕ} → found ≡ withLeaves (replicate leafWords 0) numbers → FoundLeaves (conditionAt words reference) found
+    found-leaves {found} e =
+        let count : leafCount found ≡ length numbers = ap leafCount e ∙ count-first (replicate leafWords 0) (length-replicate {A = ℕ} leafWords 0) refl numbers few in
+        let number : (i : ℕ) → i < length numbers → getD found (1 + i) 0 ≡ getD numbers i 0 = λ i l. ap (λ (m : List ℕ). getD m (1 + i) 0) e ∙ number-first (replicate leafWords 0) (length-replicate {A = ℕ} leafWords 0) refl numbers few i l in
+        let listed : (opposite : Bool) → atomsOf words opposite found ≡ map (λ k. cond opposite (oppositeAtom (leafNumbered words k)) (leafNumbered words k)) numbers =
+        λ opposite. ap (λ (k : ℕ). entries (leafAt words opposite found) 0 k) count ∙ entries-map (leafAt words opposite found) (λ k. cond opposite (oppositeAtom (leafNumbered words k)) (leafNumbered words k)) 0 numbers (λ i l. ap (λ (k : ℕ). cond opposite (oppositeAtom (leafNumbered words k)) (leafNumbered words k)) (ap (λ (j : ℕ). getD found (1 + j) 0) (zero-add i) ∙ number i l)) in
+        record {
+          fit = record { few = omega (arith, count, few); inside = λ i l. rw (number i (omega (arith, count, l))) (at numbers i (read .inside) (omega (arith, count, l))) };
+          straight = listed false ∙ read .atoms;
+          turned = listed true ∙ sym (map-map oppositeAtom (leafNumbered words) numbers) ∙ ap (map oppositeAtom) (read .atoms);
+        }

@@ -35,9 +35,6 @@ module _ (words : List ℕ) where
       let b : Bool = sort (kindNamed words i right) in
       (lower words i left sort none (and-left a b h), lower words i right sort none (and-right a b h))
 
-  pub two-conditions : (i left right : ℕ) → (isCondition (kindNamed words i left) && isCondition (kindNamed words i right)) ≡ true → ((1 ≤ left) × (left ≤ i)) × ((1 ≤ right) × (right ≤ i))
-  two-conditions i left right h = two-lower isCondition refl i left right h
-
   -- what a decoded condition is
   pub condition-is : (reference : ℕ) (node : Node) → 1 ≤ reference → node ≡ nodeAt words (reference - 1) → conditionAt words reference ≡ readingIn node .condition
   condition-is reference node h e = ap (λ (r : Reading). r .condition) (reading-is reference node h e)
@@ -90,7 +87,7 @@ module _ (words : List ℕ) (reference : ℕ) where
     part-below b = ((b .0, omega (arith, h .0, h .1, b .1)), omega (arith, h .0, b .1))
 
     two-parts : (left right : ℕ) → (isCondition (kindNamed words (reference - 1) left) && isCondition (kindNamed words (reference - 1) right)) ≡ true → Part left × Part right
-    two-parts left right f = let b = two-conditions words (reference - 1) left right f in (part-below (b .0), part-below (b .1))
+    two-parts left right f = let b = two-lower words isCondition refl (reference - 1) left right f in (part-below (b .0), part-below (b .1))
 
     quantified-parts : (variable range condition : ℕ) → (ltb variable variableCount && isRange (kindNamed words (reference - 1) range) && isCondition (kindNamed words (reference - 1) condition)) ≡ true → Part range × Part condition
     quantified-parts variable range condition f =

@@ -2,14 +2,10 @@
 use Prim.Native.Nat.{ℕ, _≤_}
 use mathlib.Core.Path.{_≡_}
 use Rattle.relations.specs.Limits.{columnLimit}
-use Rattle.relations.specs.Comparison.{Operator, operatorNumber, operatorOf}
-use Rattle.question.specs.Trees.{operatorFor}
+use Rattle.relations.specs.Comparison.{operatorNumber, operatorNamed}
 use Rattle.nodes.specs.declared.node.Operand.{Operand}
 use Rattle.nodes.specs.declared.node.Operand.the-variants.{Of, Fixed}
 use Rattle.nodes.specs.declared.node.Atom.{Atom}
-
-abbrev pub operatorNamed : ℕ → Operator
-operatorNamed number = operatorFor (operatorOf number)
 
 abbrev pub OperandNarrow : Operand → Type 0
 OperandNarrow (Of variable attribute) = attribute .0 ≤ columnLimit

@@ -1,34 +1,46 @@
 -- The scope that the code carries, and the scope of `calculus` that it stands for. Assumes nothing.
-use Prim.Native.Nat.{ℕ, _+_, _≤_}
+use Prim.Native.Nat.{ℕ, _+_, _*_, _≤_}
 use mathlib.Core.Path.{_≡_}
-use lib.ListN.{getD, set, replicate}
+use mathlib.Core.List.{List}
+use lib.ListN.{length, getD, set, replicate}
 use Rattle.relations.specs.Limits.{columnLimit}
 use Rattle.calculus.specs.Scope as calculus
 use Rattle.calculus.specs.Scope.{ScopeEntry, entry, columnsIn}
 use Rattle.conditions.specs.Entries.{entries}
-use Rattle.conditions.specs.declared.scope.CarriedScope.{CarriedScope}
 
-abbrev pub entryAt : CarriedScope → ℕ → ScopeEntry
-entryAt scope i = entry (getD (scope .variables) i 0) (getD (scope .widths) i 0)
+-- how many variables there are, the sum of their widths, then each variable with its width
+abbrev pub scopeWords : ℕ
+scopeWords = 2 + 2 * columnLimit
 
-abbrev pub scopeOf : CarriedScope → calculus.Scope
-scopeOf scope = entries (entryAt scope) 0 (scope .count)
+abbrev pub variablesCarried : List ℕ → ℕ
+variablesCarried scope = getD scope 0 0
 
-abbrev pub noVariables : CarriedScope
-noVariables = record { variables = replicate columnLimit 0; widths = replicate columnLimit 0; count = 0; columns = 0 }
+abbrev pub columnsCarried : List ℕ → ℕ
+columnsCarried scope = getD scope 1 0
+
+abbrev pub entryAt : List ℕ → ℕ → ScopeEntry
+entryAt scope i = entry (getD scope (2 + 2 * i) 0) (getD scope (2 + 2 * i + 1) 0)
+
+abbrev pub scopeOf : List ℕ → calculus.Scope
+scopeOf scope = entries (entryAt scope) 0 (variablesCarried scope)
+
+abbrev pub noVariables : List ℕ
+noVariables = replicate scopeWords 0
 
 -- No range is without columns, so there are no more variables in scope than columns.
-pub record ScopeFits (scope : CarriedScope) : Type 0 where
-  pub counted : scope .columns ≡ columnsIn (scopeOf scope)
-  pub few : scope .count ≤ scope .columns
-  pub narrow : scope .columns ≤ columnLimit
+pub record ScopeFits (scope : List ℕ) : Type 0 where
+  pub whole : length scope ≡ scopeWords
+  pub counted : columnsCarried scope ≡ columnsIn (scopeOf scope)
+  pub few : variablesCarried scope ≤ columnsCarried scope
+  pub narrow : columnsCarried scope ≤ columnLimit
 
 -- one variable more, behind the others
-abbrev pub withVariable : CarriedScope → ℕ → ℕ → CarriedScope
+unfoldable pub withVariable : List ℕ → ℕ → ℕ → List ℕ
 withVariable scope variable width =
-    record { variables = set (scope .variables) (scope .count) variable; widths = set (scope .widths) (scope .count) width; count = scope .count + 1; columns = scope .columns + width }
+    let at = 2 + 2 * variablesCarried scope in
+    set (set (set (set scope at variable) (at + 1) width) 0 (variablesCarried scope + 1)) 1 (columnsCarried scope + width)
 
-pub record Extended (scope : CarriedScope) (variable width : ℕ) (longer : CarriedScope) : Type 0 where
+pub record Extended (scope : List ℕ) (variable width : ℕ) (longer : List ℕ) : Type 0 where
   pub is : longer ≡ withVariable scope variable width
   pub fits : ScopeFits longer
   pub stands : scopeOf longer ≡ calculus.extend (scopeOf scope) variable width

@@ -2,43 +2,23 @@
 ghost use mathlib.Core.Path.{_≡_};
 ghost use Prim.Native.Nat.{_≤_};
 ghost use Rattle.relations.specs.Limits.{columnLimit};
-ghost use Rattle.relations.specs.Comparison.{operatorNumber};
+ghost use Rattle.relations.specs.Comparison.{operatorNumber, operatorNamed};
 ghost use Rattle.relations.specs.Comparison as comparison;
 ghost use Rattle.calculus.specs.Leaves.{oppositeAtom, aloneOn, comparesWithOther, areBoth, equatesWith, equatesOutside, ownAttribute, otherVariable, otherAttribute};
 ghost use Rattle.question.specs.Trees.{operandOf, atomOf};
-ghost use Rattle.conditions.specs.Atoms.{operatorNamed, AtomNarrow};
+ghost use Rattle.conditions.specs.Atoms.{AtomNarrow};
 use nodes::node::Atom;
-use nodes::node::Attribute;
 use nodes::node::Operand;
+use terms::attribute::Attribute;
+use terms::operator::number_of;
+use terms::operator::operator_of;
+use terms::operator::opposite;
 
-// The operator that holds where this one doesn't.
-fn opposite(operator: u32) -> u32
-    ensures { λ r. ⌜ r ≡ operatorNumber (comparison.opposite (operatorNamed operator)) ⌝ }
-{
-    match operator {
-        1 => 2,
-        2 => 1,
-        3 => 6,
-        4 => 5,
-        5 => 4,
-        6 => 3,
-        _ => 2,
-    }
-}
-
-// The operator for the sides turned.
+// The number of the operator for the sides turned.
 pub fn turned(operator: u32) -> u32
     ensures { λ r. ⌜ r ≡ operatorNumber (comparison.turned (operatorNamed operator)) ⌝ }
 {
-    match operator {
-        1 => 1,
-        2 => 2,
-        3 => 5,
-        4 => 6,
-        5 => 3,
-        6 => 4,
-        _ => 1,
-    }
+    number_of(terms::operator::turned(operator_of(operator)))
 }
 
 pub fn opposite_atom(atom: Atom) -> Atom
@@ -50,7 +30,7 @@ pub fn opposite_atom(atom: Atom) -> Atom
     Atom {
         variable: atom.variable,
         attribute,
-        operator: opposite(atom.operator),
+        operator: number_of(opposite(operator_of(atom.operator))),
         operand,
     }
 }

@@ -1,69 +1,31 @@
 // The leaves of a tree of "and"s or of "or"s, left to right, as the numbers of their nodes.
 ghost use mathlib.Core.Path.{_≡_};
-ghost use mathlib.Core.Bool.{false};
+ghost use mathlib.Core.List.{[], _∷_};
 ghost use Prim.Native.Nat.{_+_, _<_};
 ghost use Rattle.relations.specs.Limits.{questionNodeLimit};
 ghost use Rattle.question.specs.Trees.{treeOf, atomOf};
 ghost use Rattle.conditions.specs.Atoms.{AtomNarrow};
 ghost use Rattle.conditions.specs.Readings.{conditionAt};
-ghost use Rattle.conditions.specs.Leaves.{atomIn, leafAt, LeavesFit, Collectable, Collected, LeavesOf, leafNumbers, leavesFound, noLeaves, withLeaf, joinedBy, opposites};
+ghost use Rattle.conditions.specs.Leaves.{atomIn, leafCount, leafAt, LeavesFit, Collectable, leafNumbers, withLeaves, isTree};
 use crate::atom::opposite_atom;
 use nodes::node::Atom;
-use nodes::node::Attribute;
-use nodes::node::Constant;
 use nodes::node::Node;
 use nodes::node::Operand;
 use nodes::node::decode;
 use relations::limits::QUESTION_NODES;
+use terms::attribute::Attribute;
+use terms::constant::Constant;
 
-// The first `count` numbers are in use. `conjoined`: no node but "and" stands above them; `disjoined`: none but "or";
-// `opposite`: each stands for the opposite of its atom.
-pub struct Leaves {
-    pub numbers: [u32; QUESTION_NODES],
-    pub count: u32,
-    pub conjoined: bool,
-    pub disjoined: bool,
-    pub opposite: bool,
-}
+// How many leaves there are, then their numbers.
+pub const LEAF_WORDS: usize = 1 + QUESTION_NODES;
 
-fn no_leaves() -> Leaves
-    ensures { λ r. ⌜ r ≡ noLeaves ⌝ }
+fn with_leaf(leaves: &mut [u32; LEAF_WORDS], number: u32)
+    requires { ⌜ leafCount (now leaves) < questionNodeLimit ⌝ }
+    ensures { λ r. ⌜ now (leaves .exit) ≡ withLeaves (now (leaves .entry)) (number ∷ []) ⌝ }
 {
-    Leaves {
-        numbers: [0u32; QUESTION_NODES],
-        count: 0,
-        conjoined: true,
-        disjoined: true,
-        opposite: false,
-    }
-}
-
-fn with_leaf(leaves: Leaves, number: u32) -> Leaves
-    requires { ⌜ leaves .count < questionNodeLimit ⌝ }
-    ensures { λ r. ⌜ r ≡ withLeaf leaves number ⌝ }
-{
-    let mut more = leaves;
-    more.numbers[leaves.count as usize] = number;
-    more.count = leaves.count + 1;
-    more
-}
-
-fn joined_by(leaves: Leaves, conjoined: bool, disjoined: bool) -> Leaves
-    ensures { λ r. ⌜ r ≡ joinedBy leaves conjoined disjoined ⌝ }
-{
-    let mut joined = leaves;
-    joined.conjoined = leaves.conjoined & conjoined;
-    joined.disjoined = leaves.disjoined & disjoined;
-    joined
-}
-
-// The same leaves, each for its opposite.
-pub fn opposites(leaves: Leaves) -> Leaves
-    ensures { λ r. ⌜ r ≡ opposites leaves ⌝ }
-{
-    let mut turned = leaves;
-    turned.opposite = true;
-    turned
+    let count = leaves[0];
+    leaves[1 + count as usize] = number;
+    leaves[0] = count + 1;
 }
 
 // A node's atom. A node of another sort, which refusal 2 shuts out, has the empty one.
@@ -81,54 +43,56 @@ fn atom_in(node: Node) -> Atom
     }
 }
 
-// The atom that leaf `i` stands for.
-pub fn leaf(words: &[u32], leaves: Leaves, i: usize) -> Atom
-    requires { ⌜ LeavesFit (now words) leaves × (i < leaves .count) ⌝ }
-    ensures { λ r. ⌜ (atomOf r ≡ leafAt (now (words .entry)) leaves i) × AtomNarrow r ⌝ }
+// The atom of leaf `i`, or its opposite.
+pub fn leaf(words: &[u32], leaves: &[u32; LEAF_WORDS], opposite: bool, i: usize) -> Atom
+    requires { ⌜ LeavesFit (now words) (now leaves) × (i < leafCount (now leaves)) ⌝ }
+    ensures { λ r. ⌜ (atomOf r ≡ leafAt (now (words .entry)) opposite (now (leaves .entry)) i) × AtomNarrow r ⌝ }
 {
-    let number = leaves.numbers[i];
+    let number = leaves[1 + i];
     let atom = atom_in(decode(words, number as usize));
-    if leaves.opposite {
+    if opposite {
         return opposite_atom(atom);
     }
     atom
 }
 
-// The leaves of the condition that a reference names, behind those collected so far.
-fn collect(words: &[u32], reference: u32, collected: Leaves) -> Leaves
-    requires { ⌜ Collectable (now words) reference collected ⌝ }
-    ensures { λ r. ⌜ Collected (now (words .entry)) collected (leafNumbers (treeOf (now (words .entry)) reference)) (conditionAt (now (words .entry)) reference) r ⌝ }
+// The leaves of the condition that a reference names, behind those collected so far; true if it is a tree of "or"s, or else of "and"s.
+pub fn collect(
+    words: &[u32],
+    disjoined: bool,
+    reference: u32,
+    leaves: &mut [u32; LEAF_WORDS],
+) -> bool
+    requires { ⌜ Collectable (now words) reference (now leaves) ⌝ }
+    ensures { λ r. ⌜ (now (leaves .exit) ≡ withLeaves (now (leaves .entry)) (leafNumbers (treeOf (now (words .entry)) reference))) × (r ≡ isTree disjoined (conditionAt (now (words .entry)) reference)) ⌝ }
 {
     let number = reference - 1;
     let node = decode(words, number as usize);
     match node {
         Node::And { left, right } => {
-            let first = collect(words, left, collected);
-            joined_by(collect(words, right, first), true, false)
+            let first = collect(words, disjoined, left, leaves);
+            let second = collect(words, disjoined, right, leaves);
+            !disjoined & (first & second)
         }
         Node::Or { left, right } => {
-            let first = collect(words, left, collected);
-            joined_by(collect(words, right, first), false, true)
+            let first = collect(words, disjoined, left, leaves);
+            let second = collect(words, disjoined, right, leaves);
+            disjoined & (first & second)
         }
-        Node::Not { inner: _ } => joined_by(collected, false, false),
+        Node::Not { inner: _ } => false,
         Node::Some {
             variable: _,
             range: _,
             condition: _,
-        } => joined_by(collected, false, false),
+        } => false,
         Node::Every {
             variable: _,
             range: _,
             condition: _,
-        } => joined_by(collected, false, false),
-        _ => with_leaf(collected, number),
+        } => false,
+        _ => {
+            with_leaf(leaves, number);
+            true
+        }
     }
-}
-
-// The leaves of the condition that a reference names.
-pub fn leaves_of(words: &[u32], reference: u32) -> Leaves
-    requires { ⌜ Collectable (now words) reference noLeaves ⌝ }
-    ensures { λ r. ⌜ (r ≡ leavesFound (now (words .entry)) reference) × LeavesOf (now (words .entry)) (conditionAt (now (words .entry)) reference) r ⌝ }
-{
-    collect(words, reference, no_leaves())
 }

@@ -2,53 +2,45 @@
 ghost use mathlib.Core.Path.{_≡_};
 ghost use Prim.Native.Nat.{_+_, _≤_};
 ghost use Rattle.relations.specs.Limits.{columnLimit};
-ghost use Rattle.calculus.specs.Scope.{widthIn, columnNumber};
-ghost use Rattle.conditions.specs.Scopes.{noVariables, scopeOf, ScopeFits, Extended};
-use nodes::node::Attribute;
+ghost use Rattle.calculus.specs.Scope.{columnsIn, widthIn, columnNumber};
+ghost use Rattle.conditions.specs.Scopes.{scopeOf, ScopeFits, Extended};
 use relations::limits::COLUMNS;
+use terms::attribute::Attribute;
 
-// The first `count` variables and widths are in use; `columns` is the sum of these widths.
-pub struct CarriedScope {
-    pub variables: [u32; COLUMNS],
-    pub widths: [u32; COLUMNS],
-    pub count: u32,
-    pub columns: u32,
+// How many variables there are, the sum of their widths, then each variable with its width.
+pub const SCOPE_WORDS: usize = 2 + 2 * COLUMNS;
+
+pub fn extend(scope: &mut [u32; SCOPE_WORDS], variable: u32, width: u32)
+    requires { ⌜ ScopeFits (now scope) × (1 ≤ width) × (columnsIn (scopeOf (now scope)) + width ≤ columnLimit) ⌝ }
+    ensures { λ r. ⌜ Extended (now (scope .entry)) variable width (now (scope .exit)) ⌝ }
+{
+    let count = scope[0];
+    let columns = scope[1];
+    let at = 2 + 2 * (count as usize);
+    scope[at] = variable;
+    scope[at + 1] = width;
+    scope[0] = count + 1;
+    scope[1] = columns + width;
 }
 
-pub fn empty() -> CarriedScope
-    ensures { λ r. ⌜ r ≡ noVariables ⌝ }
+pub fn columns_in(scope: &[u32; SCOPE_WORDS]) -> u32
+    requires { ⌜ ScopeFits (now scope) ⌝ }
+    ensures { λ r. ⌜ r ≡ columnsIn (scopeOf (now (scope .entry))) ⌝ }
 {
-    CarriedScope {
-        variables: [0u32; COLUMNS],
-        widths: [0u32; COLUMNS],
-        count: 0,
-        columns: 0,
-    }
-}
-
-pub fn extend(scope: CarriedScope, variable: u32, width: u32) -> CarriedScope
-    requires { ⌜ ScopeFits scope × (1 ≤ width) × (scope .columns + width ≤ columnLimit) ⌝ }
-    ensures { λ r. ⌜ Extended scope variable width r ⌝ }
-{
-    let mut longer = scope;
-    let at = scope.count as usize;
-    longer.variables[at] = variable;
-    longer.widths[at] = width;
-    longer.count = scope.count + 1;
-    longer.columns = scope.columns + width;
-    longer
+    scope[1]
 }
 
 // The width of a variable's rows; 0 if it is not in scope.
-pub fn width_in(scope: CarriedScope, variable: u32) -> u32
-    requires { ⌜ ScopeFits scope ⌝ }
-    ensures { λ r. ⌜ r ≡ widthIn (scopeOf scope) variable ⌝ }
+pub fn width_in(scope: &[u32; SCOPE_WORDS], variable: u32) -> u32
+    requires { ⌜ ScopeFits (now scope) ⌝ }
+    ensures { λ r. ⌜ r ≡ widthIn (scopeOf (now (scope .entry))) variable ⌝ }
 {
     let mut i: usize = 0;
-    let mut left = scope.count;
+    let mut left = scope[0];
     while 0 < left {
-        if scope.variables[i] == variable {
-            return scope.widths[i];
+        let at = 2 + 2 * i;
+        if scope[at] == variable {
+            return scope[at + 1];
         }
         i += 1;
         left -= 1;
@@ -57,27 +49,28 @@ pub fn width_in(scope: CarriedScope, variable: u32) -> u32
 }
 
 // Where the n-th column of a variable stands, both counted from 1.
-pub fn column_number(scope: CarriedScope, variable: u32, n: u32) -> u32
-    requires { ⌜ ScopeFits scope × (n ≤ columnLimit) ⌝ }
-    ensures { λ r. ⌜ r ≡ columnNumber (scopeOf scope) variable n ⌝ }
+pub fn column_number(scope: &[u32; SCOPE_WORDS], variable: u32, n: u32) -> u32
+    requires { ⌜ ScopeFits (now scope) × (n ≤ columnLimit) ⌝ }
+    ensures { λ r. ⌜ r ≡ columnNumber (scopeOf (now (scope .entry))) variable n ⌝ }
 {
     let mut passed = 0;
     let mut i: usize = 0;
-    let mut left = scope.count;
+    let mut left = scope[0];
     while 0 < left {
-        if scope.variables[i] == variable {
+        let at = 2 + 2 * i;
+        if scope[at] == variable {
             return passed + n;
         }
-        passed += scope.widths[i];
+        passed += scope[at + 1];
         i += 1;
         left -= 1;
     }
     passed
 }
 
-pub fn column_of(scope: CarriedScope, variable: u32, attribute: Attribute) -> Attribute
-    requires { ⌜ ScopeFits scope × (attribute .0 ≤ columnLimit) ⌝ }
-    ensures { λ r. ⌜ r .0 ≡ columnNumber (scopeOf scope) variable (attribute .0) ⌝ }
+pub fn column_of(scope: &[u32; SCOPE_WORDS], variable: u32, attribute: Attribute) -> Attribute
+    requires { ⌜ ScopeFits (now scope) × (attribute .0 ≤ columnLimit) ⌝ }
+    ensures { λ r. ⌜ r .0 ≡ columnNumber (scopeOf (now (scope .entry))) variable (attribute .0) ⌝ }
 {
     Attribute(column_number(scope, variable, attribute.0))
 }

@@ -20,7 +20,7 @@ use Rattle.relations.proofs.OperationLaws.{node-exact}
 use Rattle.relations.proofs.ValueLaws.{extensional}
 use Rattle.catalogue.specs.Judging.{catalogueOk}
 use Rattle.catalogue.specs.Stored.{storedTables}
-use Rattle.text.proofs.RoundTrip.{round-trip}
+use Rattle.bundles.proofs.RoundTrip.{round-trip}
 use Rattle.judgements.specs.Faults.{judgedQuestion}
 use Rattle.question.specs.declared.judgement.Judgement.the-variants.{Accepted}
 use Rattle.plans.specs.Judging.{planJudgement, planNumbers, nodesOfPlan}

@@ -15,8 +15,9 @@ use Rattle.plans.specs.Judging.{judgePlanNodes, nodesIn}
 use Rattle.translation.specs.TranslateCall.{translateOutcome}
 use Rattle.running.specs.RunCall.{fitOf, runOutcome}
 use Rattle.desk.specs.AnswerCall.{answerOutcome}
-use Rattle.text.specs.Reading.{moreDigits, number, numbers, begins, keyedLine, keyedLines, relationOf, tableOf, tablesOf, nodesOf, linesOf, bundleIn}
-use Rattle.text.specs.ReadCall.{readOutcome}
+use Rattle.lines.specs.Reading.{moreDigits, number, numbers, begins, keyedLine, keyedLines}
+use Rattle.bundles.specs.Reading.{relationOf, tableOf, tablesOf, nodesOf, linesOf, bundleIn}
+use Rattle.bundles.specs.ReadCall.{readOutcome}
 use Rattle.demands.specs.Papers.{papers, Holds, ShownRead, PapersHold}
 
 -- the shown text, read

@@ -8,14 +8,15 @@ use lib.Dec.{eqb}
 use lib.ListN.{length}
 use borrow.Author.Tests.{lt-ltb}
 use Rattle.relations.specs.Limits.{byteLimit}
-use Rattle.text.specs.Reading.{Bundle, Next, goesOn, wrongAt, bundleIn}
-use Rattle.text.specs.ReadCall.{ReadOutcome, readRefused, bundleOutcome, smallBuffers, readOutcome}
-use Rattle.text.specs.Writing.{bundleText}
-use Rattle.text.specs.WriteCall.{WriteOutcome, writeOutcome}
-use Rattle.text.specs.RoundTrip.{wrote, BundleAsText}
-use Rattle.text.specs.FirstWrong.{RightText, FirstWrong}
-use Rattle.text.proofs.RoundTrip.{round-trip}
-use Rattle.text.proofs.FirstWrong.{place-is-first-wrong}
+use Rattle.bundles.specs.Reading.{Bundle, bundleIn}
+use Rattle.lines.specs.Reading.{Next, goesOn, wrongAt}
+use Rattle.bundles.specs.ReadCall.{ReadOutcome, readRefused, bundleOutcome, smallBuffers, readOutcome}
+use Rattle.bundles.specs.Writing.{bundleText}
+use Rattle.bundles.specs.WriteCall.{WriteOutcome, writeOutcome}
+use Rattle.bundles.specs.RoundTrip.{wrote, BundleAsText}
+use Rattle.bundles.specs.FirstWrong.{RightText, FirstWrong}
+use Rattle.bundles.proofs.RoundTrip.{round-trip}
+use Rattle.bundles.proofs.FirstWrong.{place-is-first-wrong}
 use Rattle.demands.specs.Refusals.{outcomeBy, isWrong, placeWrong, wrongText, readLines, writeLines}
 use Rattle.demands.specs.Demands.{WrongText, readBundle, ReadDemand, refusedWrite, WriteDemand}
 use Rattle.demands.proofs.LineLaws.{answered-exactly}

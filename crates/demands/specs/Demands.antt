@@ -26,12 +26,12 @@ use Rattle.question.specs.declared.judgement.Judgement.the-variants.{Accepted}
 use Rattle.catalogue.specs.Stored.{columnsOf, storedTables}
 use Rattle.plans.specs.Judging.{nodesOfPlan, JudgedExactly}
 use Rattle.relations.specs.Limits.{byteLimit}
-use Rattle.text.specs.Reading.{bundleIn}
-use Rattle.text.specs.ReadCall.{ReadOutcome, readRefused, readOutcome}
-use Rattle.text.specs.Writing.{bundleText}
-use Rattle.text.specs.WriteCall.{WriteOutcome, writeOutcome}
-use Rattle.text.specs.RoundTrip.{wrote, foundBundle, RoundTrip}
-use Rattle.text.specs.FirstWrong.{RightText, FirstWrong}
+use Rattle.bundles.specs.Reading.{bundleIn}
+use Rattle.bundles.specs.ReadCall.{ReadOutcome, readRefused, readOutcome}
+use Rattle.bundles.specs.Writing.{bundleText}
+use Rattle.bundles.specs.WriteCall.{WriteOutcome, writeOutcome}
+use Rattle.bundles.specs.RoundTrip.{wrote, foundBundle, RoundTrip}
+use Rattle.bundles.specs.FirstWrong.{RightText, FirstWrong}
 use Rattle.translation.specs.TranslateCall.{planBufferWords, isShort, planOf, TranslateOutcome, unwritten, written, translateOutcome}
 use Rattle.running.specs.RunCall.{runRefusal, cleared, RunOutcome, answered, runOutcome}
 use Rattle.desk.specs.AnswerCall.{AnswerOutcome, planIn, planRan, answerOutcome}

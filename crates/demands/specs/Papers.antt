@@ -7,8 +7,8 @@ use mathlib.Core.List.{List, [], _∷_, _++_}
 use lib.ListN.{length, take, replicate}
 use Rattle.relations.specs.Limits.{cataloguePairLimit, wordLimit, questionNodeLimit, questionNodeWords}
 use Rattle.relations.specs.Lists.{All, flat}
-use Rattle.text.specs.Marks.{lineFeed}
-use Rattle.text.specs.ReadCall.{ReadOutcome, readOutcome}
+use Rattle.lines.specs.Marks.{lineFeed}
+use Rattle.bundles.specs.ReadCall.{ReadOutcome, readOutcome}
 use Rattle.translation.specs.TranslateCall.{planBufferWords}
 use Rattle.running.specs.RunCall.{RunNumbers, runRefusal}
 use Rattle.desk.specs.AnswerCall.{AnswerOutcome, answerOutcome}

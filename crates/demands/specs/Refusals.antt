@@ -14,10 +14,11 @@ use Rattle.nodes.specs.References.{lowest}
 use Rattle.question.specs.Judgement.{countOk, isAlpha, lowestIllFormed, lastNode, lowestNotOnce, lowestUnknown}
 use Rattle.judgements.specs.Faults.{lowestUnbound, lowestUnfit}
 use Rattle.plans.specs.Judging.{judgedPlan, nodesOfPlan}
-use Rattle.text.specs.Reading.{Next, goesOn, wrongAt, bundleIn}
-use Rattle.text.specs.ReadCall.{smallBuffers}
-use Rattle.text.specs.Writing.{bundleText}
-use Rattle.text.specs.WriteCall.{textFits}
+use Rattle.lines.specs.Reading.{Next, goesOn, wrongAt}
+use Rattle.bundles.specs.Reading.{bundleIn}
+use Rattle.bundles.specs.ReadCall.{smallBuffers}
+use Rattle.bundles.specs.Writing.{bundleText}
+use Rattle.bundles.specs.WriteCall.{textFits}
 use Rattle.translation.specs.TranslateCall.{planBufferWords, planOf}
 use Rattle.running.specs.RunCall.{capacityOf, planRoom, answerRows, answerWidth, lastPlace}
 

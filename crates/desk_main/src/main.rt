@@ -1,44 +1,17 @@
 // `desk`: reads a bundle from standard input, answers its question, and prints the answer's listing, or the refusal. A program has no exit status of
 // its own: input that can't be read and a listing that can't be written whole are told on standard error, where nothing else is written.
-ghost use Rattle.io.specs.Counts.{Counts};
 ghost use Rattle.listing.specs.Listing.{Listable};
+use bundle_reading::Reading;
 use desk::Answered;
 use libc::STDERR_FILENO;
-use libc::STDIN_FILENO;
 use libc::STDOUT_FILENO;
 use relations::limits::CATALOGUE_WORDS;
 use relations::limits::PLAN_WORDS;
+use relations::limits::QUESTION_NODE_WORDS;
 use relations::limits::QUESTION_WORDS;
 use relations::limits::TEXT_BYTES;
 use relations::limits::WORDS;
-use text::bundle::Reading;
-
-struct Input {
-    bytes: usize,
-    failed: bool,
-}
-
-// Reads until the text is full or the input ends; `io::read_full` wouldn't tell a failed read from the end.
-fn read_input(text: &mut [u8]) -> Input
-    ensures { λ r. ⌜ Counts (r .bytes) (now (text .exit)) ⌝ }
-{
-    let mut bytes = 0;
-    while bytes < text.len() {
-        let got = libc::read(STDIN_FILENO, &mut text[bytes..]);
-        let more = io::count(got, &text[bytes..]);
-        if more == 0 {
-            return Input {
-                bytes: bytes,
-                failed: got < 0,
-            };
-        }
-        bytes += more;
-    }
-    Input {
-        bytes: bytes,
-        failed: false,
-    }
-}
+use standard_input::read_input;
 
 fn print(text: &[u8]) {
     if !io::write_all(STDOUT_FILENO, text) {
@@ -55,11 +28,11 @@ fn print_refusal(status: u32, place: u32) {
     print(&text[..bytes]);
 }
 
-// The buffer holds the longest listing: 16,384 rows of one word of ten digits.
+// The buffer holds the longest listing: as many rows of one word of ten digits as there may be words.
 fn print_listing(nodes: u32, heavy: u32, room: u32, width: u32, rows: u32, words: &[u32])
     requires { ⌜ Listable width rows (now words) ⌝ }
 {
-    let mut text = [0u8; 262144];
+    let mut text = [0u8; 16 * WORDS];
     let bytes = listing::put_listing(nodes, heavy, room, width, rows, words, &mut text);
     print(&text[..bytes]);
 }
@@ -94,7 +67,7 @@ fn print_outcome(text: &[u8]) {
     let mut catalogue = [0u32; CATALOGUE_WORDS];
     let mut tables = [0u32; WORDS];
     let mut question = [0u32; QUESTION_WORDS];
-    match text::bundle::read(text, &mut catalogue, &mut tables, &mut question) {
+    match bundle_reading::read(text, &mut catalogue, &mut tables, &mut question) {
         Reading::Bundle {
             mode,
             pairs,
@@ -105,7 +78,7 @@ fn print_outcome(text: &[u8]) {
                 mode,
                 &catalogue[..2 * pairs],
                 &tables[..words],
-                &question[..6 * nodes],
+                &question[..QUESTION_NODE_WORDS * nodes],
             );
         }
         Reading::WrongLine(line) => print_refusal(12, line as u32),

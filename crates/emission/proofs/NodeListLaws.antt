@@ -1,23 +1,28 @@
 -- A node's list: words put behind those that it has, and what it names. Assumes nothing.
 use Prim.Native.Nat.{ℕ, zero, suc, _+_, _-_, _/_, _≤_, _<_}
 use mathlib.Core.Path.{_≡_, refl, sym, ap, ap₂, _∙_}
-use mathlib.Core.List.{List, [], _∷_, _++_, map}
-use mathlib.Core.Option.{some}
+use mathlib.Core.List.{List, [], _∷_, _++_, map, append-nil}
 use native.Mathlib.Omega.{arith}
 use native.Mathlib.Numerals.{add-one}
-use lib.ListN.{length, drop, replicate, length-append, length-map, length-replicate}
+use lib.ListN.{length, getD, drop, replicate, length-append, length-map, length-replicate}
 use lib.Seq.{sets, sets-eq, take-append-seam}
 use Rattle.relations.specs.Limits.{listWords}
 use Rattle.relations.specs.Columns.{Attribute, attribute, Triple, Pair}
-use Rattle.relations.specs.Nodes.{project, semijoin, antijoin, divide}
+use Rattle.relations.specs.Nodes.{project}
 use Rattle.relations.specs.Lists.{flat}
 use Rattle.relations.specs.PlanWords.{tripleWords, pairWords, nodeWords, readTriples, readPairs}
-use Rattle.calculus.specs.Scope.{columnsFrom}
-use Rattle.relations.proofs.ComparisonLaws.{operator-back}
+use Rattle.calculus.specs.Scope.{columnsFrom, allColumns}
+use Rattle.calculus.proofs.ScopeLaws.{columns-length}
 use Rattle.relations.proofs.ListLaws.{length-flat}
+use Rattle.relations.proofs.PlanWordsBack.{attributes-back, triples-back, pairs-back}
 use Rattle.relations.proofs.StoreLaws.{sets-append}
 use Rattle.emission.specs.NodeLists.{padded, nodeList, grownBy, numbersOf, attributesIn, knownTriples, triplesIn, pairsIn, ListsAttributes, ListsTriples, ListsPairs}
+use Rattle.emission.specs.Joins.{pairingNumber, paired, linked, linkingNumber, linkingCount, ListsFor}
 use Rattle.emission.specs.declared.node_list.NodeList.{NodeList}
+use Rattle.emission.specs.declared.emit.Pairing.{Pairing}
+use Rattle.emission.specs.declared.emit.Pairing.the-variants.{Product, Unite, Intersect, Subtract}
+use Rattle.emission.specs.declared.emit.Linking.{Linking}
+use Rattle.emission.specs.declared.emit.Linking.the-variants.{Semijoin, Antijoin, Divide}
 
 abbrev listOf : List ℕ → ℕ → NodeList
 listOf words used = record { words = words; used = used }
@@ -87,18 +92,6 @@ triples-used triples = omega (arith, length-flat 3 tripleWords triples (λ t. re
 pairs-used : (pairs : List Pair) → length (flat pairWords pairs) / 2 ≡ length pairs
 pairs-used pairs = omega (arith, length-flat 2 pairWords pairs (λ p. refl))
 
-attributes-back : (attributes : List Attribute) → map attribute (numbersOf attributes) ≡ attributes
-attributes-back [] = refl
-attributes-back (a ∷ attributes) = ap (λ rest. a ∷ rest) (attributes-back attributes)
-
-triples-back : (triples : List Triple) (behind : List ℕ) → readTriples (length triples) (flat tripleWords triples ++ behind) ≡ some triples
-triples-back [] behind = refl
-triples-back (t ∷ triples) behind = rw (operator-back (t .operator), triples-back triples behind)
-
-pairs-back : (pairs : List Pair) (behind : List ℕ) → readPairs (length pairs) (flat pairWords pairs ++ behind) ≡ pairs
-pairs-back [] behind = refl
-pairs-back (p ∷ pairs) behind = rw (pairs-back pairs behind)
-
 module _ {list : NodeList} where
   pub names-attributes : (listed : List Attribute) → list ≡ nodeList (numbersOf listed) → attributesIn list ≡ listed
   names-attributes listed e = ap attributesIn e ∙ ap (map attribute) (take-append-seam (numbersOf listed) (replicate (listWords - length (numbersOf listed)) 0)) ∙ attributes-back listed
@@ -120,14 +113,41 @@ module _ {list : NodeList} where
 
 -- the words of nodes with a list
 module _ (list : NodeList) (left right : ℕ) where
-  pub project-words : (listed : List Attribute) → list ≡ nodeList (numbersOf listed) → 2 ∷ left ∷ 0 ∷ list .used ∷ list .words ≡ nodeWords (project left listed)
-  project-words listed e = rw (e, length-map listed (λ a. a .number))
+  pub project-words : ListsAttributes list → 2 ∷ left ∷ 0 ∷ list .used ∷ list .words ≡ nodeWords (project left (attributesIn list))
+  project-words e = rw (ap (λ (l : NodeList). 2 ∷ left ∷ 0 ∷ l .used ∷ l .words) e, length-map (attributesIn list) (λ a. a .number))
 
-  pub semijoin-words : (listed : List Triple) → list ≡ nodeList (flat tripleWords listed) → 6 ∷ left ∷ right ∷ list .used / 3 ∷ list .words ≡ nodeWords (semijoin left right listed)
-  semijoin-words listed e = rw (e, triples-used listed)
+  pub linked-words : (how : Linking) → ListsFor how list → linkingNumber how ∷ left ∷ right ∷ linkingCount how (list .used) ∷ list .words ≡ nodeWords (linked how left right list)
+  linked-words Semijoin e = ap (λ (l : NodeList). 6 ∷ left ∷ right ∷ l .used / 3 ∷ l .words) e ∙ rw (triples-used (triplesIn list))
+  linked-words Antijoin e = ap (λ (l : NodeList). 7 ∷ left ∷ right ∷ l .used / 3 ∷ l .words) e ∙ rw (triples-used (triplesIn list))
+  linked-words Divide e = ap (λ (l : NodeList). 8 ∷ left ∷ right ∷ l .used / 2 ∷ l .words) e ∙ rw (pairs-used (pairsIn list))
 
-  pub antijoin-words : (listed : List Triple) → list ≡ nodeList (flat tripleWords listed) → 7 ∷ left ∷ right ∷ list .used / 3 ∷ list .words ≡ nodeWords (antijoin left right listed)
-  antijoin-words listed e = rw (e, triples-used listed)
+-- a full list has no zeros behind it
+pub padded-full : (words : List ℕ) → length words ≡ listWords → padded words ≡ words
+padded-full words e =
+    let none : listWords - length words ≡ 0 = omega arith in
+    rw none (append-nil words)
 
-  pub divide-words : (listed : List Pair) → list ≡ nodeList (flat pairWords listed) → 8 ∷ left ∷ right ∷ list .used / 2 ∷ list .words ≡ nodeWords (divide left right listed)
-  divide-words listed e = rw (e, pairs-used listed)
+pub padded-long : (list : List ℕ) → length list ≤ listWords → length (padded list) ≡ listWords
+padded-long list h = omega (arith, length-append list (replicate (listWords - length list) 0), length-replicate {A = ℕ} (listWords - length list) 0)
+
+pub padded-at : (list : List ℕ) (zeros place : ℕ) → getD (list ++ replicate zeros 0) place 0 ≡ getD list place 0
+padded-at [] zero place = refl
+padded-at [] (suc zeros) zero = refl
+padded-at [] (suc zeros) (suc place) = padded-at [] zeros place
+padded-at (word ∷ list) zeros zero = refl
+padded-at (word ∷ list) zeros (suc place) = padded-at list zeros place
+
+pub getD-behind : (list : List ℕ) (place : ℕ) → length list ≤ place → getD list place 0 ≡ 0
+getD-behind [] place h = refl
+getD-behind (word ∷ list) zero h = absurd (omega arith)
+getD-behind (word ∷ list) (suc place) h = getD-behind list place (omega arith)
+
+pub pair-words : (how : Pairing) (left right : ℕ) → pairingNumber how ∷ left ∷ right ∷ 0 ∷ padded (0 ∷ []) ≡ nodeWords (paired how left right)
+pair-words Product left right = refl
+pair-words Unite left right = refl
+pair-words Intersect left right = refl
+pair-words Subtract left right = refl
+
+-- the first columns, listed
+pub first-listed : (columns : ℕ) {nothing list : NodeList} → columns ≤ listWords → nothing ≡ nodeList [] → list ≡ grownBy nothing (numbersOf (allColumns columns)) → list ≡ nodeList (numbersOf (allColumns columns))
+first-listed columns h none e = grown-list _ none e (omega (arith, length-map (allColumns columns) (λ (a : Attribute). a .number), columns-length columns 1))

@@ -1,10 +1,9 @@
 -- The select that an attribute, an operator's number and what it is compared with make. Assumes nothing.
 use Prim.Native.Nat.{ℕ}
 use mathlib.Core.Path.{_≡_}
-use Rattle.relations.specs.Comparison.{operatorNumber, operatorOf}
+use Rattle.relations.specs.Comparison.{operatorNumber, operatorOf, operatorFor}
 use Rattle.relations.specs.Columns.{attribute, constant}
 use Rattle.relations.specs.Nodes.{Node, selectConstant, selectAttribute}
-use Rattle.question.specs.Trees.{operatorFor}
 use Rattle.emission.specs.declared.emit.Comparand.{Comparand}
 use Rattle.emission.specs.declared.emit.Comparand.the-variants.{Attribute, Constant}
 

@@ -1,20 +1,38 @@
 // Plan nodes written at the end of a plan: each function writes node `n` and returns the number of nodes that there are then.
 ghost use mathlib.Core.Path.{_≡_};
 ghost use mathlib.Core.List.{[], _∷_};
-ghost use Prim.Native.Nat.{_+_, _*_};
+ghost use Prim.Native.Nat.{_+_, _*_, _≤_};
+ghost use lib.ListN.{length, getD};
 ghost use lib.Seq.{sets};
-ghost use Rattle.relations.specs.Limits.{planNodeWords};
+ghost use Rattle.relations.specs.Limits.{listWords, planNodeWords};
 ghost use Rattle.relations.specs.Nodes as nodes;
-ghost use Rattle.emission.specs.NodeLists.{attributesIn, triplesIn, pairsIn, ListsAttributes, ListsTriples, ListsPairs};
+ghost use Rattle.calculus.specs.Scope.{allColumns};
+ghost use Rattle.emission.specs.Joins.{pairingNumber, paired, linkingNumber, linkingCount, linked, ListsFor};
+ghost use Rattle.emission.specs.NodeLists.{padded, attributesIn, triplesIn, pairsIn, ListsAttributes, ListsTriples, ListsPairs};
 ghost use Rattle.emission.specs.Selects.{NamesOperator, selecting};
 ghost use Rattle.emission.specs.Written.{Room, Written};
 use crate::node_list::NodeList;
-use nodes::node::Attribute;
-use nodes::node::Constant;
+use crate::node_list::no_list;
+use crate::node_list::with_columns;
 use relations::limits::HEAD_WORDS;
 use relations::limits::LIST_WORDS;
+use relations::limits::PAIR_WORDS;
 use relations::limits::PLAN_NODE_WORDS;
+use relations::limits::TRIPLE_WORDS;
+use terms::attribute::Attribute;
+use terms::constant::Constant;
 
+// A list's word; 0 behind its end.
+fn word_at(list: &[u32], place: usize) -> u32
+    ensures { λ r. ⌜ r ≡ getD (now (list .entry)) place 0 ⌝ }
+{
+    if place < list.len() {
+        return list[place];
+    }
+    0
+}
+
+// The node's list words are those of the list, then zeros.
 fn push(
     plan: &mut [u32],
     n: u32,
@@ -22,10 +40,10 @@ fn push(
     left: u32,
     right: u32,
     count: u32,
-    list: [u32; LIST_WORDS],
+    list: &[u32],
 ) -> u32
-    requires { ⌜ Room (now plan) n 1 ⌝ }
-    ensures { λ r. ⌜ (now (plan .exit) ≡ sets (now (plan .entry)) (n * planNodeWords) (operation ∷ left ∷ right ∷ count ∷ list)) × (r ≡ n + 1) ⌝ }
+    requires { ⌜ Room (now plan) n 1 × (length (now list) ≤ listWords) ⌝ }
+    ensures { λ r. ⌜ (now (plan .exit) ≡ sets (now (plan .entry)) (n * planNodeWords) (operation ∷ left ∷ right ∷ count ∷ padded (now (list .entry)))) × (r ≡ n + 1) ⌝ }
 {
     let at = (n as usize) * PLAN_NODE_WORDS;
     plan[at] = operation;
@@ -34,7 +52,7 @@ fn push(
     plan[at + 3] = count;
     let mut j = 0;
     while j < LIST_WORDS {
-        plan[at + HEAD_WORDS + j] = list[j];
+        plan[at + HEAD_WORDS + j] = word_at(list, j);
         j += 1;
     }
     n + 1
@@ -44,7 +62,7 @@ pub fn load(plan: &mut [u32], n: u32, relation: u32) -> u32
     requires { ⌜ Room (now plan) n 1 ⌝ }
     ensures { λ r. ⌜ Written (now (plan .entry)) n (nodes.load relation ∷ []) (now (plan .exit)) r ⌝ }
 {
-    push(plan, n, 1, relation, 0, 0, [0u32; LIST_WORDS])
+    push(plan, n, 1, relation, 0, 0, &[0u32; 1])
 }
 
 pub fn project(plan: &mut [u32], n: u32, left: u32, attributes: NodeList) -> u32
@@ -52,7 +70,15 @@ pub fn project(plan: &mut [u32], n: u32, left: u32, attributes: NodeList) -> u32
     ensures { λ r. ⌜ Written (now (plan .entry)) n (nodes.project left (attributesIn attributes) ∷ []) (now (plan .exit)) r ⌝ }
 {
     let words = attributes.words;
-    push(plan, n, 2, left, 0, attributes.used, words)
+    push(plan, n, 2, left, 0, attributes.used, &words)
+}
+
+// A project on the first columns, so many.
+pub fn project_first(plan: &mut [u32], n: u32, left: u32, columns: u32) -> u32
+    requires { ⌜ Room (now plan) n 1 × (columns ≤ listWords) ⌝ }
+    ensures { λ r. ⌜ Written (now (plan .entry)) n (nodes.project left (allColumns columns) ∷ []) (now (plan .exit)) r ⌝ }
+{
+    project(plan, n, left, with_columns(no_list(), 1, columns))
 }
 
 // What a select compares an attribute with (operations 4 and 3).
@@ -72,70 +98,83 @@ pub fn select(
     requires { ⌜ Room (now plan) n 1 × NamesOperator operator ⌝ }
     ensures { λ r. ⌜ Written (now (plan .entry)) n (selecting left (attribute .0) operator with ∷ []) (now (plan .exit)) r ⌝ }
 {
-    let mut list = [0u32; LIST_WORDS];
-    list[0] = attribute.0;
-    list[1] = operator;
     match with {
         Comparand::Attribute(other) => {
-            list[2] = other.0;
-            push(plan, n, 4, left, 0, 1, list)
+            let list = [attribute.0, operator, other.0];
+            push(plan, n, 4, left, 0, 1, &list)
         }
         Comparand::Constant(constant) => {
-            list[2] = constant.0;
-            push(plan, n, 3, left, 0, 1, list)
+            let list = [attribute.0, operator, constant.0];
+            push(plan, n, 3, left, 0, 1, &list)
         }
     }
 }
 
-// A join with no triples.
-pub fn product(plan: &mut [u32], n: u32, left: u32, right: u32) -> u32
+// The operations on two values that list nothing. A product is a join with no triples.
+pub enum Pairing {
+    Product,
+    Unite,
+    Intersect,
+    Subtract,
+}
+
+fn pairing_number(how: Pairing) -> u32
+    ensures { λ r. ⌜ r ≡ pairingNumber how ⌝ }
+{
+    match how {
+        Pairing::Product => 5,
+        Pairing::Unite => 9,
+        Pairing::Intersect => 10,
+        Pairing::Subtract => 11,
+    }
+}
+
+pub fn pair(plan: &mut [u32], n: u32, how: Pairing, left: u32, right: u32) -> u32
     requires { ⌜ Room (now plan) n 1 ⌝ }
-    ensures { λ r. ⌜ Written (now (plan .entry)) n (nodes.join left right [] ∷ []) (now (plan .exit)) r ⌝ }
+    ensures { λ r. ⌜ Written (now (plan .entry)) n (paired how left right ∷ []) (now (plan .exit)) r ⌝ }
 {
-    push(plan, n, 5, left, right, 0, [0u32; LIST_WORDS])
+    push(plan, n, pairing_number(how), left, right, 0, &[0u32; 1])
 }
 
-pub fn semijoin(plan: &mut [u32], n: u32, left: u32, right: u32, triples: NodeList) -> u32
-    requires { ⌜ Room (now plan) n 1 × ListsTriples triples ⌝ }
-    ensures { λ r. ⌜ Written (now (plan .entry)) n (nodes.semijoin left right (triplesIn triples) ∷ []) (now (plan .exit)) r ⌝ }
-{
-    let words = triples.words;
-    push(plan, n, 6, left, right, triples.used / 3, words)
+// The operations on two values with a list of triples, or of pairs.
+pub enum Linking {
+    Semijoin,
+    Antijoin,
+    Divide,
 }
 
-pub fn antijoin(plan: &mut [u32], n: u32, left: u32, right: u32, triples: NodeList) -> u32
-    requires { ⌜ Room (now plan) n 1 × ListsTriples triples ⌝ }
-    ensures { λ r. ⌜ Written (now (plan .entry)) n (nodes.antijoin left right (triplesIn triples) ∷ []) (now (plan .exit)) r ⌝ }
+fn linking_number(how: Linking) -> u32
+    ensures { λ r. ⌜ r ≡ linkingNumber how ⌝ }
 {
-    let words = triples.words;
-    push(plan, n, 7, left, right, triples.used / 3, words)
+    match how {
+        Linking::Semijoin => 6,
+        Linking::Antijoin => 7,
+        Linking::Divide => 8,
+    }
 }
 
-pub fn divide(plan: &mut [u32], n: u32, left: u32, right: u32, pairs: NodeList) -> u32
-    requires { ⌜ Room (now plan) n 1 × ListsPairs pairs ⌝ }
-    ensures { λ r. ⌜ Written (now (plan .entry)) n (nodes.divide left right (pairsIn pairs) ∷ []) (now (plan .exit)) r ⌝ }
+fn linking_count(how: Linking, used: u32) -> u32
+    ensures { λ r. ⌜ r ≡ linkingCount how used ⌝ }
 {
-    let words = pairs.words;
-    push(plan, n, 8, left, right, pairs.used / 2, words)
+    match how {
+        Linking::Semijoin => used / TRIPLE_WORDS as u32,
+        Linking::Antijoin => used / TRIPLE_WORDS as u32,
+        Linking::Divide => used / PAIR_WORDS as u32,
+    }
 }
 
-pub fn unite(plan: &mut [u32], n: u32, left: u32, right: u32) -> u32
-    requires { ⌜ Room (now plan) n 1 ⌝ }
-    ensures { λ r. ⌜ Written (now (plan .entry)) n (nodes.unite left right ∷ []) (now (plan .exit)) r ⌝ }
+pub fn link(plan: &mut [u32], n: u32, how: Linking, left: u32, right: u32, list: NodeList) -> u32
+    requires { ⌜ Room (now plan) n 1 × ListsFor how list ⌝ }
+    ensures { λ r. ⌜ Written (now (plan .entry)) n (linked how left right list ∷ []) (now (plan .exit)) r ⌝ }
 {
-    push(plan, n, 9, left, right, 0, [0u32; LIST_WORDS])
-}
-
-pub fn intersect(plan: &mut [u32], n: u32, left: u32, right: u32) -> u32
-    requires { ⌜ Room (now plan) n 1 ⌝ }
-    ensures { λ r. ⌜ Written (now (plan .entry)) n (nodes.intersect left right ∷ []) (now (plan .exit)) r ⌝ }
-{
-    push(plan, n, 10, left, right, 0, [0u32; LIST_WORDS])
-}
-
-pub fn subtract(plan: &mut [u32], n: u32, left: u32, right: u32) -> u32
-    requires { ⌜ Room (now plan) n 1 ⌝ }
-    ensures { λ r. ⌜ Written (now (plan .entry)) n (nodes.subtract left right ∷ []) (now (plan .exit)) r ⌝ }
-{
-    push(plan, n, 11, left, right, 0, [0u32; LIST_WORDS])
+    let words = list.words;
+    push(
+        plan,
+        n,
+        linking_number(how),
+        left,
+        right,
+        linking_count(how, list.used),
+        &words,
+    )
 }

@@ -3,19 +3,9 @@ ghost use mathlib.Core.Path.{_≡_};
 ghost use Prim.Native.Nat.{_*_, _≤_};
 ghost use lib.ListN.{length};
 ghost use Rattle.relations.specs.Limits.{planNodeLimit, planNodeWords};
-ghost use Rattle.emission.specs.HeavyCount.{weightOfNumber, heavyIn};
+ghost use Rattle.emission.specs.HeavyCount.{heavyIn};
+use relations::heavy::weight;
 use relations::limits::PLAN_NODE_WORDS;
-
-// 1 for the number of a heavy operation, else 0.
-fn weight(operation: u32) -> u32
-    ensures { λ r. ⌜ r ≡ weightOfNumber operation ⌝ }
-{
-    if (operation == 5) | ((8 <= operation) & (operation <= 11)) {
-        1
-    } else {
-        0
-    }
-}
 
 pub fn count_heavy(plan: &[u32], nodes: u32) -> u32
     requires { ⌜ (nodes ≤ planNodeLimit) × (nodes * planNodeWords ≤ length (now plan)) ⌝ }

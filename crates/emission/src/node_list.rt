@@ -7,8 +7,8 @@ ghost use lib.ListN.{length};
 ghost use Rattle.relations.specs.Limits.{columnLimit, listWords};
 ghost use Rattle.calculus.specs.Scope.{columnsFrom};
 ghost use Rattle.emission.specs.NodeLists.{nodeList, grownBy, numbersOf};
-use nodes::node::Attribute;
 use relations::limits::LIST_WORDS;
+use terms::attribute::Attribute;
 
 // A node's list: the words used so far, then zeros.
 pub struct NodeList {

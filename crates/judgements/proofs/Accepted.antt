@@ -103,7 +103,7 @@ pub passed-accepted : (catalogue words : List ℕ) → Passed catalogue words �
 unfolding judgedByWalk
 passed-accepted catalogue words p =
     rw (p .count)
-    (sym (all-accepted catalogue words refl refl (p .known) (p .clean .bound) (p .clean .fit) ∙ tree-judged catalogue words refl refl (p .formed) (p .once) (p .alpha)))
+    (sym (all-accepted catalogue words refl refl refl (p .known) (p .clean .bound) (p .clean .fit) ∙ tree-judged catalogue words refl refl (p .formed) (p .once) (p .alpha)))
 
 -- what meets the contract of `judge` is one judgement only
 pub one-judgement : (catalogue words : List ℕ) {a b : Judgement} → a ≡ judgedByWalk catalogue words → b ≡ judgedByWalk catalogue words → a ≡ b

@@ -8,7 +8,7 @@ use lib.Dec.{ltb, leb, eqb}
 use borrow.Author.Tests.{ltb-true, le-ltb, ne-eqb, eq-eqb}
 use Rattle.relations.specs.Limits.{columnLimit, questionNodeLimit, variableCount, operatorCount}
 use Rattle.relations.specs.Lists.{All}
-use Rattle.relations.specs.Comparison.{Operator, operatorOf}
+use Rattle.relations.specs.Comparison.{Operator, operatorOf, operatorFor}
 use Rattle.relations.specs.Columns.{attribute}
 use Rattle.relations.proofs.BoolLaws.{and-left, and-right}
 use Rattle.calculus.specs.Question as calculus
@@ -17,15 +17,13 @@ use Rattle.calculus.specs.Scope.{entry, extend, columnsIn}
 use Rattle.calculus.specs.Form.{NotInScope, Known, GoodAtom, GoodTarget, widthOfRange, scopeOfBindings, GoodRange, GoodBindings, GoodMaybe, GoodCondition}
 use Rattle.calculus.specs.Form as form
 use Rattle.nodes.specs.Nodes.{operandFits, atomFits}
-use Rattle.question.specs.Trees.{Tree, nothing, branch, operatorFor, operandOf, targetOf, atomOf, alphaOf, reading}
-use Rattle.question.specs.Walk.{widthKept, noWidths, addWidths, bind, opening, inside, operandUnboundAt, unboundAt, operandUnfitAt, unfitAt, lowestOf, walk}
+use Rattle.question.specs.Trees.{Tree, nothing, branch, operandOf, targetOf, atomOf, alphaOf, reading}
+use Rattle.question.specs.Walk.{widthKept, columnsKept, noWidths, addWidths, bind, opening, inside, operandUnboundAt, unboundAt, operandUnfitAt, unfitAt, lowestOf, walk, Found}
 use Rattle.nodes.specs.declared.node.Operand.{Operand}
 use Rattle.nodes.specs.declared.node.Operand.the-variants.{Of, Fixed}
 use Rattle.nodes.specs.declared.node.Atom.{Atom}
 use Rattle.nodes.specs.declared.node.Node.{Node}
 use Rattle.nodes.specs.declared.node.Node.the-variants.{Table, Alpha, Target, Binding, RangeOr, RangeAnd, RangeAndNot, Atom as AtomNode, And, Or, Not, Some, Every}
-use Rattle.question.specs.declared.scope.ScopeWidths.{ScopeWidths}
-use Rattle.question.specs.declared.scope.Found.{Found}
 use Rattle.nodes.proofs.Forms.{first-of}
 use Rattle.judgements.proofs.SortedTrees.{RangeTree, tableTree, alphaTree, orTree, andTree, andNotTree, TargetTree, targetTree, TargetsIfAny, noTarget, moreTargets, BindingTree, bindingTree, BindingsIfAny, noBinding, moreBindings, ConditionTree, atomTree, bothTree, eitherTree, notTree, someTree, everyTree, ConditionIfAny, withoutCondition, withCondition}
 use Rattle.judgements.proofs.ScopesShown.{Shows, shows-empty}
@@ -37,7 +35,7 @@ none-lower true i first second third h a b c = absurd (true≢false h)
 none-lower false i first second third h a b c = omega arith
 
 -- no fault at a node, and none below it
-clean-at : (columns : ℕ → ℕ) (i : ℕ) (node : Node) (x y z : Tree) (scope : ScopeWidths)
+clean-at : (columns : ℕ → ℕ) (i : ℕ) (node : Node) (x y z : Tree) (scope : List ℕ)
     → unboundAt node scope ≡ false
     → unfitAt node scope (walk columns x (opening node scope) .width) (walk columns y (inside node scope (walk columns x (opening node scope))) .width) ≡ false
     → Clean (walk columns x (opening node scope)) → Clean (walk columns y (inside node scope (walk columns x (opening node scope)))) → Clean (walk columns z (inside node scope (walk columns x (opening node scope))))
@@ -52,7 +50,7 @@ clean-at columns i node x y z scope bound fit a b c =
       fit = none-lower (unfitAt node scope (first .width) (second .width)) i (first .unfit) (second .unfit) (third .unfit) fit (a .fit) (b .fit) (c .fit);
     }
 
-clean-none : (columns : ℕ → ℕ) (scope : ScopeWidths) → Clean (walk columns nothing scope)
+clean-none : (columns : ℕ → ℕ) (scope : List ℕ) → Clean (walk columns nothing scope)
 unfolding walk
 clean-none columns scope = record { bound = omega arith; fit = omega arith }
 
@@ -65,7 +63,7 @@ both-clear : (a b : Bool) → a ≡ false → b ≡ false → (a || b) ≡ false
 both-clear true b h k = h
 both-clear false b h k = k
 
-module _ {scope : ScopeWidths} {s : scopes.Scope} (shows : Shows scope s) where
+module _ {scope : List ℕ} {s : scopes.Scope} (shows : Shows scope s) where
   not-bound : (v : ℕ) → v < variableCount → NotInScope v s → ltb 0 (widthKept scope v) ≡ false
   not-bound v small new = le-ltb 0 (widthKept scope v) (omega (arith, shows .shown v small, absent v s new))
 
@@ -115,9 +113,9 @@ module _ {scope : ScopeWidths} {s : scopes.Scope} (shows : Shows scope s) where
   clean-target v (suc n) small good = record { target-bound = in-scope v small (omega (arith, good .0, good .1)); target-fit = has-attribute v (suc n) small (good .1) }
 
   -- a binder's columns fit
-  columns-fit : (width w : ℕ) → w ≡ width → columnsIn s + w ≤ columnLimit → ltb columnLimit (addWidths (scope .columns) width) ≡ false
+  columns-fit : (width w : ℕ) → w ≡ width → columnsIn s + w ≤ columnLimit → ltb columnLimit (addWidths (columnsKept scope) width) ≡ false
   unfolding addWidths
-  columns-fit width w e h = le-ltb columnLimit (addWidths (scope .columns) width) (omega (arith, e, h, shows .all-columns))
+  columns-fit width w e h = le-ltb columnLimit (addWidths (columnsKept scope) width) (omega (arith, e, h, shows .all-columns))
 
 module _ (columns : ℕ → ℕ) (relations : ℕ) where
   -- an alpha's first binding is one of its bindings
@@ -140,7 +138,7 @@ module _ (columns : ℕ → ℕ) (relations : ℕ) where
     mutual
       unfolding GoodRange widthOfRange reading walk
 
-      pub range-clean : {tree : Tree} → RangeTree relations tree → (scope : ScopeWidths) → GoodRange columns relations (reading tree .range) → Clean (walk columns tree scope)
+      pub range-clean : {tree : Tree} → RangeTree relations tree → (scope : List ℕ) → GoodRange columns relations (reading tree .range) → Clean (walk columns tree scope)
       range-clean (tableTree {i = i} {relation = relation} h) scope good = clean-at columns i (Table relation) nothing nothing nothing scope refl refl (clean-none columns scope) (clean-none columns scope) (clean-none columns scope)
       range-clean (alphaTree {i = i} {a = a} {b = b} {c = c} {x = x} {y = y} {z = z} small bs ts f) scope good =
           let first : Found = walk columns x noWidths in
@@ -165,16 +163,16 @@ module _ (columns : ℕ → ℕ) (relations : ℕ) where
           let cy = range-clean t scope (good .1) in
           clean-at columns i (RangeAndNot a b) x y nothing scope refl (same-widths (range-good columns relations has-columns r scope cx) (range-good columns relations has-columns t scope cy) (good .2)) cx cy (clean-none columns scope)
 
-      target-clean : {tree : Tree} → TargetTree relations tree → (scope : ScopeWidths) (s : scopes.Scope) → Shows scope s → All (GoodTarget s) (reading tree .targets) → Clean (walk columns tree scope)
+      target-clean : {tree : Tree} → TargetTree relations tree → (scope : List ℕ) (s : scopes.Scope) → Shows scope s → All (GoodTarget s) (reading tree .targets) → Clean (walk columns tree scope)
       target-clean (targetTree {i = i} {v = v} {a = a} {b = b} {x = x} small inside ts) scope s shows good =
           let t = clean-target shows v a inside (good .0) in
           clean-at columns i (Target v a b) x nothing nothing scope (t .target-bound) (t .target-fit) (targets-clean ts scope s shows (good .1)) (clean-none columns scope) (clean-none columns scope)
 
-      targets-clean : {tree : Tree} → TargetsIfAny relations tree → (scope : ScopeWidths) (s : scopes.Scope) → Shows scope s → All (GoodTarget s) (reading tree .targets) → Clean (walk columns tree scope)
+      targets-clean : {tree : Tree} → TargetsIfAny relations tree → (scope : List ℕ) (s : scopes.Scope) → Shows scope s → All (GoodTarget s) (reading tree .targets) → Clean (walk columns tree scope)
       targets-clean noTarget scope s shows good = clean-none columns scope
       targets-clean (moreTargets ts) scope s shows good = target-clean ts scope s shows good
 
-      binding-clean : {tree : Tree} → BindingTree relations tree → (scope : ScopeWidths) (s : scopes.Scope) → Shows scope s → GoodBindings columns relations (reading tree .bindings) s → Clean (walk columns tree scope)
+      binding-clean : {tree : Tree} → BindingTree relations tree → (scope : List ℕ) (s : scopes.Scope) → Shows scope s → GoodBindings columns relations (reading tree .bindings) s → Clean (walk columns tree scope)
       binding-clean (bindingTree {i = i} {v = v} {a = a} {b = b} {x = x} {y = y} small inside r bs) scope s shows good =
           let first : Found = walk columns x scope in
           let cx = range-clean r scope (good .1) in
@@ -184,11 +182,11 @@ module _ (columns : ℕ → ℕ) (relations : ℕ) where
           let K = binder columns relations v inside shows R new fit in
           clean-at columns i (Binding v a b) x y nothing scope new fit cx (bindings-clean bs (bind scope v (first .width)) (extend s v (widthOfRange columns (reading x .range))) (K .shows-next) (good .2)) (clean-none columns (bind scope v (first .width)))
 
-      bindings-clean : {tree : Tree} → BindingsIfAny relations tree → (scope : ScopeWidths) (s : scopes.Scope) → Shows scope s → GoodBindings columns relations (reading tree .bindings) s → Clean (walk columns tree scope)
+      bindings-clean : {tree : Tree} → BindingsIfAny relations tree → (scope : List ℕ) (s : scopes.Scope) → Shows scope s → GoodBindings columns relations (reading tree .bindings) s → Clean (walk columns tree scope)
       bindings-clean noBinding scope s shows good = clean-none columns scope
       bindings-clean (moreBindings b) scope s shows good = binding-clean b scope s shows good
 
-      condition-clean : {tree : Tree} → ConditionTree relations tree → (scope : ScopeWidths) (s : scopes.Scope) → Shows scope s → GoodCondition columns relations (reading tree .condition) s → Clean (walk columns tree scope)
+      condition-clean : {tree : Tree} → ConditionTree relations tree → (scope : List ℕ) (s : scopes.Scope) → Shows scope s → GoodCondition columns relations (reading tree .condition) s → Clean (walk columns tree scope)
       condition-clean (atomTree {i = i} {atom = atom} small fit) scope s shows good =
           let t = clean-atom shows atom fit good in
           clean-at columns i (AtomNode atom) nothing nothing nothing scope (t .atom-bound) (t .atom-fit) (clean-none columns scope) (clean-none columns scope) (clean-none columns scope)
@@ -215,6 +213,6 @@ module _ (columns : ℕ → ℕ) (relations : ℕ) where
           let K = binder columns relations v inside shows R new fit in
           clean-at columns i (Every v a b) x y nothing scope new fit cx (condition-clean f (bind scope v (first .width)) (extend s v (widthOfRange columns (reading x .range))) (K .shows-next) (good .2)) (clean-none columns (bind scope v (first .width)))
 
-      maybe-clean : {tree : Tree} → ConditionIfAny relations tree → (scope : ScopeWidths) (s : scopes.Scope) → Shows scope s → GoodMaybe columns relations (reading tree .restriction) s → Clean (walk columns tree scope)
+      maybe-clean : {tree : Tree} → ConditionIfAny relations tree → (scope : List ℕ) (s : scopes.Scope) → Shows scope s → GoodMaybe columns relations (reading tree .restriction) s → Clean (walk columns tree scope)
       maybe-clean withoutCondition scope s shows good = clean-none columns scope
       maybe-clean (withCondition f) scope s shows good = condition-clean f scope s shows (rw (restriction-is f) at good)

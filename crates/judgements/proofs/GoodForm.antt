@@ -9,7 +9,7 @@ use lib.ListN.{length}
 use borrow.Author.Tests.{ltb-true, ltb-false, leb-true, eqb-true, eqb-false, ne-eqb, not-false}
 use Rattle.relations.specs.Limits.{columnLimit, questionNodeLimit, variableCount, operatorCount}
 use Rattle.relations.specs.Lists.{All}
-use Rattle.relations.specs.Comparison.{Operator, operatorOf}
+use Rattle.relations.specs.Comparison.{Operator, operatorOf, operatorFor}
 use Rattle.relations.specs.Columns.{Attribute, attribute}
 use Rattle.relations.proofs.BoolLaws.{and-left, and-right}
 use Rattle.calculus.specs.Question as calculus
@@ -20,15 +20,13 @@ use Rattle.calculus.specs.Form as form
 use Rattle.calculus.proofs.ScopeLaws.{targets-width}
 use Rattle.calculus.proofs.LegalColumns.{targets-columns}
 use Rattle.nodes.specs.Nodes.{operandFits, atomFits}
-use Rattle.question.specs.Trees.{Tree, nothing, branch, operatorFor, operandOf, targetOf, atomOf, alphaOf, reading}
-use Rattle.question.specs.Walk.{widthKept, noWidths, addWidths, bind, opening, inside, operandUnboundAt, unboundAt, operandUnfitAt, unfitAt, targetWidthKept, lowestOf, foundAt, walk}
+use Rattle.question.specs.Trees.{Tree, nothing, branch, operandOf, targetOf, atomOf, alphaOf, reading}
+use Rattle.question.specs.Walk.{widthKept, columnsKept, noWidths, addWidths, bind, opening, inside, operandUnboundAt, unboundAt, operandUnfitAt, unfitAt, targetWidthKept, lowestOf, foundAt, walk, Found}
 use Rattle.nodes.specs.declared.node.Operand.{Operand}
 use Rattle.nodes.specs.declared.node.Operand.the-variants.{Of, Fixed}
 use Rattle.nodes.specs.declared.node.Atom.{Atom}
 use Rattle.nodes.specs.declared.node.Node.{Node}
 use Rattle.nodes.specs.declared.node.Node.the-variants.{Table, Alpha, Target, Binding, RangeOr, RangeAnd, RangeAndNot, Atom as AtomNode, And, Or, Not, Some, Every, IllFormed}
-use Rattle.question.specs.declared.scope.ScopeWidths.{ScopeWidths}
-use Rattle.question.specs.declared.scope.Found.{Found}
 use Rattle.nodes.proofs.Forms.{first-of, second-of, operand-variable, variable-fits}
 use Rattle.judgements.proofs.SortedTrees.{RangeTree, tableTree, alphaTree, orTree, andTree, andNotTree, TargetTree, targetTree, TargetsIfAny, noTarget, moreTargets, BindingTree, bindingTree, BindingsIfAny, noBinding, moreBindings, ConditionTree, atomTree, bothTree, eitherTree, notTree, someTree, everyTree, ConditionIfAny, withoutCondition, withCondition}
 use Rattle.judgements.proofs.ScopesShown.{Shows, shows-empty, fresh, shows-bind}
@@ -50,14 +48,14 @@ no-fault true i first second third h k = absurd (omega arith)
 no-fault false i first second third h k = record { clear = refl; none-first = omega arith; none-second = omega arith; none-third = omega arith }
 
 -- neither at a node nor below it
-record CleanNode (node : Node) (scope : ScopeWidths) (first second third : Found) : Type 0 where
+record CleanNode (node : Node) (scope : List ℕ) (first second third : Found) : Type 0 where
   bound-here : unboundAt node scope ≡ false
   fit-here : unfitAt node scope (first .width) (second .width) ≡ false
   clean-first : Clean first
   clean-second : Clean second
   clean-third : Clean third
 
-clean-node : (columns : ℕ → ℕ) {i : ℕ} (node : Node) (scope : ScopeWidths) (first second third : Found) → i < questionNodeLimit → Clean (foundAt columns i node scope first second third) → CleanNode node scope first second third
+clean-node : (columns : ℕ → ℕ) {i : ℕ} (node : Node) (scope : List ℕ) (first second third : Found) → i < questionNodeLimit → Clean (foundAt columns i node scope first second third) → CleanNode node scope first second third
 clean-node columns {i} node scope first second third small clean =
     let u = no-fault (unboundAt node scope) i (first .unbound) (second .unbound) (third .unbound) small (clean .bound) in
     let w = no-fault (unfitAt node scope (first .width) (second .width)) i (first .unfit) (second .unfit) (third .unfit) small (clean .fit) in
@@ -69,7 +67,7 @@ clean-node columns {i} node scope first second third small clean =
       clean-third = record { bound = u .none-third; fit = w .none-third };
     }
 
-clean-branch : (columns : ℕ → ℕ) {i : ℕ} (node : Node) (x y z : Tree) (scope : ScopeWidths) → i < questionNodeLimit → Clean (walk columns (branch i node x y z) scope)
+clean-branch : (columns : ℕ → ℕ) {i : ℕ} (node : Node) (x y z : Tree) (scope : List ℕ) → i < questionNodeLimit → Clean (walk columns (branch i node x y z) scope)
     → CleanNode node scope (walk columns x (opening node scope)) (walk columns y (inside node scope (walk columns x (opening node scope)))) (walk columns z (inside node scope (walk columns x (opening node scope))))
 unfolding walk
 clean-branch columns node x y z scope small clean =
@@ -81,7 +79,7 @@ or-clear true b h = absurd (true≢false h)
 or-clear false b h = (refl, h)
 
 -- a variable that is in scope, with the attribute that is asked for
-module _ {scope : ScopeWidths} {s : scopes.Scope} (shows : Shows scope s) where
+module _ {scope : List ℕ} {s : scopes.Scope} (shows : Shows scope s) where
   in-scope : (v : ℕ) → v < variableCount → eqb (widthKept scope v) 0 ≡ false → 1 ≤ scopes.widthIn s v
   in-scope v small h = let n : widthKept scope v ≡ 0 → ⊥ = eqb-false (widthKept scope v) 0 h in omega (arith, shows .shown v small)
 
@@ -159,7 +157,7 @@ module _ (columns : ℕ → ℕ) (relations : ℕ) where
     pub wide : widthOfRange columns range ≡ width
     pub some : 1 ≤ width
 
-  pub record BindingsGood (bindings : calculus.Bindings) (s : scopes.Scope) (after : ScopeWidths) : Type 0 where
+  pub record BindingsGood (bindings : calculus.Bindings) (s : scopes.Scope) (after : List ℕ) : Type 0 where
     pub good : GoodBindings columns relations bindings s
     pub shows-after : Shows after (scopeOfBindings columns bindings s)
 
@@ -168,19 +166,19 @@ module _ (columns : ℕ → ℕ) (relations : ℕ) where
     pub wide : width ≡ min (suc columnLimit) (form.targetsWidth s targets)
 
   -- a binder: the variable is new, its columns fit, and what follows is shown
-  pub record BinderGood (v : ℕ) (range : calculus.Range) (scope : ScopeWidths) (s : scopes.Scope) (width : ℕ) : Type 0 where
+  pub record BinderGood (v : ℕ) (range : calculus.Range) (scope : List ℕ) (s : scopes.Scope) (width : ℕ) : Type 0 where
     pub is-new : NotInScope v s
     pub fits : columnsIn s + widthOfRange columns range ≤ columnLimit
     pub shows-next : Shows (bind scope v width) (extend s v (widthOfRange columns range))
 
-  pub binder : {scope : ScopeWidths} {s : scopes.Scope} {range : calculus.Range} {width : ℕ} (v : ℕ) → v < variableCount → Shows scope s → RangeGood range width
-      → ltb 0 (widthKept scope v) ≡ false → ltb columnLimit (addWidths (scope .columns) width) ≡ false → BinderGood v range scope s width
+  pub binder : {scope : List ℕ} {s : scopes.Scope} {range : calculus.Range} {width : ℕ} (v : ℕ) → v < variableCount → Shows scope s → RangeGood range width
+      → ltb 0 (widthKept scope v) ≡ false → ltb columnLimit (addWidths (columnsKept scope) width) ≡ false → BinderGood v range scope s width
   binder {scope} {s} {range} {width} v small shows r new fit =
-      let narrow : addWidths (scope .columns) width ≤ columnLimit = ltb-false columnLimit (addWidths (scope .columns) width) fit in
+      let narrow : addWidths (columnsKept scope) width ≤ columnLimit = ltb-false columnLimit (addWidths (columnsKept scope) width) fit in
       let n : NotInScope v s = new-variable shows v small new in
       record {
         is-new = n;
-        fits = omega (arith, adds-up (scope .columns) width narrow, shows .all-columns, r .wide);
+        fits = omega (arith, adds-up (columnsKept scope) width narrow, shows .all-columns, r .wide);
         shows-next = rw (r .wide) (shows-bind v width shows small n (r .some) narrow);
       }
 
@@ -191,7 +189,7 @@ module _ (columns : ℕ → ℕ) (relations : ℕ) where
     mutual
       unfolding GoodRange widthOfRange reading walk
 
-      pub range-good : {tree : Tree} → RangeTree relations tree → (scope : ScopeWidths) → Clean (walk columns tree scope) → RangeGood (reading tree .range) (walk columns tree scope .width)
+      pub range-good : {tree : Tree} → RangeTree relations tree → (scope : List ℕ) → Clean (walk columns tree scope) → RangeGood (reading tree .range) (walk columns tree scope .width)
       range-good (tableTree {relation = relation} h) scope clean = record { good = h; wide = refl; some = has-columns relation h }
       range-good (alphaTree {a = a} {b = b} {c = c} {x = x} {y = y} {z = z} small bs ts f) scope clean =
           let first : Found = walk columns x noWidths in
@@ -218,7 +216,7 @@ module _ (columns : ℕ → ℕ) (relations : ℕ) where
           let S = range-good t scope (n .clean-second) in
           record { good = (R .good, S .good, same-widths R S (n .fit-here)); wide = R .wide; some = R .some }
 
-      pub target-good : {tree : Tree} → TargetTree relations tree → (scope : ScopeWidths) (s : scopes.Scope) → Shows scope s → Clean (walk columns tree scope) → TargetsGood (reading tree .targets) s (walk columns tree scope .width)
+      pub target-good : {tree : Tree} → TargetTree relations tree → (scope : List ℕ) (s : scopes.Scope) → Shows scope s → Clean (walk columns tree scope) → TargetsGood (reading tree .targets) s (walk columns tree scope .width)
       target-good (targetTree {v = v} {a = a} {b = b} {x = x} small inside ts) scope s shows clean =
           let n = clean-branch columns (Target v a b) x nothing nothing scope small clean in
           let T = targets-good ts scope s shows (n .clean-first) in
@@ -227,11 +225,11 @@ module _ (columns : ℕ → ℕ) (relations : ℕ) where
             wide = counts (targetWidthKept scope v a) (walk columns x scope .width) (form.targetWidth s (targetOf v a)) (form.targetsWidth s (reading x .targets)) (target-columns shows v a inside) (T .wide);
           }
 
-      targets-good : {tree : Tree} → TargetsIfAny relations tree → (scope : ScopeWidths) (s : scopes.Scope) → Shows scope s → Clean (walk columns tree scope) → TargetsGood (reading tree .targets) s (walk columns tree scope .width)
+      targets-good : {tree : Tree} → TargetsIfAny relations tree → (scope : List ℕ) (s : scopes.Scope) → Shows scope s → Clean (walk columns tree scope) → TargetsGood (reading tree .targets) s (walk columns tree scope .width)
       targets-good noTarget scope s shows clean = record { good = tt; wide = refl }
       targets-good (moreTargets ts) scope s shows clean = target-good ts scope s shows clean
 
-      pub binding-good : {tree : Tree} → BindingTree relations tree → (scope : ScopeWidths) (s : scopes.Scope) → Shows scope s → Clean (walk columns tree scope) → BindingsGood (reading tree .bindings) s (walk columns tree scope .scope)
+      pub binding-good : {tree : Tree} → BindingTree relations tree → (scope : List ℕ) (s : scopes.Scope) → Shows scope s → Clean (walk columns tree scope) → BindingsGood (reading tree .bindings) s (walk columns tree scope .scope)
       binding-good (bindingTree {v = v} {a = a} {b = b} {x = x} {y = y} small inside r bs) scope s shows clean =
           let first : Found = walk columns x scope in
           let n = clean-branch columns (Binding v a b) x y nothing scope small clean in
@@ -240,11 +238,11 @@ module _ (columns : ℕ → ℕ) (relations : ℕ) where
           let B = bindings-good bs (bind scope v (first .width)) (extend s v (widthOfRange columns (reading x .range))) (K .shows-next) (n .clean-second) in
           record { good = (K .is-new, R .good, B .good, K .fits); shows-after = B .shows-after }
 
-      bindings-good : {tree : Tree} → BindingsIfAny relations tree → (scope : ScopeWidths) (s : scopes.Scope) → Shows scope s → Clean (walk columns tree scope) → BindingsGood (reading tree .bindings) s (walk columns tree scope .scope)
+      bindings-good : {tree : Tree} → BindingsIfAny relations tree → (scope : List ℕ) (s : scopes.Scope) → Shows scope s → Clean (walk columns tree scope) → BindingsGood (reading tree .bindings) s (walk columns tree scope .scope)
       bindings-good noBinding scope s shows clean = record { good = tt; shows-after = shows }
       bindings-good (moreBindings b) scope s shows clean = binding-good b scope s shows clean
 
-      condition-good : {tree : Tree} → ConditionTree relations tree → (scope : ScopeWidths) (s : scopes.Scope) → Shows scope s → Clean (walk columns tree scope) → GoodCondition columns relations (reading tree .condition) s
+      condition-good : {tree : Tree} → ConditionTree relations tree → (scope : List ℕ) (s : scopes.Scope) → Shows scope s → Clean (walk columns tree scope) → GoodCondition columns relations (reading tree .condition) s
       condition-good (atomTree {atom = atom} small fit) scope s shows clean =
           let n = clean-branch columns (AtomNode atom) nothing nothing nothing scope small clean in
           good-atom shows atom fit (n .fit-here)
@@ -270,6 +268,6 @@ module _ (columns : ℕ → ℕ) (relations : ℕ) where
           let K = binder v inside shows R (n .bound-here) (n .fit-here) in
           (K .is-new, R .good, condition-good f (bind scope v (first .width)) (extend s v (widthOfRange columns (reading x .range))) (K .shows-next) (n .clean-second), K .fits)
 
-      maybe-good : {tree : Tree} → ConditionIfAny relations tree → (scope : ScopeWidths) (s : scopes.Scope) → Shows scope s → Clean (walk columns tree scope) → GoodMaybe columns relations (reading tree .restriction) s
+      maybe-good : {tree : Tree} → ConditionIfAny relations tree → (scope : List ℕ) (s : scopes.Scope) → Shows scope s → Clean (walk columns tree scope) → GoodMaybe columns relations (reading tree .restriction) s
       maybe-good withoutCondition scope s shows clean = tt
       maybe-good (withCondition f) scope s shows clean = rw (restriction-is f) (condition-good f scope s shows clean)

@@ -12,7 +12,8 @@ use Rattle.calculus.specs.Scope.{Scope}
 use Rattle.nodes.specs.Nodes.{nodeAt, kindNamed, fits}
 use Rattle.nodes.specs.References.{references}
 use Rattle.question.specs.Trees.{Tree, nothing, branch, treeOf}
-use Rattle.nodes.specs.Roles.{Role, roleOf}
+use Rattle.nodes.specs.Roles.{roleOf}
+use Rattle.nodes.specs.declared.roles.Role.{Role}
 use Rattle.judgements.specs.Faults.{firstSees, restSee, faultAt}
 use Rattle.nodes.specs.declared.node.Node.{Node}
 use Rattle.nodes.proofs.Forms.{node-fits, node-lower}

@@ -17,21 +17,36 @@ use Rattle.calculus.specs.Scope as calculus
 use Rattle.calculus.specs.Scope.{ScopeEntry, entry, extend, columnsIn}
 use Rattle.calculus.specs.Form.{NotInScope}
 use Rattle.calculus.proofs.ScopeLaws.{columns-extend}
-use Rattle.question.specs.Walk.{widthKept, noWidths, addWidths, boundWidth, bind}
-use Rattle.question.specs.declared.scope.ScopeWidths.{ScopeWidths}
+use Rattle.question.specs.Walk.{widthKept, columnsKept, noWidths, addWidths, boundWidth, bind}
 
 abbrev pub HasWidth : ScopeEntry → Type 0
 HasWidth (entry variable width) = 1 ≤ width
 
-pub record Shows (scope : ScopeWidths) (s : calculus.Scope) : Type 0 where
+-- a scope behind a binder, as the walk keeps it: one width is set, and all columns
+module _ (scope : List ℕ) (v w : ℕ) where
+  pub bind-length : length (bind scope v w) ≡ length scope
+  bind-length = length-set (set scope v (boundWidth w)) variableCount (addWidths (columnsKept scope) w) ∙ length-set scope v (boundWidth w)
+
+  pub kept-bound : v < variableCount → length scope ≡ suc variableCount → widthKept (bind scope v w) v ≡ boundWidth w
+  kept-bound small room =
+      getD-set-other (set scope v (boundWidth w)) variableCount v (addWidths (columnsKept scope) w) 0 (λ e. omega arith) ∙ getD-set-same scope v (boundWidth w) 0 (omega arith)
+
+  pub kept-other : (u : ℕ) → u < variableCount → (u ≡ v → ⊥) → widthKept (bind scope v w) u ≡ widthKept scope u
+  kept-other u small apart =
+      getD-set-other (set scope v (boundWidth w)) variableCount u (addWidths (columnsKept scope) w) 0 (λ e. omega arith) ∙ getD-set-other scope v u (boundWidth w) 0 apart
+
+  pub columns-bound : length scope ≡ suc variableCount → columnsKept (bind scope v w) ≡ addWidths (columnsKept scope) w
+  columns-bound room = getD-set-same (set scope v (boundWidth w)) variableCount (addWidths (columnsKept scope) w) 0 (omega (arith, length-set scope v (boundWidth w)))
+
+pub record Shows (scope : List ℕ) (s : calculus.Scope) : Type 0 where
   pub shown : (v : ℕ) → v < variableCount → widthKept scope v ≡ calculus.widthIn s v
-  pub room : length (scope .widths) ≡ variableCount
-  pub all-columns : scope .columns ≡ columnsIn s
+  pub room : length scope ≡ suc variableCount
+  pub all-columns : columnsKept scope ≡ columnsIn s
   pub have-widths : All HasWidth s
 
 pub shows-empty : Shows noWidths []
 shows-empty =
-    record { shown = λ v h. getD-replicate variableCount v 0 0 h; room = length-replicate {A = ℕ} variableCount 0; all-columns = refl; have-widths = tt }
+    record { shown = λ v h. getD-replicate (suc variableCount) v 0 0 (omega arith); room = length-replicate {A = ℕ} (suc variableCount) 0; all-columns = refl; have-widths = tt }
 
 -- a variable without width is not in scope
 pub fresh : (v : ℕ) (s : calculus.Scope) → All HasWidth s → calculus.widthIn s v ≡ 0 → NotInScope v s
@@ -51,16 +66,16 @@ width-extend (entry x k ∷ s) v w u f = go (true-or-false (eqb u x)) (width-ext
     go (inl e) ih = rw (e, ne-eqb u v (λ q. eqb-false v x (f .0) (sym q ∙ eqb-true u x e)))
     go (inr e) ih = rw e ih
 
-pub shows-bind : {scope : ScopeWidths} {s : calculus.Scope} (v w : ℕ) → Shows scope s → v < variableCount → NotInScope v s → 1 ≤ w → addWidths (scope .columns) w ≤ columnLimit → Shows (bind scope v w) (extend s v w)
+pub shows-bind : {scope : List ℕ} {s : calculus.Scope} (v w : ℕ) → Shows scope s → v < variableCount → NotInScope v s → 1 ≤ w → addWidths (columnsKept scope) w ≤ columnLimit → Shows (bind scope v w) (extend s v w)
 unfolding addWidths
 shows-bind {scope} {s} v w shows small new some fit =
     record {
       shown = λ u h. go u h (true-or-false (eqb u v));
-      room = length-set (scope .widths) v (boundWidth w) ∙ shows .room;
-      all-columns = omega (arith, columns-extend s v w, shows .all-columns);
+      room = bind-length scope v w ∙ shows .room;
+      all-columns = columns-bound scope v w (shows .room) ∙ omega (arith, columns-extend s v w, shows .all-columns);
       have-widths = all-append HasWidth s (entry v w ∷ []) (shows .have-widths) (some, tt);
     }
   where
-    go : (u : ℕ) → u < variableCount → (eqb u v ≡ true) ⊎ (eqb u v ≡ false) → getD (set (scope .widths) v (boundWidth w)) u 0 ≡ calculus.widthIn (extend s v w) u
-    go u h (inl e) = rw (width-extend s v w u new, e, eqb-true u v e) (getD-set-same (scope .widths) v (boundWidth w) 0 (omega (arith, shows .room)) ∙ omega (arith, some))
-    go u h (inr e) = rw (width-extend s v w u new, e) (getD-set-other (scope .widths) v u (boundWidth w) 0 (eqb-false u v e) ∙ shows .shown u h)
+    go : (u : ℕ) → u < variableCount → (eqb u v ≡ true) ⊎ (eqb u v ≡ false) → widthKept (bind scope v w) u ≡ calculus.widthIn (extend s v w) u
+    go u h (inl e) = rw (width-extend s v w u new, e, eqb-true u v e) (kept-bound scope v w small (shows .room) ∙ omega (arith, some))
+    go u h (inr e) = rw (width-extend s v w u new, e) (kept-other scope v w u h (eqb-false u v e) ∙ shows .shown u h)

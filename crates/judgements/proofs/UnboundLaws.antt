@@ -2,12 +2,11 @@
 use mathlib.Core.Path.{_≡_, refl, sym, _∙_, ap, ap₂}
 use mathlib.Core.Bool.{Bool, true, false, not, _&&_, _||_, false≢true}
 use mathlib.Core.Logic.{_⊎_, inl, inr}
-use mathlib.Core.List.{[], _∷_}
+use mathlib.Core.List.{List, [], _∷_}
 use Prim.Native.Nat.{ℕ, zero, suc, _<_}
 use native.Mathlib.Omega.{arith}
 use lib.Dec.{ltb, leb, eqb}
-use lib.ListN.{length, getD, set, length-set, length-replicate, getD-replicate}
-use lib.Seq.{getD-set-same, getD-set-other}
+use lib.ListN.{length, length-replicate, getD-replicate}
 use borrow.Author.Tests.{eqb-true, eqb-false, ne-eqb, ltb-true, lt-ltb, le-ltb}
 use Rattle.relations.specs.Limits.{columnLimit, questionNodeLimit, variableCount, operatorCount}
 use Rattle.relations.proofs.BoolLaws.{true-or-false, and-left, and-right}
@@ -18,26 +17,25 @@ use Rattle.nodes.specs.Nodes.{operandFits, atomFits, OperandVariableFits}
 use Rattle.nodes.specs.References.{lowest}
 use Rattle.question.specs.Trees.{Tree, nothing, branch, reading}
 use Rattle.nodes.specs.Roles.{roleOf}
-use Rattle.question.specs.Walk.{widthKept, noWidths, boundWidth, bind, opening, inside, operandUnboundAt, unboundAt, lowestOf, walk}
+use Rattle.question.specs.Walk.{widthKept, noWidths, boundWidth, bind, opening, inside, operandUnboundAt, unboundAt, lowestOf, walk, Found}
 use Rattle.judgements.specs.Faults.{inScope, firstSees, restSee, operandUnbound, widthOf, boundBy, faultAt, unbound}
 use Rattle.nodes.specs.declared.node.Operand.{Operand}
 use Rattle.nodes.specs.declared.node.Operand.the-variants.{Of, Fixed}
 use Rattle.nodes.specs.declared.node.Atom.{Atom}
 use Rattle.nodes.specs.declared.node.Node.{Node}
 use Rattle.nodes.specs.declared.node.Node.the-variants.{Table, Alpha, Target, Binding, RangeOr, RangeAnd, RangeAndNot, Atom as AtomNode, And, Or, Not, Some, Every}
-use Rattle.question.specs.declared.scope.ScopeWidths.{ScopeWidths}
-use Rattle.question.specs.declared.scope.Found.{Found}
 use Rattle.nodes.proofs.Forms.{first-of, operand-variable}
 use Rattle.judgements.proofs.SortedTrees.{RangeTree, tableTree, alphaTree, orTree, andTree, andNotTree, TargetTree, targetTree, TargetsIfAny, noTarget, moreTargets, BindingTree, bindingTree, BindingsIfAny, noBinding, moreBindings, ConditionTree, atomTree, bothTree, eitherTree, notTree, someTree, everyTree, ConditionIfAny, withoutCondition, withCondition}
+use Rattle.judgements.proofs.ScopesShown.{bind-length, kept-bound, kept-other}
 use Rattle.judgements.proofs.LowestLaws.{lowest-none, node-lowest}
 
 -- the walk's scope has a width for exactly the variables in scope
-record Names (scope : ScopeWidths) (s : scopes.Scope) : Type 0 where
+record Names (scope : List ℕ) (s : scopes.Scope) : Type 0 where
   named : (v : ℕ) → v < variableCount → ltb 0 (widthKept scope v) ≡ inScope s v
-  room : length (scope .widths) ≡ variableCount
+  room : length scope ≡ suc variableCount
 
 names-empty : Names noWidths []
-names-empty = record { named = λ v h. le-ltb 0 (widthKept noWidths v) (let z : widthKept noWidths v ≡ 0 = getD-replicate variableCount v 0 0 h in omega arith); room = length-replicate {A = ℕ} variableCount 0 }
+names-empty = record { named = λ v h. le-ltb 0 (widthKept noWidths v) (let z : widthKept noWidths v ≡ 0 = getD-replicate (suc variableCount) v 0 0 (omega arith) in omega arith); room = length-replicate {A = ℕ} (suc variableCount) 0 }
 
 or-true : (b : Bool) → (b || true) ≡ true
 or-true true = refl
@@ -55,21 +53,21 @@ in-extended : (s : scopes.Scope) (v w u : ℕ) → inScope (extend s v w) u ≡ 
 in-extended [] v w u = or-false (eqb u v)
 in-extended (entry x k ∷ s) v w u = ap (λ (b : Bool). eqb u x || b) (in-extended s v w u) ∙ or-again (eqb u x) (inScope s u) (eqb u v)
 
-names-bind : {scope : ScopeWidths} {s : scopes.Scope} (v w k : ℕ) → Names scope s → v < variableCount → Names (bind scope v w) (extend s v k)
+names-bind : {scope : List ℕ} {s : scopes.Scope} (v w k : ℕ) → Names scope s → v < variableCount → Names (bind scope v w) (extend s v k)
 names-bind {scope} {s} v w k names small =
-    record { named = λ u h. go u h (true-or-false (eqb u v)) (in-extended s v k u); room = length-set (scope .widths) v (boundWidth w) ∙ names .room }
+    record { named = λ u h. go u h (true-or-false (eqb u v)) (in-extended s v k u); room = bind-length scope v w ∙ names .room }
   where
-    go : (u : ℕ) → u < variableCount → (eqb u v ≡ true) ⊎ (eqb u v ≡ false) → inScope (extend s v k) u ≡ (inScope s u || eqb u v) → ltb 0 (getD (set (scope .widths) v (boundWidth w)) u 0) ≡ inScope (extend s v k) u
+    go : (u : ℕ) → u < variableCount → (eqb u v ≡ true) ⊎ (eqb u v ≡ false) → inScope (extend s v k) u ≡ (inScope s u || eqb u v) → ltb 0 (widthKept (bind scope v w) u) ≡ inScope (extend s v k) u
     go u h (inl e) q =
-        let g : getD (set (scope .widths) v (boundWidth w)) u 0 ≡ boundWidth w = rw (eqb-true u v e) (getD-set-same (scope .widths) v (boundWidth w) 0 (omega (arith, names .room))) in
-        lt-ltb 0 (getD (set (scope .widths) v (boundWidth w)) u 0) (omega (arith, g)) ∙ sym (q ∙ rw e (or-true (inScope s u)))
-    go u h (inr e) q = rw (getD-set-other (scope .widths) v u (boundWidth w) 0 (eqb-false u v e)) (names .named u h ∙ sym (q ∙ rw e (or-false (inScope s u))))
+        let g : widthKept (bind scope v w) u ≡ boundWidth w = rw (eqb-true u v e) (kept-bound scope v w small (names .room)) in
+        lt-ltb 0 (widthKept (bind scope v w) u) (omega (arith, g)) ∙ sym (q ∙ rw e (or-true (inScope s u)))
+    go u h (inr e) q = rw (kept-other scope v w u h (eqb-false u v e)) (names .named u h ∙ sym (q ∙ rw e (or-false (inScope s u))))
 
 zero-or-more : (n : ℕ) → eqb n 0 ≡ not (ltb 0 n)
 zero-or-more zero = refl
 zero-or-more (suc n) = rw (ne-eqb (suc n) 0 (λ e. omega arith), lt-ltb 0 (suc n) (omega arith))
 
-module _ {scope : ScopeWidths} {s : scopes.Scope} (names : Names scope s) where
+module _ {scope : List ℕ} {s : scopes.Scope} (names : Names scope s) where
   operand-same : (operand : Operand) → OperandVariableFits operand → operandUnboundAt scope operand ≡ operandUnbound s operand
   operand-same (Of v a) small = zero-or-more (widthKept scope v) ∙ ap not (names .named v small)
   operand-same (Fixed c) small = refl
@@ -90,12 +88,12 @@ module _ (columns : ℕ → ℕ) (relations : ℕ) where
   abbrev pub lowestIn : Tree → scopes.Scope → ℕ
   lowestIn tree s = lowest (λ j. faultAt columns (unbound columns) tree s j) questionNodeLimit
 
-  none-in : (scope : ScopeWidths) (s : scopes.Scope) → walk columns nothing scope .unbound ≡ lowestIn nothing s
+  none-in : (scope : List ℕ) (s : scopes.Scope) → walk columns nothing scope .unbound ≡ lowestIn nothing s
   unfolding walk faultAt
   none-in scope s = sym (lowest-none questionNodeLimit)
 
   -- a node, from its own fault and its parts
-  node-in : (i : ℕ) (node : Node) (x y z : Tree) (scope : ScopeWidths) (s : scopes.Scope) → (unboundAt node scope ≡ true → i < questionNodeLimit)
+  node-in : (i : ℕ) (node : Node) (x y z : Tree) (scope : List ℕ) (s : scopes.Scope) → (unboundAt node scope ≡ true → i < questionNodeLimit)
       → unboundAt node scope ≡ unbound columns (roleOf node) x y s
       → walk columns x (opening node scope) .unbound ≡ lowestIn x (firstSees (roleOf node) s)
       → walk columns y (inside node scope (walk columns x (opening node scope))) .unbound ≡ lowestIn y (restSee columns (roleOf node) x s)
@@ -114,7 +112,7 @@ module _ (columns : ℕ → ℕ) (relations : ℕ) where
     unfolding widthOfRange reading walk
 
     -- a range sees nothing, so it may stand anywhere
-    pub range-in : {tree : Tree} → RangeTree relations tree → (scope : ScopeWidths) (s : scopes.Scope) → walk columns tree scope .unbound ≡ lowestIn tree s
+    pub range-in : {tree : Tree} → RangeTree relations tree → (scope : List ℕ) (s : scopes.Scope) → walk columns tree scope .unbound ≡ lowestIn tree s
     range-in (tableTree {i = i} {relation = relation} h) scope s = node-in i (Table relation) nothing nothing nothing scope s (λ e. absurd (false≢true e)) refl (none-in scope s) (none-in scope s) (none-in scope s)
     range-in (alphaTree {i = i} {a = a} {b = b} {c = c} {x = x} {y = y} {z = z} small bs ts f) scope s =
         let B = binding-in bs noWidths [] names-empty in
@@ -123,25 +121,25 @@ module _ (columns : ℕ → ℕ) (relations : ℕ) where
     range-in (andTree {i = i} {a = a} {b = b} {x = x} {y = y} small r t) scope s = node-in i (RangeAnd a b) x y nothing scope s (λ e. small) refl (range-in r scope []) (range-in t scope []) (none-in scope [])
     range-in (andNotTree {i = i} {a = a} {b = b} {x = x} {y = y} small r t) scope s = node-in i (RangeAndNot a b) x y nothing scope s (λ e. small) refl (range-in r scope []) (range-in t scope []) (none-in scope [])
 
-    target-in : {tree : Tree} → TargetTree relations tree → (scope : ScopeWidths) (s : scopes.Scope) → Names scope s → walk columns tree scope .unbound ≡ lowestIn tree s
+    target-in : {tree : Tree} → TargetTree relations tree → (scope : List ℕ) (s : scopes.Scope) → Names scope s → walk columns tree scope .unbound ≡ lowestIn tree s
     target-in (targetTree {i = i} {v = v} {a = a} {b = b} {x = x} small inside ts) scope s names =
         node-in i (Target v a b) x nothing nothing scope s (λ e. small) (operand-same names (Of v (record { 0 = a })) inside) (targets-in ts scope s names) (none-in scope s) (none-in scope s)
 
-    targets-in : {tree : Tree} → TargetsIfAny relations tree → (scope : ScopeWidths) (s : scopes.Scope) → Names scope s → walk columns tree scope .unbound ≡ lowestIn tree s
+    targets-in : {tree : Tree} → TargetsIfAny relations tree → (scope : List ℕ) (s : scopes.Scope) → Names scope s → walk columns tree scope .unbound ≡ lowestIn tree s
     targets-in noTarget scope s names = none-in scope s
     targets-in (moreTargets ts) scope s names = target-in ts scope s names
 
-    binding-in : {tree : Tree} → BindingTree relations tree → (scope : ScopeWidths) (s : scopes.Scope) → Names scope s → (walk columns tree scope .unbound ≡ lowestIn tree s) × Names (walk columns tree scope .scope) (scopeOfBindings columns (reading tree .bindings) s)
+    binding-in : {tree : Tree} → BindingTree relations tree → (scope : List ℕ) (s : scopes.Scope) → Names scope s → (walk columns tree scope .unbound ≡ lowestIn tree s) × Names (walk columns tree scope .scope) (scopeOfBindings columns (reading tree .bindings) s)
     binding-in (bindingTree {i = i} {v = v} {a = a} {b = b} {x = x} {y = y} small inside r bs) scope s names =
         let w : ℕ = walk columns x scope .width in
         let B = bindings-in bs (bind scope v w) (extend s v (widthOf columns x)) (names-bind v w (widthOf columns x) names inside) in
         (node-in i (Binding v a b) x y nothing scope s (λ e. small) (names .named v inside) (range-in r scope []) (B .0) (none-in (bind scope v w) (extend s v (widthOf columns x))), B .1)
 
-    bindings-in : {tree : Tree} → BindingsIfAny relations tree → (scope : ScopeWidths) (s : scopes.Scope) → Names scope s → (walk columns tree scope .unbound ≡ lowestIn tree s) × Names (walk columns tree scope .scope) (scopeOfBindings columns (reading tree .bindings) s)
+    bindings-in : {tree : Tree} → BindingsIfAny relations tree → (scope : List ℕ) (s : scopes.Scope) → Names scope s → (walk columns tree scope .unbound ≡ lowestIn tree s) × Names (walk columns tree scope .scope) (scopeOfBindings columns (reading tree .bindings) s)
     bindings-in noBinding scope s names = (none-in scope s, names)
     bindings-in (moreBindings b) scope s names = binding-in b scope s names
 
-    condition-in : {tree : Tree} → ConditionTree relations tree → (scope : ScopeWidths) (s : scopes.Scope) → Names scope s → walk columns tree scope .unbound ≡ lowestIn tree s
+    condition-in : {tree : Tree} → ConditionTree relations tree → (scope : List ℕ) (s : scopes.Scope) → Names scope s → walk columns tree scope .unbound ≡ lowestIn tree s
     condition-in (atomTree {i = i} {atom = atom} small fits) scope s names = node-in i (AtomNode atom) nothing nothing nothing scope s (λ e. small) (atom-same names columns atom fits) (none-in scope s) (none-in scope s) (none-in scope s)
     condition-in (bothTree {i = i} {a = a} {b = b} {x = x} {y = y} small f g) scope s names = node-in i (And a b) x y nothing scope s (λ e. small) refl (condition-in f scope s names) (condition-in g scope s names) (none-in scope s)
     condition-in (eitherTree {i = i} {a = a} {b = b} {x = x} {y = y} small f g) scope s names = node-in i (Or a b) x y nothing scope s (λ e. small) refl (condition-in f scope s names) (condition-in g scope s names) (none-in scope s)
@@ -153,6 +151,6 @@ module _ (columns : ℕ → ℕ) (relations : ℕ) where
         let w : ℕ = walk columns x scope .width in
         node-in i (Every v a b) x y nothing scope s (λ e. small) (names .named v inside) (range-in r scope []) (condition-in f (bind scope v w) (extend s v (widthOf columns x)) (names-bind v w (widthOf columns x) names inside)) (none-in (bind scope v w) (extend s v (widthOf columns x)))
 
-    maybe-in : {tree : Tree} → ConditionIfAny relations tree → (scope : ScopeWidths) (s : scopes.Scope) → Names scope s → walk columns tree scope .unbound ≡ lowestIn tree s
+    maybe-in : {tree : Tree} → ConditionIfAny relations tree → (scope : List ℕ) (s : scopes.Scope) → Names scope s → walk columns tree scope .unbound ≡ lowestIn tree s
     maybe-in withoutCondition scope s names = none-in scope s
     maybe-in (withCondition f) scope s names = condition-in f scope s names

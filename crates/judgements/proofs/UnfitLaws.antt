@@ -7,8 +7,7 @@ use mathlib.Core.List.{List, [], _∷_}
 use Prim.Native.Nat.{ℕ, zero, suc, _+_, _≤_, _<_, min}
 use native.Mathlib.Omega.{arith}
 use lib.Dec.{ltb, leb, eqb}
-use lib.ListN.{length, getD, set, length-set, length-replicate, getD-replicate}
-use lib.Seq.{getD-set-same, getD-set-other}
+use lib.ListN.{length, length-replicate, getD-replicate}
 use borrow.Author.Tests.{eqb-true, eqb-false, ne-eqb, ltb-true, ltb-false, leb-true}
 use Rattle.relations.specs.Limits.{columnLimit, questionNodeLimit, variableCount, operatorCount}
 use Rattle.relations.specs.Lists.{All}
@@ -24,18 +23,16 @@ use Rattle.nodes.specs.Nodes.{operandFits, atomFits, isTarget}
 use Rattle.nodes.specs.References.{lowest}
 use Rattle.question.specs.Trees.{Tree, nothing, branch, targetOf, alphaOf, reading}
 use Rattle.nodes.specs.Roles.{roleOf}
-use Rattle.question.specs.Walk.{widthKept, noWidths, addWidths, boundWidth, bind, opening, inside, operandUnfitAt, unboundAt, unfitAt, targetWidthKept, lowestOf, walk}
+use Rattle.question.specs.Walk.{widthKept, columnsKept, noWidths, addWidths, boundWidth, bind, opening, inside, operandUnfitAt, unboundAt, unfitAt, targetWidthKept, lowestOf, walk, Found}
 use Rattle.judgements.specs.Faults.{firstSees, restSee, operandUnfit, widthOf, boundBy, faultAt, unfit}
 use Rattle.nodes.specs.declared.node.Operand.{Operand}
 use Rattle.nodes.specs.declared.node.Operand.the-variants.{Of, Fixed}
 use Rattle.nodes.specs.declared.node.Atom.{Atom}
 use Rattle.nodes.specs.declared.node.Node.{Node}
 use Rattle.nodes.specs.declared.node.Node.the-variants.{Table, Alpha, Target, Binding, RangeOr, RangeAnd, RangeAndNot, Atom as AtomNode, And, Or, Not, Some, Every}
-use Rattle.question.specs.declared.scope.ScopeWidths.{ScopeWidths}
-use Rattle.question.specs.declared.scope.Found.{Found}
 use Rattle.nodes.proofs.Forms.{first-of, second-of, third-of}
 use Rattle.judgements.proofs.SortedTrees.{RangeTree, tableTree, alphaTree, orTree, andTree, andNotTree, TargetTree, targetTree, TargetsIfAny, noTarget, moreTargets, BindingTree, bindingTree, BindingsIfAny, noBinding, moreBindings, ConditionTree, atomTree, bothTree, eitherTree, notTree, someTree, everyTree, ConditionIfAny, withoutCondition, withCondition}
-use Rattle.judgements.proofs.ScopesShown.{HasWidth, fresh, width-extend}
+use Rattle.judgements.proofs.ScopesShown.{HasWidth, fresh, width-extend, bind-length, kept-bound, kept-other, columns-bound}
 use Rattle.judgements.proofs.GoodForm.{no-fault}
 use Rattle.judgements.proofs.LowestLaws.{lowest-none, node-lowest, same-ltb}
 use Rattle.judgements.proofs.Ordered.{Fitting, Ordered}
@@ -45,17 +42,17 @@ abbrev Alike : ℕ → ℕ → Type 0
 Alike a b = min (suc columnLimit) a ≡ min (suc columnLimit) b
 
 -- the walk's scope has the widths of the scope, as far as they are counted
-record Wide (scope : ScopeWidths) (s : scopes.Scope) : Type 0 where
+record Wide (scope : List ℕ) (s : scopes.Scope) : Type 0 where
   shown : (v : ℕ) → v < variableCount → Alike (widthKept scope v) (scopes.widthIn s v)
-  room : length (scope .widths) ≡ variableCount
-  all-columns : Alike (scope .columns) (columnsIn s)
+  room : length scope ≡ suc variableCount
+  all-columns : Alike (columnsKept scope) (columnsIn s)
   have-widths : All HasWidth s
 
 wide-empty : Wide noWidths []
 wide-empty =
     record {
-      shown = λ v h. ap (λ (n : ℕ). min (suc columnLimit) n) (let z : widthKept noWidths v ≡ 0 = getD-replicate variableCount v 0 0 h in z);
-      room = length-replicate {A = ℕ} variableCount 0;
+      shown = λ v h. ap (λ (n : ℕ). min (suc columnLimit) n) (let z : widthKept noWidths v ≡ 0 = getD-replicate (suc variableCount) v 0 0 (omega arith) in z);
+      room = length-replicate {A = ℕ} (suc variableCount) 0;
       all-columns = refl;
       have-widths = tt;
     }
@@ -64,7 +61,7 @@ same-over : (a b : ℕ) → Alike a b → ltb columnLimit a ≡ ltb columnLimit 
 same-over a b e = same-ltb columnLimit a columnLimit b (λ h. omega (arith, h, e)) (λ h. omega (arith, h, e))
 
 -- a binder's variable was new: no fault by 5
-new-variable : {scope : ScopeWidths} {s : scopes.Scope} → Wide scope s → (v : ℕ) → v < variableCount → ltb 0 (widthKept scope v) ≡ false → NotInScope v s
+new-variable : {scope : List ℕ} {s : scopes.Scope} → Wide scope s → (v : ℕ) → v < variableCount → ltb 0 (widthKept scope v) ≡ false → NotInScope v s
 new-variable {scope} {s} wide v small h = fresh v s (wide .have-widths) (omega (arith, wide .shown v small, ltb-false 0 (widthKept scope v) h))
 
 counted : (a w : ℕ) → Alike (addWidths a w) (a + w)
@@ -81,31 +78,31 @@ add-alike : (a b w k : ℕ) → Alike a b → Alike w k → Alike (addWidths a w
 add-alike a b w k e f = counted a w ∙ alike-left a b w e ∙ alike-right b w k f
 
 bound-alike : (w k : ℕ) → 1 ≤ w → Alike w k → Alike (boundWidth w) k
-bound-alike w k some alike = let e : boundWidth w ≡ w = omega arith in rw e alike
+bound-alike w k some alike = omega arith
 
 some-alike : (w k : ℕ) → 1 ≤ w → Alike w k → 1 ≤ k
 some-alike w k some alike = omega arith
 
-wide-bind : {scope : ScopeWidths} {s : scopes.Scope} (v w k : ℕ) → Wide scope s → v < variableCount → NotInScope v s → 1 ≤ w → Alike w k → Wide (bind scope v w) (extend s v k)
+wide-bind : {scope : List ℕ} {s : scopes.Scope} (v w k : ℕ) → Wide scope s → v < variableCount → NotInScope v s → 1 ≤ w → Alike w k → Wide (bind scope v w) (extend s v k)
 wide-bind {scope} {s} v w k wide small new some alike =
     record {
       shown = λ u h. go u h (true-or-false (eqb u v));
-      room = length-set (scope .widths) v (boundWidth w) ∙ wide .room;
-      all-columns = rw (columns-extend s v k) (add-alike (scope .columns) (columnsIn s) w k (wide .all-columns) alike);
+      room = bind-length scope v w ∙ wide .room;
+      all-columns = rw (columns-extend s v k, columns-bound scope v w (wide .room)) (add-alike (columnsKept scope) (columnsIn s) w k (wide .all-columns) alike);
       have-widths = all-append HasWidth s (entry v k ∷ []) (wide .have-widths) (some-alike w k some alike, tt);
     }
   where
-    go : (u : ℕ) → u < variableCount → (eqb u v ≡ true) ⊎ (eqb u v ≡ false) → Alike (getD (set (scope .widths) v (boundWidth w)) u 0) (scopes.widthIn (extend s v k) u)
+    go : (u : ℕ) → u < variableCount → (eqb u v ≡ true) ⊎ (eqb u v ≡ false) → Alike (widthKept (bind scope v w) u) (scopes.widthIn (extend s v k) u)
     go u h (inl e) =
-        let a : getD (set (scope .widths) v (boundWidth w)) u 0 ≡ boundWidth w = rw (eqb-true u v e) (getD-set-same (scope .widths) v (boundWidth w) 0 (omega (arith, wide .room))) in
+        let a : widthKept (bind scope v w) u ≡ boundWidth w = rw (eqb-true u v e) (kept-bound scope v w small (wide .room)) in
         let b : scopes.widthIn (extend s v k) u ≡ k = width-extend s v k u new ∙ rw e in
         rw (a, b) (bound-alike w k some alike)
     go u h (inr e) =
-        let a : getD (set (scope .widths) v (boundWidth w)) u 0 ≡ widthKept scope u = getD-set-other (scope .widths) v u (boundWidth w) 0 (eqb-false u v e) in
+        let a : widthKept (bind scope v w) u ≡ widthKept scope u = kept-other scope v w u h (eqb-false u v e) in
         let b : scopes.widthIn (extend s v k) u ≡ scopes.widthIn s u = width-extend s v k u new ∙ rw e in
         rw (a, b) (wide .shown u h)
 
-module _ {scope : ScopeWidths} {s : scopes.Scope} (wide : Wide scope s) where
+module _ {scope : List ℕ} {s : scopes.Scope} (wide : Wide scope s) where
   attribute-same : (v a : ℕ) → v < variableCount → a ≤ columnLimit → ltb (widthKept scope v) a ≡ ltb (scopes.widthIn s v) a
   attribute-same v a small few = same-ltb (widthKept scope v) a (scopes.widthIn s v) a (λ h. omega (arith, h, wide .shown v small)) (λ h. omega (arith, h, wide .shown v small))
 
@@ -132,11 +129,11 @@ module _ {scope : ScopeWidths} {s : scopes.Scope} (wide : Wide scope s) where
   target-columns v zero small = wide .shown v small
   target-columns v (suc n) small = rw (ne-eqb (suc n) 0 (λ e. omega arith))
 
-  columns-same : (w k : ℕ) → Alike w k → ltb columnLimit (addWidths (scope .columns) w) ≡ ltb columnLimit (columnsIn s + k)
-  columns-same w k alike = same-over (addWidths (scope .columns) w) (columnsIn s + k) (add-alike (scope .columns) (columnsIn s) w k (wide .all-columns) alike)
+  columns-same : (w k : ℕ) → Alike w k → ltb columnLimit (addWidths (columnsKept scope) w) ≡ ltb columnLimit (columnsIn s + k)
+  columns-same w k alike = same-over (addWidths (columnsKept scope) w) (columnsIn s + k) (add-alike (columnsKept scope) (columnsIn s) w k (wide .all-columns) alike)
 
 -- a target takes some column
-taken-some : (scope : ScopeWidths) (v a : ℕ) → eqb (widthKept scope v) 0 ≡ false → 1 ≤ targetWidthKept scope v a
+taken-some : (scope : List ℕ) (v a : ℕ) → eqb (widthKept scope v) 0 ≡ false → 1 ≤ targetWidthKept scope v a
 taken-some scope v zero bound = let n : widthKept scope v ≡ 0 → ⊥ = eqb-false (widthKept scope v) 0 bound in omega arith
 taken-some scope v (suc n) bound = rw (ne-eqb (suc n) 0 (λ e. omega arith)) (omega arith)
 
@@ -174,13 +171,13 @@ module _ (columns : ℕ → ℕ) (relations : ℕ) where
   abbrev Bound : Found → Type 0
   Bound found = questionNodeLimit ≤ found .unbound
 
-  record BoundNode (node : Node) (scope : ScopeWidths) (first second third : Found) : Type 0 where
+  record BoundNode (node : Node) (scope : List ℕ) (first second third : Found) : Type 0 where
     here : unboundAt node scope ≡ false
     bound-first : Bound first
     bound-second : Bound second
     bound-third : Bound third
 
-  bound-node : (i : ℕ) (node : Node) (x y z : Tree) (scope : ScopeWidths) → i < questionNodeLimit → Bound (walk columns (branch i node x y z) scope)
+  bound-node : (i : ℕ) (node : Node) (x y z : Tree) (scope : List ℕ) → i < questionNodeLimit → Bound (walk columns (branch i node x y z) scope)
       → BoundNode node scope (walk columns x (opening node scope)) (walk columns y (inside node scope (walk columns x (opening node scope)))) (walk columns z (inside node scope (walk columns x (opening node scope))))
   unfolding walk
   bound-node i node x y z scope small bound =
@@ -190,12 +187,12 @@ module _ (columns : ℕ → ℕ) (relations : ℕ) where
       let n = no-fault (unboundAt node scope) i (first .unbound) (second .unbound) (third .unbound) small bound in
       record { here = n .clear; bound-first = n .none-first; bound-second = n .none-second; bound-third = n .none-third }
 
-  none-in : (scope : ScopeWidths) (s : scopes.Scope) → walk columns nothing scope .unfit ≡ lowestIn nothing s
+  none-in : (scope : List ℕ) (s : scopes.Scope) → walk columns nothing scope .unfit ≡ lowestIn nothing s
   unfolding walk faultAt
   none-in scope s = sym (lowest-none questionNodeLimit)
 
   -- a node, from its own fault and its parts
-  node-in : (i : ℕ) (node : Node) (x y z : Tree) (scope : ScopeWidths) (s : scopes.Scope) → (unfit columns (roleOf node) x y s ≡ true → i < questionNodeLimit)
+  node-in : (i : ℕ) (node : Node) (x y z : Tree) (scope : List ℕ) (s : scopes.Scope) → (unfit columns (roleOf node) x y s ≡ true → i < questionNodeLimit)
       → (unfitAt node scope (walk columns x (opening node scope) .width) (walk columns y (inside node scope (walk columns x (opening node scope))) .width) ≡ unfit columns (roleOf node) x y s)
       ⊎ ((i < questionNodeLimit) × ((walk columns x (opening node scope) .unfit < i) ⊎ (walk columns y (inside node scope (walk columns x (opening node scope))) .unfit < i)))
       → walk columns x (opening node scope) .unfit ≡ lowestIn x (firstSees (roleOf node) s)
@@ -263,7 +260,7 @@ module _ (columns : ℕ → ℕ) (relations : ℕ) where
     mutual
       unfolding widthOfRange reading walk
 
-      pub range-in : {tree : Tree} → RangeTree relations tree → (bound : ℕ) → Ordered bound tree → (scope : ScopeWidths) (s : scopes.Scope) → Bound (walk columns tree scope) → RangeIn bound tree (walk columns tree scope) s
+      pub range-in : {tree : Tree} → RangeTree relations tree → (bound : ℕ) → Ordered bound tree → (scope : List ℕ) (s : scopes.Scope) → Bound (walk columns tree scope) → RangeIn bound tree (walk columns tree scope) s
       range-in (tableTree {i = i} {relation = relation} h) bound o scope s free =
           record { unfit-is = node-in i (Table relation) nothing nothing nothing scope s (λ e. absurd (false≢true e)) (inl refl) (none-in scope s) (none-in scope s) (none-in scope s); alike = refl; some = has-columns relation h; exact = inl refl }
       range-in (alphaTree {i = i} {a = a} {b = b} {c = c} {x = x} {y = y} {z = z} small bs ts f) bound o scope s free =
@@ -303,12 +300,12 @@ module _ (columns : ℕ → ℕ) (relations : ℕ) where
           let fault : Bool = not (eqb (walk columns x scope .width) (walk columns y scope .width)) in
           record { unfit-is = node-in i (RangeAndNot a b) x y nothing scope s (λ h. small) (sides-same small R S) (R .unfit-is) (S .unfit-is) (none-in scope []); alike = R .alike; some = R .some; exact = side-exact fault (walk columns y scope .unfit) (walk columns nothing scope .unfit) (o .0) (R .exact) }
 
-      target-wide : {tree : Tree} → TargetTree relations tree → (scope : ScopeWidths) → Bound (walk columns tree scope) → 1 ≤ walk columns tree scope .width
+      target-wide : {tree : Tree} → TargetTree relations tree → (scope : List ℕ) → Bound (walk columns tree scope) → 1 ≤ walk columns tree scope .width
       target-wide (targetTree {i = i} {v = v} {a = a} {b = b} {x = x} small inside ts) scope free =
           let n = bound-node i (Target v a b) x nothing nothing scope small free in
           some-more (targetWidthKept scope v a) (walk columns x scope .width) (taken-some scope v a (n .here))
 
-      target-in : {tree : Tree} → TargetTree relations tree → (bound : ℕ) → Ordered bound tree → (scope : ScopeWidths) (s : scopes.Scope) → Wide scope s → Bound (walk columns tree scope) → TargetsIn tree (walk columns tree scope) s
+      target-in : {tree : Tree} → TargetTree relations tree → (bound : ℕ) → Ordered bound tree → (scope : List ℕ) (s : scopes.Scope) → Wide scope s → Bound (walk columns tree scope) → TargetsIn tree (walk columns tree scope) s
       target-in (targetTree {i = i} {v = v} {a = a} {b = b} {x = x} small inside ts) bound o scope s wide free =
           let n = bound-node i (Target v a b) x nothing nothing scope small free in
           let T = targets-in ts i (o .2) scope s wide (n .bound-first) in
@@ -317,11 +314,11 @@ module _ (columns : ℕ → ℕ) (relations : ℕ) where
             wide = counts (targetWidthKept scope v a) (walk columns x scope .width) (form.targetWidth s (targetOf v a)) (form.targetsWidth s (reading x .targets)) (target-columns wide v a inside) (T .wide);
           }
 
-      targets-in : {tree : Tree} → TargetsIfAny relations tree → (bound : ℕ) → Ordered bound tree → (scope : ScopeWidths) (s : scopes.Scope) → Wide scope s → Bound (walk columns tree scope) → TargetsIn tree (walk columns tree scope) s
+      targets-in : {tree : Tree} → TargetsIfAny relations tree → (bound : ℕ) → Ordered bound tree → (scope : List ℕ) (s : scopes.Scope) → Wide scope s → Bound (walk columns tree scope) → TargetsIn tree (walk columns tree scope) s
       targets-in noTarget bound o scope s wide free = record { unfit-is = none-in scope s; wide = refl }
       targets-in (moreTargets ts) bound o scope s wide free = target-in ts bound o scope s wide free
 
-      binding-in : {tree : Tree} → BindingTree relations tree → (bound : ℕ) → Ordered bound tree → (scope : ScopeWidths) (s : scopes.Scope) → Wide scope s → Bound (walk columns tree scope) → BindingsIn tree (walk columns tree scope) s
+      binding-in : {tree : Tree} → BindingTree relations tree → (bound : ℕ) → Ordered bound tree → (scope : List ℕ) (s : scopes.Scope) → Wide scope s → Bound (walk columns tree scope) → BindingsIn tree (walk columns tree scope) s
       binding-in (bindingTree {i = i} {v = v} {a = a} {b = b} {x = x} {y = y} small inside r bs) bound o scope s wide free =
           let w : ℕ = walk columns x scope .width in
           let n = bound-node i (Binding v a b) x y nothing scope small free in
@@ -330,11 +327,11 @@ module _ (columns : ℕ → ℕ) (relations : ℕ) where
           let B = bindings-in bs i (o .3) (bind scope v w) (extend s v (widthOf columns x)) next (n .bound-second) in
           record { unfit-is = node-in i (Binding v a b) x y nothing scope s (λ e. small) (inl (columns-same wide w (widthOf columns x) (R .alike))) (R .unfit-is) (B .unfit-is) (none-in (bind scope v w) (extend s v (widthOf columns x))); wide-after = B .wide-after }
 
-      bindings-in : {tree : Tree} → BindingsIfAny relations tree → (bound : ℕ) → Ordered bound tree → (scope : ScopeWidths) (s : scopes.Scope) → Wide scope s → Bound (walk columns tree scope) → BindingsIn tree (walk columns tree scope) s
+      bindings-in : {tree : Tree} → BindingsIfAny relations tree → (bound : ℕ) → Ordered bound tree → (scope : List ℕ) (s : scopes.Scope) → Wide scope s → Bound (walk columns tree scope) → BindingsIn tree (walk columns tree scope) s
       bindings-in noBinding bound o scope s wide free = record { unfit-is = none-in scope s; wide-after = wide }
       bindings-in (moreBindings b) bound o scope s wide free = binding-in b bound o scope s wide free
 
-      condition-in : {tree : Tree} → ConditionTree relations tree → (bound : ℕ) → Ordered bound tree → (scope : ScopeWidths) (s : scopes.Scope) → Wide scope s → Bound (walk columns tree scope) → walk columns tree scope .unfit ≡ lowestIn tree s
+      condition-in : {tree : Tree} → ConditionTree relations tree → (bound : ℕ) → Ordered bound tree → (scope : List ℕ) (s : scopes.Scope) → Wide scope s → Bound (walk columns tree scope) → walk columns tree scope .unfit ≡ lowestIn tree s
       condition-in (atomTree {i = i} {atom = atom} small fits) bound o scope s wide free =
           node-in i (AtomNode atom) nothing nothing nothing scope s (λ e. small) (inl (atom-same wide columns atom fits)) (none-in scope s) (none-in scope s) (none-in scope s)
       condition-in (bothTree {i = i} {a = a} {b = b} {x = x} {y = y} small f g) bound o scope s wide free =
@@ -359,6 +356,6 @@ module _ (columns : ℕ → ℕ) (relations : ℕ) where
           let next = wide-bind v w (widthOf columns x) wide inside (new-variable wide v inside (n .here)) (R .some) (R .alike) in
           node-in i (Every v a b) x y nothing scope s (λ e. small) (inl (columns-same wide w (widthOf columns x) (R .alike))) (R .unfit-is) (condition-in f i (o .3) (bind scope v w) (extend s v (widthOf columns x)) next (n .bound-second)) (none-in (bind scope v w) (extend s v (widthOf columns x)))
 
-      maybe-in : {tree : Tree} → ConditionIfAny relations tree → (bound : ℕ) → Ordered bound tree → (scope : ScopeWidths) (s : scopes.Scope) → Wide scope s → Bound (walk columns tree scope) → walk columns tree scope .unfit ≡ lowestIn tree s
+      maybe-in : {tree : Tree} → ConditionIfAny relations tree → (bound : ℕ) → Ordered bound tree → (scope : List ℕ) (s : scopes.Scope) → Wide scope s → Bound (walk columns tree scope) → walk columns tree scope .unfit ≡ lowestIn tree s
       maybe-in withoutCondition bound o scope s wide free = none-in scope s
       maybe-in (withCondition f) bound o scope s wide free = condition-in f bound o scope s wide free

@@ -11,7 +11,9 @@ use Rattle.catalogue.specs.Stored.{columnsOf}
 use Rattle.nodes.specs.Nodes.{nodeCount, nodeAt}
 use Rattle.nodes.specs.References.{lowest}
 use Rattle.question.specs.Trees.{Tree, nothing, branch, reading, questionTree}
-use Rattle.nodes.specs.Roles.{Role, stored, alpha, takes, binds, sides, compares, joins, roleOf}
+use Rattle.nodes.specs.Roles.{roleOf}
+use Rattle.nodes.specs.declared.roles.Role.{Role}
+use Rattle.nodes.specs.declared.roles.Role.the-variants.{Stored, Opens, Takes, Binds, Sides, Compares, Joins}
 use Rattle.question.specs.Judgement.{countOk, isAlpha, lowestIllFormed, lastNode, lowestNotOnce, lowestUnknown}
 use Rattle.nodes.specs.declared.node.Operand.{Operand}
 use Rattle.nodes.specs.declared.node.Operand.the-variants.{Of, Fixed}
@@ -25,13 +27,13 @@ inScope (entry x width ∷ s) variable = eqb variable x || inScope s variable
 -- The scope that a node's first part sees, where the node stands in s. "A range sees no variable of its surroundings", and an alpha's
 -- first binding none.
 abbrev pub firstSees : Role → Scope → Scope
-firstSees (stored relation) s = s
-firstSees alpha s = []
-firstSees (takes operand) s = s
-firstSees (binds variable) s = []
-firstSees sides s = []
-firstSees (compares left right) s = s
-firstSees joins s = s
+firstSees (Stored relation) s = s
+firstSees Opens s = []
+firstSees (Takes operand) s = s
+firstSees (Binds variable) s = []
+firstSees Sides s = []
+firstSees (Compares left right) s = s
+firstSees Joins s = s
 
 abbrev pub operandUnbound : Scope → Operand → Bool
 operandUnbound s (Of variable attribute) = not (inScope s variable)
@@ -52,13 +54,13 @@ module _ (columns : ℕ → ℕ) where
   -- The scope that the other parts see, behind the first: an alpha's targets and condition see what all its bindings bind;
   -- "along a chain each binding's variable and columns join those bound before it", as a quantifier's do for its condition.
   abbrev pub restSee : Role → (first : Tree) → Scope → Scope
-  restSee (stored relation) first s = s
-  restSee alpha first s = boundBy first
-  restSee (takes operand) first s = s
-  restSee (binds variable) first s = extend s variable (widthOf first)
-  restSee sides first s = []
-  restSee (compares left right) first s = s
-  restSee joins first s = s
+  restSee (Stored relation) first s = s
+  restSee Opens first s = boundBy first
+  restSee (Takes operand) first s = s
+  restSee (Binds variable) first s = extend s variable (widthOf first)
+  restSee Sides first s = []
+  restSee (Compares left right) first s = s
+  restSee Joins first s = s
 
   -- Node j of a tree, which stands in s, has the fault in the scope in which node j stands.
   unfoldable pub faultAt : (Role → (first second : Tree) → Scope → Bool) → Tree → Scope → ℕ → Bool
@@ -69,23 +71,23 @@ module _ (columns : ℕ → ℕ) where
 
   -- 5: "variable not in scope, or bound while in scope"
   abbrev pub unbound : Role → (first second : Tree) → Scope → Bool
-  unbound (stored relation) first second s = false
-  unbound alpha first second s = false
-  unbound (takes operand) first second s = operandUnbound s operand
-  unbound (binds variable) first second s = inScope s variable
-  unbound sides first second s = false
-  unbound (compares left right) first second s = operandUnbound s left || operandUnbound s right
-  unbound joins first second s = false
+  unbound (Stored relation) first second s = false
+  unbound Opens first second s = false
+  unbound (Takes operand) first second s = operandUnbound s operand
+  unbound (Binds variable) first second s = inScope s variable
+  unbound Sides first second s = false
+  unbound (Compares left right) first second s = operandUnbound s left || operandUnbound s right
+  unbound Joins first second s = false
 
   -- 6: "range sides differ in width; attribute beyond its variable; columns in scope, or an alpha's width, over 32"
   abbrev pub unfit : Role → (first second : Tree) → Scope → Bool
-  unfit (stored relation) first second s = false
-  unfit alpha first second s = ltb columnLimit (targetsWidth (boundBy first) (reading second .targets))
-  unfit (takes operand) first second s = operandUnfit s operand
-  unfit (binds variable) first second s = ltb columnLimit (columnsIn s + widthOf first)
-  unfit sides first second s = not (eqb (widthOf first) (widthOf second))
-  unfit (compares left right) first second s = operandUnfit s left || operandUnfit s right
-  unfit joins first second s = false
+  unfit (Stored relation) first second s = false
+  unfit Opens first second s = ltb columnLimit (targetsWidth (boundBy first) (reading second .targets))
+  unfit (Takes operand) first second s = operandUnfit s operand
+  unfit (Binds variable) first second s = ltb columnLimit (columnsIn s + widthOf first)
+  unfit Sides first second s = not (eqb (widthOf first) (widthOf second))
+  unfit (Compares left right) first second s = operandUnfit s left || operandUnfit s right
+  unfit Joins first second s = false
 
 module _ (catalogue words : List ℕ) where
   -- "lowest node"

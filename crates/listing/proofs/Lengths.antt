@@ -5,11 +5,11 @@ use mathlib.Core.List.{List, [], _∷_}
 use native.Mathlib.Omega.{arith}
 use lib.ListN.{length, length-append}
 use Rattle.relations.specs.Limits.{wordLimit}
-use Rattle.text.specs.Marks.{rowKey}
-use Rattle.text.specs.Writing.{decimal, numbersText, linesText}
-use Rattle.text.specs.Put.{Put, furthest}
-use Rattle.text.proofs.WritingSteps.{length-numbers, length-lines, rows-words}
-use Rattle.listing.specs.Listing.{statusKey, placeKey, nodesKey, heavyKey, roomKey, widthKey, rowsKey, numberLine, headText, listingText, Listable, refusalText, listingBytes, refusalBytes}
+use Rattle.lines.specs.Marks.{rowKey}
+use Rattle.lines.specs.Writing.{decimal, numbersText, linesText}
+use Rattle.lines.specs.Put.{Put, furthest}
+use Rattle.lines.proofs.WritingSteps.{length-numbers, length-lines, rows-words}
+use Rattle.listing.specs.Listing.{statusKey, placeKey, numberLine, headText, listingText, Listable, refusalText, listingBytes, refusalBytes}
 
 -- a line of one number is its key, the digits and a line feed
 pub line-parts : (key : List ℕ) (number : ℕ) → length (numberLine key number) ≡ length key + (length (decimal number) + 1)

@@ -2,7 +2,7 @@
 use Prim.Native.Nat.{ℕ}
 use mathlib.Core.Path.{_≡_, refl}
 use mathlib.Core.List.{List, [], _∷_}
-use Rattle.text.specs.Writing.{digits, numbersText, linesText}
+use Rattle.lines.specs.Writing.{digits, numbersText, linesText}
 use Rattle.listing.specs.Listing.{headText, listingText, refusalText}
 
 -- status=0, nodes=8, heavy=2, room=32, width=1, rows=2, row=4, row=9

@@ -3,8 +3,8 @@ use Prim.Native.Nat.{ℕ, _*_, _≤_}
 use mathlib.Core.List.{List, [], _∷_, _++_}
 use lib.ListN.{length}
 use Rattle.relations.specs.Limits.{wordLimit}
-use Rattle.text.specs.Marks.{rowKey}
-use Rattle.text.specs.Writing.{lineText, linesText}
+use Rattle.lines.specs.Marks.{rowKey}
+use Rattle.lines.specs.Writing.{lineText, linesText}
 
 -- status=, place=, nodes=, heavy=, room=, width= and rows=
 abbrev pub statusKey : List ℕ
@@ -57,9 +57,10 @@ pub record Listable (width rows : ℕ) (words : List ℕ) : Type 0 where
 unfoldable pub refusalText : (status place : ℕ) → List ℕ
 refusalText status place = numberLine statusKey status ++ numberLine placeKey place
 
--- The bytes of a buffer that holds every listing, of 16,384 rows of one word of ten digits at most; and of one that holds every refusal.
+-- The bytes of a buffer that holds every listing: a row's line has 15 at most for each word, and the head's lines are fewer than the words may be. And of
+-- one that holds every refusal.
 abbrev pub listingBytes : ℕ
-listingBytes = 262144
+listingBytes = 16 * wordLimit
 
 abbrev pub refusalBytes : ℕ
 refusalBytes = 35

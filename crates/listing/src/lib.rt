@@ -1,14 +1,14 @@
 // The listing that `desk` prints: an answer's numbers and rows, or a refusal.
 ghost use Prim.Native.Nat.{_+_, _≤_};
 ghost use lib.ListN.{length};
-ghost use Rattle.text.specs.Put.{Put, furthest};
+ghost use Rattle.lines.specs.Put.{Put, furthest};
 ghost use Rattle.listing.specs.Listing.{numberLine, headText, listingText, Listable, refusalText};
 use catalogue::judging::wide;
-use text::writing::put_bytes;
-use text::writing::put_lines;
-use text::writing::put_number;
+use lines::writing::put_bytes;
+use lines::writing::put_lines;
+use lines::writing::put_number;
 
-// As in `text::writing`: the bytes that a contract names are put from `at` on where there is room for them, and the answer is the
+// As in `lines::writing`: the bytes that a contract names are put from `at` on where there is room for them, and the answer is the
 // position behind the last.
 fn put_line(text: &mut [u8], at: usize, key: &[u8], number: u32) -> usize
     requires { ⌜ at + length (numberLine (now key) number) ≤ furthest ⌝ }

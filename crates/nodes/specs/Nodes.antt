@@ -5,7 +5,9 @@ use mathlib.Core.Bool.{Bool, true, false, cond, _&&_, _||_}
 use lib.ListN.{getD, length}
 use lib.Dec.{ltb, leb, eqb}
 use Rattle.relations.specs.Limits.{columnLimit, questionNodeWords, variableCount, operatorCount}
-use Rattle.nodes.specs.Roles.{Role, stored, alpha, takes, binds, sides, compares, joins, roleOf}
+use Rattle.nodes.specs.Roles.{roleOf}
+use Rattle.nodes.specs.declared.roles.Role.{Role}
+use Rattle.nodes.specs.declared.roles.Role.the-variants.{Stored, Opens, Takes, Binds, Sides, Compares, Joins}
 use Rattle.nodes.specs.declared.node.Operand.{Operand}
 use Rattle.nodes.specs.declared.node.Operand.the-variants.{Of, Fixed}
 use Rattle.nodes.specs.declared.node.Atom.{Atom}
@@ -133,13 +135,13 @@ OperandVariableFits (Of variable attribute) = variable < variableCount
 OperandVariableFits (Fixed constant) = Unit {0}
 
 abbrev pub RoleFits : Role → Type 0
-RoleFits (stored relation) = Unit {0}
-RoleFits alpha = Unit {0}
-RoleFits (takes operand) = OperandVariableFits operand
-RoleFits (binds variable) = variable < variableCount
-RoleFits sides = Unit {0}
-RoleFits (compares left right) = OperandVariableFits left × OperandVariableFits right
-RoleFits joins = Unit {0}
+RoleFits (Stored relation) = Unit {0}
+RoleFits Opens = Unit {0}
+RoleFits (Takes operand) = OperandVariableFits operand
+RoleFits (Binds variable) = variable < variableCount
+RoleFits Sides = Unit {0}
+RoleFits (Compares left right) = OperandVariableFits left × OperandVariableFits right
+RoleFits Joins = Unit {0}
 
 abbrev pub VariableFits : Node → Type 0
 VariableFits node = RoleFits (roleOf node)

@@ -8,10 +8,8 @@ use relations::limits::ATTRIBUTES;
 use relations::limits::OPERATORS;
 use relations::limits::QUESTION_NODE_WORDS;
 use relations::limits::VARIABLES;
-
-pub struct Attribute(pub u32);
-
-pub struct Constant(pub u32);
+use terms::attribute::Attribute;
+use terms::constant::Constant;
 
 pub enum Operand {
     Of { variable: u32, attribute: Attribute },

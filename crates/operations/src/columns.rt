@@ -1,29 +1,16 @@
 // Attributes, constants and comparisons, as a plan node's list words name them.
 ghost use mathlib.Core.Path.{_≡_};
-ghost use Prim.Native.Nat.{ℕ, _+_, _*_, _≤_};
-ghost use mathlib.Core.List.{[], _∷_};
-ghost use lib.Dec.{eqb};
+ghost use Prim.Native.Nat.{ℕ, _+_, _≤_};
 ghost use lib.ListN.{length, drop};
-ghost use Rattle.relations.specs.Comparison as comparison;
 ghost use Rattle.relations.specs.Columns as meaning;
-ghost use Rattle.operations.specs.Lists.{attributeIn, operatorIn, tripleIn, pairIn, operatorNamed, firstTriple, firstPair, triplesIn};
+ghost use Rattle.terms.specs.Terms.{attributeIn};
+ghost use Rattle.operations.specs.Lists.{tripleIn, pairIn, firstTriple, firstPair};
+use terms::attribute::Attribute;
+use terms::operator::Operator;
+use terms::operator::operator_of;
 
 // The list of a node that has none.
 pub const NO_WORDS: [u32; 0] = [];
-
-// A column's number, from 1.
-pub struct Attribute(pub u32);
-
-pub struct Constant(pub u32);
-
-pub enum Operator {
-    Equal,
-    NotEqual,
-    Less,
-    AtMost,
-    Greater,
-    AtLeast,
-}
 
 // A comparison of a left row's attribute with a right row's.
 pub struct Triple {
@@ -36,33 +23,6 @@ pub struct Triple {
 pub struct Pair {
     pub left: Attribute,
     pub right: Attribute,
-}
-
-pub fn holds(operator: Operator, x: u32, y: u32) -> bool
-    ensures { λ r. ⌜ r ≡ comparison.holds (operatorIn operator) x y ⌝ }
-{
-    match operator {
-        Operator::Equal => x == y,
-        Operator::NotEqual => x != y,
-        Operator::Less => x < y,
-        Operator::AtMost => x <= y,
-        Operator::Greater => y < x,
-        Operator::AtLeast => y <= x,
-    }
-}
-
-// The operator of a number from 1 to 6.
-pub fn operator_of(number: u32) -> Operator
-    ensures { λ r. ⌜ operatorIn r ≡ operatorNamed number ⌝ }
-{
-    match number {
-        1 => Operator::Equal,
-        2 => Operator::NotEqual,
-        3 => Operator::Less,
-        4 => Operator::AtMost,
-        5 => Operator::Greater,
-        _ => Operator::AtLeast,
-    }
 }
 
 // The word of a row at an attribute, 0 where the row has no such column.
@@ -100,52 +60,4 @@ pub fn pair_at(list: &[u32], at: usize) -> Pair
         left: Attribute(list[at]),
         right: Attribute(list[at + 1]),
     }
-}
-
-// Whether two rows meet the triple that starts at the word `at` of the list.
-fn meets_at(list: &[u32], at: usize, left: &[u32], right: &[u32]) -> bool
-    requires { ⌜ at + 3 ≤ length (now list) ⌝ }
-    ensures { λ r. ⌜ r ≡ meaning.meets (firstTriple (drop at (now (list .entry))) ∷ []) (now (left .entry)) (now (right .entry)) ⌝ }
-{
-    let triple = triple_at(list, at);
-    let operator = triple.operator;
-    holds(
-        operator,
-        column_of(left, triple.left),
-        column_of(right, triple.right),
-    )
-}
-
-// A triple of so many that two rows do not meet, by its number from 0, or `count` where they meet them all. Two are tried first that are likely to be it.
-pub fn failing(
-    list: &[u32],
-    count: usize,
-    likely: usize,
-    second: usize,
-    left: &[u32],
-    right: &[u32],
-) -> usize
-    requires { ⌜ count * 3 ≤ length (now list) ⌝ }
-    ensures { λ r. ⌜ eqb r count ≡ meaning.meets (triplesIn count (now (list .entry))) (now (left .entry)) (now (right .entry)) ⌝ }
-{
-    if likely < count {
-        if !meets_at(list, likely * 3, left, right) {
-            return likely;
-        }
-    }
-    if second < count {
-        if !meets_at(list, second * 3, left, right) {
-            return second;
-        }
-    }
-    let mut at: usize = 0;
-    let mut i: usize = 0;
-    while i < count {
-        if !meets_at(list, at, left, right) {
-            return i;
-        }
-        at += 3;
-        i += 1;
-    }
-    count
 }

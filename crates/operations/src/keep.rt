@@ -1,110 +1,45 @@
-// The operations that keep some of the left rows: select, semijoin, antijoin, intersection, difference. The left order stays, so each row that is
+// The operations that keep some of the left rows by what they are: select, intersection, difference. The left order stays, so each row that is
 // kept is placed by one comparison, with the last row.
 ghost use mathlib.Core.Path.{_≡_};
 ghost use mathlib.Core.List.{[], _∷_};
-ghost use Prim.Native.Nat.{ℕ, _+_, _-_, _*_, _≤_, _<_};
+ghost use Prim.Native.Nat.{ℕ, _+_, _*_, _≤_, _<_};
 ghost use lib.ListN.{length};
-ghost use Rattle.relations.specs.Lists.{any, filter};
-ghost use Rattle.relations.specs.Columns as meaning;
+ghost use Rattle.relations.specs.Lists.{filter};
 ghost use Rattle.relations.specs.Values.{Ascending};
 ghost use Rattle.values.specs.Words.{rowIn, rowsAt, rowsOf, end};
-ghost use Rattle.values.specs.Places.{NoneBehind};
 ghost use Rattle.values.specs.Building.{Builds};
 ghost use Rattle.relations.specs.Operations.{selectConstantCandidates, selectAttributeCandidates, intersectCandidates, subtractCandidates};
-ghost use Rattle.operations.specs.Lists.{attributeIn, constantIn, operatorIn, triplesIn};
+ghost use Rattle.terms.specs.Terms.{attributeIn, constantIn, operatorIn};
 ghost use Rattle.operations.specs.Tests.{rightOf, keeps, Fits};
-use crate::columns::Attribute;
-use crate::columns::Constant;
 use crate::columns::NO_WORDS;
-use crate::columns::Operator;
 use crate::columns::column_of;
-use crate::columns::failing;
-use crate::columns::holds;
-use crate::partners::partners_of;
+use terms::attribute::Attribute;
+use terms::constant::Constant;
+use terms::operator::Operator;
+use terms::operator::holds;
 use values::placing::Placed;
 use values::placing::place_row;
 use values::rows::Value;
 use values::rows::row;
 use values::search::has_row;
-use values::search::stands_behind;
 
-// Which left rows are kept: by a comparison of their own columns, by whether they meet so many triples with some right row, as is wanted or not, or by whether the right value has them.
+// Which left rows are kept: by a comparison of their own columns, or by whether the right value has them.
 pub enum Test {
     Constant(Attribute, Operator, Constant),
     Attribute(Attribute, Operator, Attribute),
-    Meets(usize, Value, bool),
     In(Value),
     NotIn(Value),
 }
 
-// Whether a row meets so many triples with a right row from that number on. The right rows ascend, so the first one that the bound stands before ends the search. The triples
-// that failed last are tried first.
-fn meets_from(
-    list: &[u32],
-    count: usize,
-    work: &[u32],
-    sought: &[u32],
-    right: Value,
-    number: usize,
-    high: &[u32],
-) -> bool
-    requires { ⌜ (count * 3 ≤ length (now list)) × (end right ≤ length (now work)) × Ascending (rowsOf right (now work)) × (number ≤ right .rows) × (length (now high) ≤ right .width) × NoneBehind (right .width) (now high) (meaning.meets (triplesIn count (now list)) (now sought)) ⌝ }
-    ensures { λ r. ⌜ r ≡ any (meaning.meets (triplesIn count (now (list .entry))) (now (sought .entry))) (rowsAt (right .width) (right .rows - number) (right .base + number * right .width) (now (work .entry))) ⌝ }
-{
-    let width = right.width;
-    let mut at = right.base + number * width;
-    let mut left = right.rows - number;
-    let mut likely: usize = 0;
-    let mut second: usize = 0;
-    while 0 < left {
-        if stands_behind(work, at, high) {
-            return false;
-        }
-        let fails = failing(
-            list,
-            count,
-            likely,
-            second,
-            sought,
-            row(work, work, true, at, width),
-        );
-        if fails == count {
-            return true;
-        }
-        second = likely;
-        likely = fails;
-        at += width;
-        left -= 1;
-    }
-    false
-}
-
-// Whether a row meets so many triples with some right row.
-fn meets_some(list: &[u32], count: usize, work: &[u32], sought: &[u32], right: Value) -> bool
-    requires { ⌜ (count * 3 ≤ length (now list)) × (end right ≤ length (now work)) × Ascending (rowsOf right (now work)) ⌝ }
-    ensures { λ r. ⌜ r ≡ any (meaning.meets (triplesIn count (now (list .entry))) (now (sought .entry))) (rowsOf right (now (work .entry))) ⌝ }
-{
-    let found = partners_of(list, count, work, sought, right);
-    let number = found.number;
-    let high = found.high;
-    let highs = high.count;
-    let most = high.words;
-    meets_from(list, count, work, sought, right, number, &most[..highs])
-}
-
 // Whether the left row that starts at `at` is kept.
-fn passes(list: &[u32], work: &[u32], at: usize, width: usize, test: Test) -> bool
-    requires { ⌜ Fits test (length (now work)) (now list) (now work) ⌝ }
-    ensures { λ r. ⌜ r ≡ keeps test (now (list .entry)) (rightOf test (now (work .entry))) (rowIn (now (work .entry)) at width) ⌝ }
+fn passes(work: &[u32], at: usize, width: usize, test: Test) -> bool
+    requires { ⌜ Fits test (length (now work)) (now work) ⌝ }
+    ensures { λ r. ⌜ r ≡ keeps test (rightOf test (now (work .entry))) (rowIn (now (work .entry)) at width) ⌝ }
 {
     let left = row(work, work, true, at, width);
     match test {
         Test::Constant(a, operator, constant) => holds(operator, column_of(left, a), constant.0),
         Test::Attribute(a, operator, b) => holds(operator, column_of(left, a), column_of(left, b)),
-        Test::Meets(count, right, wanted) => {
-            let met = meets_some(list, count, work, left, right);
-            if wanted { met } else { !met }
-        }
         Test::In(right) => has_row(work, right, left),
         Test::NotIn(right) => !has_row(work, right, left),
     }
@@ -112,7 +47,6 @@ fn passes(list: &[u32], work: &[u32], at: usize, width: usize, test: Test) -> bo
 
 // The left row that starts at `at` is put into the value at `out`, if it is kept.
 fn keep_row(
-    list: &[u32],
     work: &mut [u32],
     at: usize,
     width: usize,
@@ -120,12 +54,12 @@ fn keep_row(
     out: usize,
     made: usize,
 ) -> Placed
-    requires { ⌜ (0 < width) × (at + width ≤ out) × Fits test out (now list) (now work) × (out + made * width ≤ length (now work)) × Ascending (rowsAt width made out (now work)) ⌝ }
-    ensures { λ r. ⌜ Builds width out made (filter (keeps test (now (list .entry)) (rightOf test (now (work .entry)))) (rowIn (now (work .entry)) at width ∷ [])) (now (work .entry)) (now (work .exit)) r ⌝ }
+    requires { ⌜ (0 < width) × (at + width ≤ out) × Fits test out (now work) × (out + made * width ≤ length (now work)) × Ascending (rowsAt width made out (now work)) ⌝ }
+    ensures { λ r. ⌜ Builds width out made (filter (keeps test (rightOf test (now (work .entry)))) (rowIn (now (work .entry)) at width ∷ [])) (now (work .entry)) (now (work .exit)) r ⌝ }
 {
-    if passes(list, work, at, width, test) {
+    if passes(work, at, width, test) {
         place_row(
-            list,
+            &NO_WORDS,
             work,
             true,
             at,
@@ -141,16 +75,16 @@ fn keep_row(
 }
 
 // The rows of the left value that are kept, as a value from `out` on.
-pub fn keep(list: &[u32], work: &mut [u32], value: Value, test: Test, out: usize) -> Placed
-    requires { ⌜ (0 < value .width) × (end value ≤ out) × (out ≤ length (now work)) × Fits test out (now list) (now work) ⌝ }
-    ensures { λ r. ⌜ Builds (value .width) out 0 (filter (keeps test (now (list .entry)) (rightOf test (now (work .entry)))) (rowsOf value (now (work .entry)))) (now (work .entry)) (now (work .exit)) r ⌝ }
+fn keep(work: &mut [u32], value: Value, test: Test, out: usize) -> Placed
+    requires { ⌜ (0 < value .width) × (end value ≤ out) × (out ≤ length (now work)) × Fits test out (now work) ⌝ }
+    ensures { λ r. ⌜ Builds (value .width) out 0 (filter (keeps test (rightOf test (now (work .entry)))) (rowsOf value (now (work .entry)))) (now (work .entry)) (now (work .exit)) r ⌝ }
 {
     let width = value.width;
     let mut at = value.base;
     let mut left = value.rows;
     let mut made: usize = 0;
     while 0 < left {
-        match keep_row(list, work, at, width, test, out, made) {
+        match keep_row(work, at, width, test, out, made) {
             Placed::Rows(rows) => {
                 made = rows;
             }
@@ -177,7 +111,6 @@ pub fn select_constant(
     ensures { λ r. ⌜ Builds (left .width) out 0 (selectConstantCandidates (attributeIn attribute) (operatorIn operator) (constantIn constant) (rowsOf left (now (work .entry)))) (now (work .entry)) (now (work .exit)) r ⌝ }
 {
     keep(
-        &NO_WORDS,
         work,
         left,
         Test::Constant(attribute, operator, constant),
@@ -197,13 +130,7 @@ pub fn select_attribute(
     requires { ⌜ (0 < left .width) × (end left ≤ out) × (out ≤ length (now work)) ⌝ }
     ensures { λ r. ⌜ Builds (left .width) out 0 (selectAttributeCandidates (attributeIn attribute) (operatorIn operator) (attributeIn other) (rowsOf left (now (work .entry)))) (now (work .entry)) (now (work .exit)) r ⌝ }
 {
-    keep(
-        &NO_WORDS,
-        work,
-        left,
-        Test::Attribute(attribute, operator, other),
-        out,
-    )
+    keep(work, left, Test::Attribute(attribute, operator, other), out)
 }
 
 // Operation 10: the rows that the right value has too.
@@ -211,7 +138,7 @@ pub fn intersect(work: &mut [u32], left: Value, right: Value, out: usize) -> Pla
     requires { ⌜ (0 < left .width) × (end left ≤ out) × (out ≤ length (now work)) × (end right ≤ out) × Ascending (rowsOf right (now work)) ⌝ }
     ensures { λ r. ⌜ Builds (left .width) out 0 (intersectCandidates (rowsOf left (now (work .entry))) (rowsOf right (now (work .entry)))) (now (work .entry)) (now (work .exit)) r ⌝ }
 {
-    keep(&NO_WORDS, work, left, Test::In(right), out)
+    keep(work, left, Test::In(right), out)
 }
 
 // Operation 11: the rows that the right value does not have.
@@ -219,5 +146,5 @@ pub fn subtract(work: &mut [u32], left: Value, right: Value, out: usize) -> Plac
     requires { ⌜ (0 < left .width) × (end left ≤ out) × (out ≤ length (now work)) × (end right ≤ out) × Ascending (rowsOf right (now work)) ⌝ }
     ensures { λ r. ⌜ Builds (left .width) out 0 (subtractCandidates (rowsOf left (now (work .entry))) (rowsOf right (now (work .entry)))) (now (work .entry)) (now (work .exit)) r ⌝ }
 {
-    keep(&NO_WORDS, work, left, Test::NotIn(right), out)
+    keep(work, left, Test::NotIn(right), out)
 }

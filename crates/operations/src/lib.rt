@@ -1,10 +1,6 @@
-// The table operations over values in the work area. Each offers its candidate rows to `values::placing::place_row`.
-pub mod bounds;
+// The table operations over values in the work area that set no left row beside right ones. Each offers its candidate rows to `values::placing::place_row`.
 pub mod columns;
 pub mod copy;
-pub mod join;
 pub mod keep;
-pub mod keyed;
 pub mod made;
-pub mod partners;
 pub mod project;

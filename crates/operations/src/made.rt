@@ -7,9 +7,9 @@ ghost use Rattle.relations.specs.Limits.{columnLimit};
 ghost use Rattle.relations.specs.Columns as meaning;
 ghost use Rattle.values.specs.Words.{rowIn};
 ghost use Rattle.operations.specs.Aside.{aside};
-use crate::columns::Attribute;
 use crate::columns::column_of;
 use relations::limits::COLUMNS;
+use terms::attribute::Attribute;
 use values::placing::write_row;
 
 // The listed columns of a row.

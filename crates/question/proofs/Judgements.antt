@@ -12,7 +12,6 @@ use Rattle.nodes.specs.Nodes.{nodeCount, nodeAt}
 use Rattle.nodes.specs.References.{lowest, notOnce, referencesTo}
 use Rattle.question.specs.Judgement.{isAlpha, isUnknown, lowestIllFormed, lastNode, lowestNotOnce, lowestUnknown}
 use Rattle.question.specs.Walk.{faultsFound, judgeTree, judgeNodes}
-use Rattle.question.specs.declared.scope.Found.{Found}
 use Rattle.question.specs.declared.judgement.Judgement.{Judgement}
 use Rattle.question.specs.declared.judgement.Judgement.the-variants.{Accepted, Refused}
 use Rattle.question.proofs.Counts.{Counted, lowest-not-once}
@@ -22,20 +21,20 @@ module _ (catalogue words : List ℕ) {unknown : ℕ} (u : unknown ≡ lowestUnk
   unfolding judgeTree
   unknown-refused h = rw (← u, lt-ltb unknown (nodeCount words) h)
 
-  module _ {found : Found} (f : found ≡ faultsFound catalogue words) (known : nodeCount words ≤ unknown) where
-    pub unbound-refused : found .unbound < questionNodeLimit → Refused 5 (found .unbound) ≡ judgeTree catalogue words
+  module _ {unbound unfit : ℕ} (b : unbound ≡ faultsFound catalogue words .unbound) (f : unfit ≡ faultsFound catalogue words .unfit) (known : nodeCount words ≤ unknown) where
+    pub unbound-refused : unbound < questionNodeLimit → Refused 5 unbound ≡ judgeTree catalogue words
     unfolding judgeTree
-    unbound-refused h = rw (← u, le-ltb unknown (nodeCount words) known, ← f, lt-ltb (found .unbound) questionNodeLimit h)
+    unbound-refused h = rw (← u, le-ltb unknown (nodeCount words) known, ← b, lt-ltb unbound questionNodeLimit h)
 
-    pub unfit-refused : questionNodeLimit ≤ found .unbound → found .unfit < questionNodeLimit → Refused 6 (found .unfit) ≡ judgeTree catalogue words
+    pub unfit-refused : questionNodeLimit ≤ unbound → unfit < questionNodeLimit → Refused 6 unfit ≡ judgeTree catalogue words
     unfolding judgeTree
     unfit-refused g h =
-        rw (← u, le-ltb unknown (nodeCount words) known, ← f, le-ltb (found .unbound) questionNodeLimit g, lt-ltb (found .unfit) questionNodeLimit h)
+        rw (← u, le-ltb unknown (nodeCount words) known, ← b, le-ltb unbound questionNodeLimit g, ← f, lt-ltb unfit questionNodeLimit h)
 
-    pub all-accepted : questionNodeLimit ≤ found .unbound → questionNodeLimit ≤ found .unfit → Accepted ≡ judgeTree catalogue words
+    pub all-accepted : questionNodeLimit ≤ unbound → questionNodeLimit ≤ unfit → Accepted ≡ judgeTree catalogue words
     unfolding judgeTree
     all-accepted g h =
-        rw (← u, le-ltb unknown (nodeCount words) known, ← f, le-ltb (found .unbound) questionNodeLimit g, le-ltb (found .unfit) questionNodeLimit h)
+        rw (← u, le-ltb unknown (nodeCount words) known, ← b, le-ltb unbound questionNodeLimit g, ← f, le-ltb unfit questionNodeLimit h)
 
 module _ (catalogue words : List ℕ) {ill : ℕ} (i : ill ≡ lowestIllFormed words) where
   pub ill-refused : ill < nodeCount words → Refused 2 ill ≡ judgeNodes catalogue words

@@ -8,7 +8,9 @@ use Rattle.relations.specs.Limits.{questionNodeLimit, questionNodeWords}
 use Rattle.nodes.specs.Nodes.{nodeCount, nodeAt, isIllFormed}
 use Rattle.nodes.specs.References.{referencesTo, lowest, notOnce}
 use Rattle.catalogue.specs.Stored.{relationsOf}
-use Rattle.nodes.specs.Roles.{Role, stored, alpha, takes, binds, sides, compares, joins, roleOf}
+use Rattle.nodes.specs.Roles.{roleOf}
+use Rattle.nodes.specs.declared.roles.Role.{Role}
+use Rattle.nodes.specs.declared.roles.Role.the-variants.{Stored, Opens, Takes, Binds, Sides, Compares, Joins}
 use Rattle.nodes.specs.declared.node.Node.{Node}
 use Rattle.question.specs.declared.judgement.Judgement.{Judgement}
 use Rattle.question.specs.declared.judgement.Judgement.the-variants.{Accepted, Refused}
@@ -21,25 +23,25 @@ abbrev pub judgeCount : List ℕ → Judgement
 judgeCount words = cond (countOk words) Accepted (Refused 1 0)
 
 abbrev pub isAlphaRole : Role → Bool
-isAlphaRole (stored relation) = false
-isAlphaRole alpha = true
-isAlphaRole (takes operand) = false
-isAlphaRole (binds variable) = false
-isAlphaRole sides = false
-isAlphaRole (compares left right) = false
-isAlphaRole joins = false
+isAlphaRole (Stored relation) = false
+isAlphaRole Opens = true
+isAlphaRole (Takes operand) = false
+isAlphaRole (Binds variable) = false
+isAlphaRole Sides = false
+isAlphaRole (Compares left right) = false
+isAlphaRole Joins = false
 
 abbrev pub isAlpha : Node → Bool
 isAlpha node = isAlphaRole (roleOf node)
 
 abbrev pub isUnknownRole : ℕ → Role → Bool
-isUnknownRole relations (stored relation) = leb relations relation
-isUnknownRole relations alpha = false
-isUnknownRole relations (takes operand) = false
-isUnknownRole relations (binds variable) = false
-isUnknownRole relations sides = false
-isUnknownRole relations (compares left right) = false
-isUnknownRole relations joins = false
+isUnknownRole relations (Stored relation) = leb relations relation
+isUnknownRole relations Opens = false
+isUnknownRole relations (Takes operand) = false
+isUnknownRole relations (Binds variable) = false
+isUnknownRole relations Sides = false
+isUnknownRole relations (Compares left right) = false
+isUnknownRole relations Joins = false
 
 abbrev pub isUnknown : ℕ → Node → Bool
 isUnknown relations node = isUnknownRole relations (roleOf node)

@@ -6,7 +6,7 @@ use mathlib.Core.Bool.{cond}
 use mathlib.Core.Option.{Option, some, none}
 use lib.Dec.{eqb}
 use lib.ListN.{getD}
-use Rattle.relations.specs.Comparison.{Operator, equal, operatorOf}
+use Rattle.relations.specs.Comparison.{equal, operatorNamed}
 use Rattle.relations.specs.Columns.{attribute, constant}
 use Rattle.calculus.specs.Question as calculus
 use Rattle.nodes.specs.Nodes.{nodeAt, nodeCount}
@@ -57,16 +57,12 @@ pub record Reading : Type 0 where
   pub restriction : calculus.MaybeCondition
   pub condition : calculus.Condition
 
-abbrev pub operatorFor : Option Operator → Operator
-operatorFor (some operator) = operator
-operatorFor none = equal
-
 abbrev pub operandOf : Operand → calculus.Operand
 operandOf (Of variable number) = calculus.ofVariable variable (attribute (number .0))
 operandOf (Fixed value) = calculus.fixed (constant (value .0))
 
 abbrev pub atomOf : Atom → calculus.Atom
-atomOf atom = calculus.compare (atom .variable) (attribute (atom .attribute .0)) (operatorFor (operatorOf (atom .operator))) (operandOf (atom .operand))
+atomOf atom = calculus.compare (atom .variable) (attribute (atom .attribute .0)) (operatorNamed (atom .operator)) (operandOf (atom .operand))
 
 -- "b attribute (0 = whole row)"
 abbrev pub targetOf : (variable number : ℕ) → calculus.Target

@@ -1,64 +1,91 @@
 -- What the code keeps instead of specs/Faults: one walk over the tree, which carries a scope down and brings widths and the lowest places of 5 and 6 up, and the
 -- judgement that it gives. Contracts of inner code: once 7 is past the judgement is the one by faults (`FaultsDecide`, specs/Accepted), and no promise of
 -- `translate`, `run` or `answer` mentions any of this. Assumes nothing.
-use Prim.Native.Nat.{ℕ, suc, _+_, min, max}
-use mathlib.Core.List.{List}
+use mathlib.Core.Path.{_≡_}
+use Prim.Native.Nat.{ℕ, suc, _+_, _≤_, min, max}
+use mathlib.Core.List.{List, [], _∷_}
 use mathlib.Core.Bool.{Bool, false, cond, not, _||_}
 use lib.Dec.{ltb, eqb}
-use lib.ListN.{getD, set, replicate}
+use lib.ListN.{length, getD, set, replicate}
 use Rattle.relations.specs.Limits.{columnLimit, questionNodeLimit, variableCount}
 use Rattle.catalogue.specs.Stored.{columnsOf}
-use Rattle.nodes.specs.Roles.{Role, stored, alpha, takes, binds, sides, compares, joins, roleOf}
+use Rattle.nodes.specs.Roles.{roleOf}
+use Rattle.nodes.specs.declared.roles.Role.{Role}
+use Rattle.nodes.specs.declared.roles.Role.the-variants.{Stored, Opens, Takes, Binds, Sides, Compares, Joins}
 use Rattle.nodes.specs.Nodes.{nodeCount, nodeAt}
 use Rattle.question.specs.Trees.{Tree, nothing, branch, questionTree}
 use Rattle.question.specs.Judgement.{countOk, isAlpha, lowestIllFormed, lastNode, lowestNotOnce, lowestUnknown}
 use Rattle.nodes.specs.declared.node.Operand.{Operand}
 use Rattle.nodes.specs.declared.node.Operand.the-variants.{Of, Fixed}
 use Rattle.nodes.specs.declared.node.Node.{Node}
-use Rattle.question.specs.declared.scope.ScopeWidths.{ScopeWidths}
-use Rattle.question.specs.declared.scope.Found.{Found}
 use Rattle.question.specs.declared.judgement.Judgement.{Judgement}
 use Rattle.question.specs.declared.judgement.Judgement.the-variants.{Accepted, Refused}
 
--- A scope has for each variable the width of its rows, 0 where it is not in scope.
-abbrev pub widthKept : ScopeWidths → ℕ → ℕ
-widthKept scope variable = getD (scope .widths) variable 0
+-- A scope as the walk keeps it: for each variable the width of its rows, 0 where it is not in scope; then all columns in scope.
+abbrev pub widthKept : List ℕ → ℕ → ℕ
+widthKept scope variable = getD scope variable 0
 
-abbrev pub noWidths : ScopeWidths
-noWidths = record { widths = replicate variableCount 0; columns = 0 }
+abbrev pub columnsKept : List ℕ → ℕ
+columnsKept scope = getD scope variableCount 0
 
--- a sum over 32 counts as 33, which changes no place
+abbrev pub noWidths : List ℕ
+noWidths = replicate (suc variableCount) 0
+
+-- a sum over the limit counts as one more than it, which changes no place
 unfoldable pub addWidths : ℕ → ℕ → ℕ
 addWidths a b = min (suc columnLimit) (a + b)
 
 -- A bound variable is in scope, also where its range has no columns: only a fault makes such a range (a whole row of a variable
 -- that is not in scope, say), and no fault makes another.
 abbrev pub boundWidth : ℕ → ℕ
-boundWidth width = max 1 width
+boundWidth width = max 1 (min (suc columnLimit) width)
 
-abbrev pub bind : ScopeWidths → ℕ → ℕ → ScopeWidths
-bind scope variable width = record { widths = set (scope .widths) variable (boundWidth width); columns = addWidths (scope .columns) width }
+abbrev pub bind : List ℕ → ℕ → ℕ → List ℕ
+bind scope variable width = set (set scope variable (boundWidth width)) variableCount (addWidths (columnsKept scope) width)
 
-abbrev pub operandUnboundAt : ScopeWidths → Operand → Bool
+-- the variable that a node binds; none is one past the last
+abbrev pub boundBy : Role → ℕ
+boundBy (Stored relation) = variableCount
+boundBy Opens = variableCount
+boundBy (Takes operand) = variableCount
+boundBy (Binds variable) = variable
+boundBy Sides = variableCount
+boundBy (Compares left right) = variableCount
+boundBy Joins = variableCount
+
+abbrev pub entered : List ℕ → (variable width : ℕ) → List ℕ
+entered scope variable width = cond (ltb variable variableCount) (bind scope variable width) scope
+
+abbrev pub operandUnboundAt : List ℕ → Operand → Bool
 operandUnboundAt scope (Of variable attribute) = eqb (widthKept scope variable) 0
 operandUnboundAt scope (Fixed constant) = false
 
-abbrev pub operandUnfitAt : ScopeWidths → Operand → Bool
+abbrev pub operandUnfitAt : List ℕ → Operand → Bool
 operandUnfitAt scope (Of variable attribute) = ltb (widthKept scope variable) (attribute .0)
 operandUnfitAt scope (Fixed constant) = false
 
-abbrev pub targetWidthKept : ScopeWidths → (variable attribute : ℕ) → ℕ
+abbrev pub targetWidthKept : List ℕ → (variable attribute : ℕ) → ℕ
 targetWidthKept scope variable attribute = cond (eqb attribute 0) (widthKept scope variable) 1
 
-abbrev pub takenWidth : ScopeWidths → Operand → ℕ
+abbrev pub takenWidth : List ℕ → Operand → ℕ
 takenWidth scope (Of variable attribute) = targetWidthKept scope variable (attribute .0)
 takenWidth scope (Fixed constant) = 1
+
+-- What the walk of a tree finds: the lowest places of 5 and 6, the node limit where there is none; its width as a range, or as targets; the
+-- scope behind it, which only bindings change.
+pub record Found : Type 0 where
+  pub unbound : ℕ
+  pub unfit : ℕ
+  pub width : ℕ
+  pub scope : List ℕ
 
 -- What the walk asks of a node that stands in a scope.
 pub record Step : Type 0 where
   -- the scope of its first part, and that of the others, from what the first one gave
-  pub opening : ScopeWidths
-  pub inside : Found → ScopeWidths
+  pub opening : List ℕ
+  pub inside : Found → List ℕ
+  -- the scope behind it, from what its second part gave
+  pub behind : Found → List ℕ
   -- whether it is at fault by 5; by 6, from the widths of its first two parts
   pub unbound : Bool
   pub unfit : (first second : ℕ) → Bool
@@ -66,62 +93,92 @@ pub record Step : Type 0 where
   pub width : (columns : ℕ → ℕ) (first second : ℕ) → ℕ
 
 -- a node whose parts see what it sees
-abbrev pub stay : ScopeWidths → Bool → ((first second : ℕ) → Bool) → ((columns : ℕ → ℕ) (first second : ℕ) → ℕ) → Step
-stay scope unbound unfit width = record { opening = scope; inside = λ first. scope; unbound = unbound; unfit = unfit; width = width }
+abbrev pub stay : List ℕ → Bool → ((first second : ℕ) → Bool) → ((columns : ℕ → ℕ) (first second : ℕ) → ℕ) → Step
+stay scope unbound unfit width = record { opening = scope; inside = λ first. scope; behind = λ second. scope; unbound = unbound; unfit = unfit; width = width }
 
-abbrev pub stepOf : ScopeWidths → Role → Step
-stepOf scope (stored relation) = stay scope false (λ first second. false) (λ columns first second. columns relation)
-stepOf scope alpha = record { opening = noWidths; inside = λ first. first .scope; unbound = false; unfit = λ first second. ltb columnLimit second; width = λ columns first second. second }
-stepOf scope (takes operand) = stay scope (operandUnboundAt scope operand) (λ first second. operandUnfitAt scope operand) (λ columns first second. addWidths (takenWidth scope operand) first)
-stepOf scope (binds variable) =
+abbrev pub stepOf : List ℕ → Role → Step
+stepOf scope (Stored relation) = stay scope false (λ first second. false) (λ columns first second. columns relation)
+stepOf scope Opens = record { opening = noWidths; inside = λ first. first .scope; behind = λ second. scope; unbound = false; unfit = λ first second. ltb columnLimit second; width = λ columns first second. second }
+stepOf scope (Takes operand) = stay scope (operandUnboundAt scope operand) (λ first second. operandUnfitAt scope operand) (λ columns first second. addWidths (takenWidth scope operand) first)
+stepOf scope (Binds variable) =
     record {
       opening = scope;
       inside = λ first. bind scope variable (first .width);
+      behind = λ second. second .scope;
       unbound = ltb 0 (widthKept scope variable);
-      unfit = λ first second. ltb columnLimit (addWidths (scope .columns) first);
+      unfit = λ first second. ltb columnLimit (addWidths (columnsKept scope) first);
       width = λ columns first second. 0;
     }
-stepOf scope sides = stay scope false (λ first second. not (eqb first second)) (λ columns first second. first)
-stepOf scope (compares left right) = stay scope (operandUnboundAt scope left || operandUnboundAt scope right) (λ first second. operandUnfitAt scope left || operandUnfitAt scope right) (λ columns first second. 0)
-stepOf scope joins = stay scope false (λ first second. false) (λ columns first second. 0)
+stepOf scope Sides = stay scope false (λ first second. not (eqb first second)) (λ columns first second. first)
+stepOf scope (Compares left right) = stay scope (operandUnboundAt scope left || operandUnboundAt scope right) (λ first second. operandUnfitAt scope left || operandUnfitAt scope right) (λ columns first second. 0)
+stepOf scope Joins = stay scope false (λ first second. false) (λ columns first second. 0)
 
 -- its parts, each the contract of a function
-abbrev pub opening : Node → ScopeWidths → ScopeWidths
+abbrev pub opening : Node → List ℕ → List ℕ
 opening node scope = stepOf scope (roleOf node) .opening
 
-abbrev pub inside : Node → ScopeWidths → Found → ScopeWidths
+abbrev pub inside : Node → List ℕ → Found → List ℕ
 inside node scope first = stepOf scope (roleOf node) .inside first
 
-abbrev pub unboundAt : Node → ScopeWidths → Bool
+abbrev pub unboundAt : Node → List ℕ → Bool
 unboundAt node scope = stepOf scope (roleOf node) .unbound
 
-abbrev pub unfitAt : Node → ScopeWidths → (first second : ℕ) → Bool
+abbrev pub unfitAt : Node → List ℕ → (first second : ℕ) → Bool
 unfitAt node scope first second = stepOf scope (roleOf node) .unfit first second
 
-abbrev pub widthFound : (ℕ → ℕ) → Node → ScopeWidths → (first second : ℕ) → ℕ
+abbrev pub widthFound : (ℕ → ℕ) → Node → List ℕ → (first second : ℕ) → ℕ
 widthFound columns node scope first second = stepOf scope (roleOf node) .width columns first second
 
--- the lowest of a node's own place, where it is at fault, and those found below
-abbrev pub lowestOf : Bool → (i first second third : ℕ) → ℕ
-lowestOf fault i first second third = min (cond fault i questionNodeLimit) (min first (min second third))
+-- a node's own place, where it is at fault
+abbrev pub placeOf : Bool → ℕ → ℕ
+placeOf fault i = cond fault i questionNodeLimit
 
-abbrev pub foundAt : (ℕ → ℕ) → ℕ → Node → ScopeWidths → (first second third : Found) → Found
+-- the lowest of it and of those found below
+abbrev pub lowestOf : Bool → (i first second third : ℕ) → ℕ
+lowestOf fault i first second third = min (placeOf fault i) (min first (min second third))
+
+abbrev pub foundAt : (ℕ → ℕ) → ℕ → Node → List ℕ → (first second third : Found) → Found
 foundAt columns i node scope first second third =
     record {
       unbound = lowestOf (unboundAt node scope) i (first .unbound) (second .unbound) (third .unbound);
       unfit = lowestOf (unfitAt node scope (first .width) (second .width)) i (first .unfit) (second .unfit) (third .unfit);
       width = widthFound columns node scope (first .width) (second .width);
-      scope = second .scope;
+      scope = stepOf scope (roleOf node) .behind second;
     }
 
 -- All faults of the tree are looked for, so none hides another; behind the last binding the scope is what all bound.
-unfoldable pub walk : (ℕ → ℕ) → Tree → ScopeWidths → Found
+unfoldable pub walk : (ℕ → ℕ) → Tree → List ℕ → Found
 walk columns nothing scope = record { unbound = questionNodeLimit; unfit = questionNodeLimit; width = 0; scope = scope }
 walk columns (branch i node first second third) scope =
     foundAt columns i node scope
     (walk columns first (opening node scope))
     (walk columns second (inside node scope (walk columns first (opening node scope))))
     (walk columns third (inside node scope (walk columns first (opening node scope))))
+
+-- What a call of the code leaves in the lent arrays: the scope, and the two lowest places so far with those that the tree has.
+abbrev pub lowered : List ℕ → (unbound unfit : ℕ) → List ℕ
+lowered lowest unbound unfit = min (getD lowest 0 0) unbound ∷ min (getD lowest 1 0) unfit ∷ []
+
+pub record PlacesSoFar (lowest : List ℕ) : Type 0 where
+  pub two-places : length lowest ≡ 2
+  pub unbound-so-far : getD lowest 0 0 ≤ questionNodeLimit
+  pub unfit-so-far : getD lowest 1 0 ≤ questionNodeLimit
+
+pub record BindingsWalked : Type 0 where
+  pub scope : List ℕ
+  pub lowest : List ℕ
+
+pub record Walked : Type 0 where
+  pub width : ℕ
+  pub scope : List ℕ
+  pub lowest : List ℕ
+
+module _ (columns : ℕ → ℕ) (tree : Tree) (scope lowest : List ℕ) where
+  abbrev pub bindingsWalked : BindingsWalked
+  bindingsWalked = record { scope = walk columns tree scope .scope; lowest = lowered lowest (walk columns tree scope .unbound) (walk columns tree scope .unfit) }
+
+  abbrev pub walked : Walked
+  walked = record { width = walk columns tree scope .width; scope = scope; lowest = lowered lowest (walk columns tree scope .unbound) (walk columns tree scope .unfit) }
 
 module _ (catalogue words : List ℕ) where
   abbrev pub faultsFound : Found

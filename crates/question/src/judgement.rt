@@ -7,13 +7,15 @@ ghost use Rattle.question.specs.declared.judgement.Judgement.the-variant
 ghost use Rattle.relations.specs.Limits.{questionNodeLimit};
 ghost use Rattle.nodes.specs.Nodes.{nodeCount, nodeAt, isIllFormed};
 ghost use Rattle.nodes.specs.References.{lowest};
-ghost use Rattle.question.specs.Judgement.{countOk, judgeCount, isAlpha, isUnknown};
+ghost use Rattle.question.specs.Judgement.{countOk, judgeCount, isAlphaRole, isUnknownRole, isUnknown};
 ghost use Rattle.question.specs.Walk.{judgeTree, judgeNodes, judgedByWalk};
-use crate::scope::empty;
-use crate::scope::walk;
+use crate::walking::SCOPE;
+use crate::walking::walk;
 use nodes::node::Node;
 use nodes::node::decode;
 use nodes::references::lowest_not_once;
+use nodes::roles::Role;
+use nodes::roles::role_of;
 use relations::limits::QUESTION_NODE_WORDS;
 use relations::limits::QUESTION_NODES;
 
@@ -86,85 +88,31 @@ fn is_ill_formed(node: Node) -> bool
     }
 }
 
-fn is_alpha(node: Node) -> bool
-    ensures { λ r. ⌜ r ≡ isAlpha node ⌝ }
+pub fn is_alpha(role: Role) -> bool
+    ensures { λ r. ⌜ r ≡ isAlphaRole role ⌝ }
 {
-    match node {
-        Node::Table { relation: _ } => false,
-        Node::Alpha {
-            target: _,
-            binding: _,
-            condition: _,
-        } => true,
-        Node::Target {
-            variable: _,
-            attribute: _,
-            next: _,
-        } => false,
-        Node::Binding {
-            variable: _,
-            range: _,
-            next: _,
-        } => false,
-        Node::RangeOr { left: _, right: _ } => false,
-        Node::RangeAnd { left: _, right: _ } => false,
-        Node::RangeAndNot { left: _, right: _ } => false,
-        Node::Atom(_) => false,
-        Node::And { left: _, right: _ } => false,
-        Node::Or { left: _, right: _ } => false,
-        Node::Not { inner: _ } => false,
-        Node::Some {
-            variable: _,
-            range: _,
-            condition: _,
-        } => false,
-        Node::Every {
-            variable: _,
-            range: _,
-            condition: _,
-        } => false,
-        Node::IllFormed => false,
+    match role {
+        Role::Stored(_) => false,
+        Role::Opens => true,
+        Role::Takes(_) => false,
+        Role::Binds(_) => false,
+        Role::Sides => false,
+        Role::Compares { left: _, right: _ } => false,
+        Role::Joins => false,
     }
 }
 
-fn is_unknown(relations: usize, node: Node) -> bool
-    ensures { λ r. ⌜ r ≡ isUnknown relations node ⌝ }
+fn is_unknown(relations: usize, role: Role) -> bool
+    ensures { λ r. ⌜ r ≡ isUnknownRole relations role ⌝ }
 {
-    match node {
-        Node::Table { relation } => relations <= (relation as usize),
-        Node::Alpha {
-            target: _,
-            binding: _,
-            condition: _,
-        } => false,
-        Node::Target {
-            variable: _,
-            attribute: _,
-            next: _,
-        } => false,
-        Node::Binding {
-            variable: _,
-            range: _,
-            next: _,
-        } => false,
-        Node::RangeOr { left: _, right: _ } => false,
-        Node::RangeAnd { left: _, right: _ } => false,
-        Node::RangeAndNot { left: _, right: _ } => false,
-        Node::Atom(_) => false,
-        Node::And { left: _, right: _ } => false,
-        Node::Or { left: _, right: _ } => false,
-        Node::Not { inner: _ } => false,
-        Node::Some {
-            variable: _,
-            range: _,
-            condition: _,
-        } => false,
-        Node::Every {
-            variable: _,
-            range: _,
-            condition: _,
-        } => false,
-        Node::IllFormed => false,
+    match role {
+        Role::Stored(relation) => relations <= (relation as usize),
+        Role::Opens => false,
+        Role::Takes(_) => false,
+        Role::Binds(_) => false,
+        Role::Sides => false,
+        Role::Compares { left: _, right: _ } => false,
+        Role::Joins => false,
     }
 }
 
@@ -190,7 +138,7 @@ fn lowest_unknown(relations: usize, words: &[u32], nodes: usize) -> usize
 {
     let mut i = 0;
     while i < nodes {
-        if is_unknown(relations, decode(words, i)) {
+        if is_unknown(relations, role_of(decode(words, i))) {
             return i;
         }
         i += 1;
@@ -207,12 +155,14 @@ fn judge_tree(catalogue: &[u32], words: &[u32], nodes: usize) -> Judgement
     if unknown < nodes {
         return refused(4, unknown as u32);
     }
-    let found = walk(catalogue, words, nodes as u32, empty());
-    if found.unbound < QUESTION_NODES as u32 {
-        return refused(5, found.unbound);
+    let mut scope = [0u8; SCOPE];
+    let mut lowest = [QUESTION_NODES as u32; 2];
+    walk(catalogue, words, nodes as u32, &mut scope, &mut lowest);
+    if lowest[0] < QUESTION_NODES as u32 {
+        return refused(5, lowest[0]);
     }
-    if found.unfit < QUESTION_NODES as u32 {
-        return refused(6, found.unfit);
+    if lowest[1] < QUESTION_NODES as u32 {
+        return refused(6, lowest[1]);
     }
     Judgement::Accepted
 }
@@ -232,7 +182,7 @@ fn judge_nodes(catalogue: &[u32], words: &[u32]) -> Judgement
     if not_once < last as u32 {
         return refused(3, not_once);
     }
-    if is_alpha(decode(words, last)) {
+    if is_alpha(role_of(decode(words, last))) {
         return judge_tree(catalogue, words, nodes);
     }
     refused(3, last as u32)

@@ -27,15 +27,15 @@ zeros-zero (suc n) = zeros-zero n
 
 -- reading back the lists
 
-attributes-back : (attributes : List Attribute) → map attribute (map (λ a. a .number) attributes) ≡ attributes
+pub attributes-back : (attributes : List Attribute) → map attribute (map (λ a. a .number) attributes) ≡ attributes
 attributes-back [] = refl
 attributes-back (a ∷ attributes) = ap (λ rest. a ∷ rest) (attributes-back attributes)
 
-triples-back : (triples : List Triple) (behind : List ℕ) → readTriples (length triples) (flat tripleWords triples ++ behind) ≡ some triples
+pub triples-back : (triples : List Triple) (behind : List ℕ) → readTriples (length triples) (flat tripleWords triples ++ behind) ≡ some triples
 triples-back [] behind = refl
 triples-back (t ∷ triples) behind = rw (operator-back (t .operator), triples-back triples behind)
 
-pairs-back : (pairs : List Pair) (behind : List ℕ) → readPairs (length pairs) (flat pairWords pairs ++ behind) ≡ pairs
+pub pairs-back : (pairs : List Pair) (behind : List ℕ) → readPairs (length pairs) (flat pairWords pairs ++ behind) ≡ pairs
 pairs-back [] behind = refl
 pairs-back (p ∷ pairs) behind = rw (pairs-back pairs behind)
 

@@ -44,3 +44,11 @@ operatorNumber atLeast = 6
 abbrev pub operatorOf : ℕ → Option Operator
 operatorOf number =
     cond (eqb number 1) (some equal) (cond (eqb number 2) (some notEqual) (cond (eqb number 3) (some less) (cond (eqb number 4) (some atMost) (cond (eqb number 5) (some greater) (cond (eqb number 6) (some atLeast) none)))))
+
+-- the operator of a number; a number that is none's, which no legal plan and no question of good form has, reads as "="
+abbrev pub operatorFor : Option Operator → Operator
+operatorFor (some operator) = operator
+operatorFor none = equal
+
+abbrev pub operatorNamed : ℕ → Operator
+operatorNamed number = operatorFor (operatorOf number)

@@ -1,9 +1,9 @@
 -- The nodes of a plan. Document 01, "The plan": left and right name lower nodes by their number from 0.
-use mathlib.Core.Bool.{Bool, true, false, cond}
+use mathlib.Core.Bool.{Bool, cond, _&&_, _||_}
 use mathlib.Core.List.{List}
 use mathlib.Core.Option.{Option, some, none}
 use Prim.Native.Nat.{ℕ}
-use lib.Dec.{eqb}
+use lib.Dec.{leb, eqb}
 use Rattle.relations.specs.Comparison.{Operator}
 use Rattle.relations.specs.Columns.{Attribute, Constant, Triple, Pair}
 
@@ -51,15 +51,12 @@ operationOf number =
     cond (eqb number 1) (some loading) (cond (eqb number 2) (some projecting) (cond (eqb number 3) (some selectingConstant) (cond (eqb number 4) (some selectingAttribute) (cond (eqb number 5) (some joining) (cond (eqb number 6) (some semijoining) (cond (eqb number 7) (some antijoining) (cond (eqb number 8) (some dividing) (cond (eqb number 9) (some uniting) (cond (eqb number 10) (some intersecting) (cond (eqb number 11) (some subtracting) none))))))))))
 
 -- "Heavy operations are 5, 8, 9, 10 and 11; the rest are light."
+abbrev pub heavyNumber : ℕ → Bool
+heavyNumber number = eqb number 5 || (leb 8 number && leb number 11)
+
 abbrev pub heavyOperation : Operation → Bool
-heavyOperation loading = false
-heavyOperation projecting = false
-heavyOperation selectingConstant = false
-heavyOperation selectingAttribute = false
-heavyOperation joining = true
-heavyOperation semijoining = false
-heavyOperation antijoining = false
-heavyOperation dividing = true
-heavyOperation uniting = true
-heavyOperation intersecting = true
-heavyOperation subtracting = true
+heavyOperation operation = heavyNumber (operationNumber operation)
+
+-- what it adds to the number of heavy ones
+abbrev pub weightOf : Bool → ℕ
+weightOf isHeavy = cond isHeavy 1 0

@@ -11,7 +11,7 @@ use lib.Seq.{length-take-le}
 use Rattle.relations.specs.Limits.{columnLimit, planNodeWords, headWords, listWords}
 use Rattle.relations.specs.Lists.{All}
 use Rattle.relations.specs.Values.{Rows, Tables}
-use Rattle.relations.specs.Comparison.{Operator, operatorOf}
+use Rattle.relations.specs.Comparison.{Operator, operatorOf, operatorNamed}
 use Rattle.relations.specs.Columns.{Triple, Pair, attribute, constant, leftNumbers}
 use Rattle.relations.specs.Operations.{loadCandidates, projectCandidates, selectConstantCandidates, selectAttributeCandidates, joinCandidates, semijoinCandidates, antijoinCandidates, divideCandidates, uniteCandidates, intersectCandidates, subtractCandidates}
 use Rattle.relations.specs.Nodes as nodes
@@ -25,8 +25,9 @@ use Rattle.values.specs.Words.{rowsOf}
 use Rattle.values.specs.Building.{Makes}
 use Rattle.values.specs.declared.rows.Value.{Value}
 use Rattle.values.specs.declared.placing.Placed.{Placed}
-use Rattle.operations.specs.Lists.{operatorNamed, triplesIn}
-use Rattle.operations.proofs.ListLaws.{operator-named, triples-read}
+use Rattle.operations.specs.Lists.{triplesIn}
+use Rattle.operations.proofs.ListLaws.{triples-read}
+use Rattle.terms.proofs.NumberLaws.{operator-named}
 use Rattle.catalogue.specs.Stored.{relationsOf, columnsOf, storedTables}
 use Rattle.plans.specs.Decoding.{operationIn, operationCode, decoded}
 use Rattle.plans.specs.Judging.{legalRead}

@@ -1,7 +1,7 @@
 -- When the short rules fit a node's condition. Assumes nothing.
-use Prim.Native.Nat.{ℕ, _≤_}
-use mathlib.Core.Path.{_≡_, refl, ap, ap₂, _∙_}
-use mathlib.Core.Bool.{Bool, true, false, _&&_, _||_, or-false, false≢true}
+use Prim.Native.Nat.{ℕ, _-_, _≤_}
+use mathlib.Core.Path.{_≡_, refl, sym, ap, _∙_}
+use mathlib.Core.Bool.{Bool, true, false, _||_, or-false, false≢true}
 use mathlib.Core.List.{List, [], _∷_}
 use native.Mathlib.Omega.{arith}
 use denote.Enum.Declared.{tagOf}
@@ -11,22 +11,32 @@ use Rattle.calculus.specs.Question as calculus
 use Rattle.calculus.specs.Question.{Range, Condition, forSome, conditionNodes}
 use Rattle.calculus.specs.Scope as scopes
 use Rattle.calculus.specs.Form.{GoodCondition}
-use Rattle.calculus.specs.Leaves.{isAndTree, leaves}
 use Rattle.calculus.specs.ShortRules.{shortRule2Fits, shortRule3Fits, shortRule5Fits, shortRule6Fits}
 use Rattle.question.specs.Trees.{Reading, readingOf}
 use Rattle.nodes.specs.declared.node.Node as question
 use Rattle.nodes.specs.declared.node.Node.the-variants.{Table, Alpha, Target, Binding, RangeOr, RangeAnd, RangeAndNot, Atom as AtomNode, And, Or, Not, Some, Every, IllFormed}
 use Rattle.nodes.proofs.node.Node.{the-type}
-use Rattle.conditions.specs.Leaves.{atomsOf, LeavesOf}
-use Rattle.conditions.specs.declared.leaves.Leaves.{Leaves}
+use Rattle.nodes.specs.Nodes.{nodeAt}
+use Rattle.conditions.specs.Readings.{Names, rangeAt, conditionAt}
+use Rattle.conditions.proofs.Readings.{condition-is, some-parts}
+use Rattle.short_rules.specs.Rules.{ruleFits}
+use Rattle.short_rules.specs.declared.fits.ShortRule.{ShortRule}
 
-pub some-nodes-below : {x : ℕ} {range : Range} {f g : Condition} → g ≡ forSome x range f → conditionNodes g ≤ questionNodeLimit → conditionNodes f ≤ questionNodeLimit
+some-nodes-below : {x : ℕ} {range : Range} {f g : Condition} → g ≡ forSome x range f → conditionNodes g ≤ questionNodeLimit → conditionNodes f ≤ questionNodeLimit
 unfolding conditionNodes
 some-nodes-below e few = omega (arith, ap conditionNodes e)
 
--- a test of the leaves collected is one of the condition
-pub conjoined-atoms : {words : List ℕ} {f : Condition} {collected : Leaves} {r : Bool} (test : List calculus.Atom → Bool) → LeavesOf words f collected → r ≡ (collected .conjoined && test (atomsOf words collected)) → r ≡ (isAndTree f && test (leaves f))
-conjoined-atoms test l e = e ∙ ap₂ (λ (b : Bool) (atoms : List calculus.Atom). b && test atoms) (l .and-tree) (l .atoms)
+-- the "some" that a reference names
+module _ (words : List ℕ) {reference variable range condition : ℕ} (h : Names words reference) (e : Some variable range condition ≡ nodeAt words (reference - 1)) where
+  pub some-reads : conditionAt words reference ≡ forSome variable (rangeAt words range) (conditionAt words condition)
+  some-reads = condition-is words reference (Some variable range condition) (h .0) e
+
+  pub some-ready : conditionNodes (conditionAt words reference) ≤ questionNodeLimit → Names words condition × (conditionNodes (conditionAt words condition) ≤ questionNodeLimit)
+  some-ready few = (some-parts words reference h e .1 .0, some-nodes-below some-reads few)
+
+-- the rule is known in each arm
+pub fits-told : (x : ℕ) (f : Condition) {rule known : ShortRule} {fits : Bool} → rule ≡ known → fits ≡ ruleFits known x f → fits ≡ ruleFits rule x f
+fits-told x f e p = p ∙ sym (ap (λ (r : ShortRule). ruleFits r x f) e)
 
 -- what S3 or S6 says of a node's condition
 

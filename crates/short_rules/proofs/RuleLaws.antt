@@ -1,68 +1,71 @@
 -- The leaves passed one by one: tests of all, counts, and lists made from those that pass a test. Assumes nothing.
-use Rattle.calculus.proofs.SizeTheorem.{selects-size, projects-size}
+use Rattle.calculus.proofs.SizeTheorem.{leaves-size, filter-size, selects-size, projects-size}
 use Prim.Native.Nat.{ℕ, suc, _+_, _*_, _-_, _≤_, _<_, pred, _/_}
 use mathlib.Core.Path.{_≡_, refl, sym, ap, ap₂, _∙_}
-use mathlib.Core.Bool.{Bool, true, false, not, cond, _&&_, false≢true, and-assoc}
+use mathlib.Core.Bool.{Bool, true, false, not, cond, _&&_, _||_, false≢true, and-assoc}
 use mathlib.Core.List.{List, [], _∷_, _++_, map, append-assoc}
 use native.Mathlib.Omega.{arith}
-use lib.Dec.{eqb}
+use lib.Dec.{eqb, leb}
 use lib.ListN.{length, length-map, length-append}
-use borrow.Author.Tests.{eq-eqb, ne-eqb}
-use Rattle.relations.specs.Limits.{tripleLimit, listWords}
+use borrow.Author.Tests.{eq-eqb, ne-eqb, leb-true}
+use Rattle.relations.specs.Limits.{tripleLimit, pairLimit, listWords}
 use Rattle.relations.specs.Comparison.{Operator, operatorNumber, turned}
 use Rattle.relations.specs.PlanWords.{tripleWords, pairWords}
 use Rattle.relations.proofs.ListLaws.{length-flat}
-use Rattle.calculus.specs.Leaves.{oppositeAtom, aloneOn, comparesWithOther, ownAttribute, otherVariable, otherAttribute, equatesWith, equatesOutside}
-use Rattle.calculus.specs.ShortRules.{lastNumber, selectNodes, projectNodes, tripleOf, triplesOf, restrictedRange, outsideTriples, divisionPairs, shortRule5Columns}
+use Rattle.calculus.specs.Leaves.{leaves, oppositeAtom, aloneOn, comparesWithOther, ownAttribute, otherVariable, otherAttribute, equatesWith, equatesOutside}
+use Rattle.calculus.specs.ShortRules.{lastNumber, selectNodes, projectNodes, tripleOf, triplesOf, restrictedRange, outsideTriples, divisionPairs, shortRule2Atoms, shortRule5Atoms, shortRule5Columns}
 use Rattle.relations.specs.Columns.{Attribute, Triple, Pair}
 use Rattle.relations.specs.Lists.{all, filter, flat}
 use Rattle.relations.specs.Nodes.{Node, semijoin, antijoin, divide, unite}
 use Rattle.calculus.specs.Question as calculus
 use Rattle.calculus.specs.Scope.{entry, Scope, columnNumber}
 use Rattle.conditions.specs.Entries.{entries}
-use Rattle.conditions.specs.Leaves.{leafAt, atomsOf, opposites}
-use Rattle.conditions.specs.declared.scope.CarriedScope.{CarriedScope}
-use Rattle.conditions.proofs.LeafLaws.{opposite-atoms}
+use Rattle.conditions.specs.Leaves.{leafAt, atomsOf}
 use Rattle.calculus.proofs.LegalColumns.{few-opposite}
 use Rattle.emission.specs.NodeLists.{nodeList, numbersOf}
 use Rattle.emission.specs.declared.node_list.NodeList.{NodeList}
 use Rattle.emission.specs.Written.{Written}
-use Rattle.short_rules.specs.Rules.{dividendNodes, RuleFits}
-use Rattle.conditions.specs.declared.leaves.Leaves.{Leaves}
+use Rattle.relations.specs.Legality.{between}
+use Rattle.relations.proofs.BoolLaws.{and-left, and-right}
+use Rattle.conditions.specs.Readings.{conditionAt}
+use Rattle.conditions.specs.Scopes.{ScopeFits}
+use Rattle.conditions.proofs.LeafLaws.{FoundLeaves}
+use Rattle.short_rules.specs.Rules.{dividendNodes, RuleFits, DividendFits, RuleReady}
+use Rattle.short_rules.specs.declared.fits.ShortRule.{ShortRule}
 use Rattle.conditions.proofs.EntryLaws.{entries-step}
 use Rattle.emission.proofs.WrittenLaws.{written-then, last-is, written-as, room-less}
 
 -- the next leaf of so many
-module _ (words : List ℕ) (collected : Leaves) where
+module _ (words : List ℕ) (opposite : Bool) (collected : List ℕ) where
   abbrev pub rest : ℕ → ℕ → List calculus.Atom
-  rest i left = entries (leafAt words collected) i left
+  rest i left = entries (leafAt words opposite collected) i left
 
   module _ (i left : ℕ) (h : 0 < left) where
-    next-leaf : rest i left ≡ leafAt words collected i ∷ rest (i + 1) (left - 1)
-    next-leaf = entries-step (leafAt words collected) i left h
+    next-leaf : rest i left ≡ leafAt words opposite collected i ∷ rest (i + 1) (left - 1)
+    next-leaf = entries-step (leafAt words opposite collected) i left h
 
-    pub all-next : (test : calculus.Atom → Bool) (fits passes whole : Bool) → passes ≡ test (leafAt words collected i) → (fits && all test (rest i left)) ≡ whole → ((fits && passes) && all test (rest (i + 1) (left - 1))) ≡ whole
+    pub all-next : (test : calculus.Atom → Bool) (fits passes whole : Bool) → passes ≡ test (leafAt words opposite collected i) → (fits && all test (rest i left)) ≡ whole → ((fits && passes) && all test (rest (i + 1) (left - 1))) ≡ whole
     all-next test fits passes whole e w =
         and-assoc fits passes (all test (rest (i + 1) (left - 1)))
         ∙ ap (λ b. fits && (b && all test (rest (i + 1) (left - 1)))) e
         ∙ ap (λ l. fits && all test l) (sym next-leaf) ∙ w
 
-    pub count-next : (test : calculus.Atom → Bool) (passes : Bool) → passes ≡ test (leafAt words collected i) → length (filter test (rest i left)) ≡ cond passes 1 0 + length (filter test (rest (i + 1) (left - 1)))
-    count-next test passes e = ap (λ l. length (filter test l)) next-leaf ∙ rw e (go (test (leafAt words collected i)))
+    pub count-next : (test : calculus.Atom → Bool) (passes : Bool) → passes ≡ test (leafAt words opposite collected i) → length (filter test (rest i left)) ≡ cond passes 1 0 + length (filter test (rest (i + 1) (left - 1)))
+    count-next test passes e = ap (λ l. length (filter test l)) next-leaf ∙ rw e (go (test (leafAt words opposite collected i)))
       where
-        go : (b : Bool) → length (cond b (leafAt words collected i ∷ filter test (rest (i + 1) (left - 1))) (filter test (rest (i + 1) (left - 1)))) ≡ cond b 1 0 + length (filter test (rest (i + 1) (left - 1)))
+        go : (b : Bool) → length (cond b (leafAt words opposite collected i ∷ filter test (rest (i + 1) (left - 1))) (filter test (rest (i + 1) (left - 1)))) ≡ cond b 1 0 + length (filter test (rest (i + 1) (left - 1)))
         go true = omega arith
         go false = omega arith
 
-    pub triples-next : (s : Scope) (x : ℕ) → flat tripleWords (triplesOf s x (rest i left)) ≡ flat tripleWords (triplesOf s x (leafAt words collected i ∷ [])) ++ flat tripleWords (triplesOf s x (rest (i + 1) (left - 1)))
-    triples-next s x = ap (λ l. flat tripleWords (triplesOf s x l)) next-leaf ∙ go (comparesWithOther x (leafAt words collected i)) (leafAt words collected i)
+    pub triples-next : (s : Scope) (x : ℕ) → flat tripleWords (triplesOf s x (rest i left)) ≡ flat tripleWords (triplesOf s x (leafAt words opposite collected i ∷ [])) ++ flat tripleWords (triplesOf s x (rest (i + 1) (left - 1)))
+    triples-next s x = ap (λ l. flat tripleWords (triplesOf s x l)) next-leaf ∙ go (comparesWithOther x (leafAt words opposite collected i)) (leafAt words opposite collected i)
       where
         go : (b : Bool) (a : calculus.Atom) → flat tripleWords (map (tripleOf s x) (cond b (a ∷ filter (comparesWithOther x) (rest (i + 1) (left - 1))) (filter (comparesWithOther x) (rest (i + 1) (left - 1))))) ≡ flat tripleWords (map (tripleOf s x) (cond b (a ∷ []) [])) ++ flat tripleWords (triplesOf s x (rest (i + 1) (left - 1)))
         go true a = refl
         go false a = refl
 
-    pub selects-next : (s : Scope) (x n : ℕ) → 1 ≤ n → selectNodes s (filter (aloneOn x) (rest i left)) (pred n) n ≡ selectNodes s (filter (aloneOn x) (leafAt words collected i ∷ [])) (pred n) n ++ selectNodes s (filter (aloneOn x) (rest (i + 1) (left - 1))) (pred (n + length (selectNodes s (filter (aloneOn x) (leafAt words collected i ∷ [])) (pred n) n))) (n + length (selectNodes s (filter (aloneOn x) (leafAt words collected i ∷ [])) (pred n) n))
-    selects-next s x n h = ap (λ l. selectNodes s (filter (aloneOn x) l) (pred n) n) next-leaf ∙ go (aloneOn x (leafAt words collected i)) (leafAt words collected i)
+    pub selects-next : (s : Scope) (x n : ℕ) → 1 ≤ n → selectNodes s (filter (aloneOn x) (rest i left)) (pred n) n ≡ selectNodes s (filter (aloneOn x) (leafAt words opposite collected i ∷ [])) (pred n) n ++ selectNodes s (filter (aloneOn x) (rest (i + 1) (left - 1))) (pred (n + length (selectNodes s (filter (aloneOn x) (leafAt words opposite collected i ∷ [])) (pred n) n))) (n + length (selectNodes s (filter (aloneOn x) (leafAt words opposite collected i ∷ [])) (pred n) n))
+    selects-next s x n h = ap (λ l. selectNodes s (filter (aloneOn x) l) (pred n) n) next-leaf ∙ go (aloneOn x (leafAt words opposite collected i)) (leafAt words opposite collected i)
       where
         go : (b : Bool) (a : calculus.Atom) → selectNodes s (cond b (a ∷ filter (aloneOn x) (rest (i + 1) (left - 1))) (filter (aloneOn x) (rest (i + 1) (left - 1)))) (pred n) n ≡ selectNodes s (cond b (a ∷ []) []) (pred n) n ++ selectNodes s (filter (aloneOn x) (rest (i + 1) (left - 1))) (pred (n + length (selectNodes s (cond b (a ∷ []) []) (pred n) n))) (n + length (selectNodes s (cond b (a ∷ []) []) (pred n) n))
         go true a =
@@ -72,34 +75,34 @@ module _ (words : List ℕ) (collected : Leaves) where
             let e : n + 0 ≡ n = omega arith in
             rw e
 
-    pub own-count : (test : calculus.Atom → Bool) (own : ℕ) (passes : Bool) → passes ≡ test (leafAt words collected i) → length (filter test (rest i left)) ≡ length (cond passes (own ∷ []) []) + length (filter test (rest (i + 1) (left - 1)))
+    pub own-count : (test : calculus.Atom → Bool) (own : ℕ) (passes : Bool) → passes ≡ test (leafAt words opposite collected i) → length (filter test (rest i left)) ≡ length (cond passes (own ∷ []) []) + length (filter test (rest (i + 1) (left - 1)))
     own-count test own passes e = count-next test passes e ∙ ap (λ (k : ℕ). k + length (filter test (rest (i + 1) (left - 1)))) (sym (go passes))
       where
         go : (b : Bool) → length (cond b (own ∷ []) []) ≡ cond b 1 0
         go true = refl
         go false = refl
 
-    pub own-next : (test : calculus.Atom → Bool) (z own : ℕ) (passes : Bool) → passes ≡ test (leafAt words collected i) → own ≡ ownAttribute z (leafAt words collected i) .number
+    pub own-next : (test : calculus.Atom → Bool) (z own : ℕ) (passes : Bool) → passes ≡ test (leafAt words opposite collected i) → own ≡ ownAttribute z (leafAt words opposite collected i) .number
         → numbersOf (map (ownAttribute z) (filter test (rest i left))) ≡ cond passes (own ∷ []) [] ++ numbersOf (map (ownAttribute z) (filter test (rest (i + 1) (left - 1))))
-    own-next test z own passes e f = ap (λ l. numbersOf (map (ownAttribute z) (filter test l))) next-leaf ∙ rw (e, f) (go (test (leafAt words collected i)))
+    own-next test z own passes e f = ap (λ l. numbersOf (map (ownAttribute z) (filter test l))) next-leaf ∙ rw (e, f) (go (test (leafAt words opposite collected i)))
       where
-        go : (b : Bool) → numbersOf (map (ownAttribute z) (cond b (leafAt words collected i ∷ filter test (rest (i + 1) (left - 1))) (filter test (rest (i + 1) (left - 1))))) ≡ cond b (ownAttribute z (leafAt words collected i) .number ∷ []) [] ++ numbersOf (map (ownAttribute z) (filter test (rest (i + 1) (left - 1))))
+        go : (b : Bool) → numbersOf (map (ownAttribute z) (cond b (leafAt words opposite collected i ∷ filter test (rest (i + 1) (left - 1))) (filter test (rest (i + 1) (left - 1))))) ≡ cond b (ownAttribute z (leafAt words opposite collected i) .number ∷ []) [] ++ numbersOf (map (ownAttribute z) (filter test (rest (i + 1) (left - 1))))
         go true = refl
         go false = refl
 
-    pub pairs-next : (test : calculus.Atom → Bool) (z column other : ℕ) (passes : Bool) → passes ≡ test (leafAt words collected i) → other ≡ otherAttribute z (leafAt words collected i) .number
+    pub pairs-next : (test : calculus.Atom → Bool) (z column other : ℕ) (passes : Bool) → passes ≡ test (leafAt words opposite collected i) → other ≡ otherAttribute z (leafAt words opposite collected i) .number
         → flat pairWords (divisionPairs z (filter test (rest i left)) column) ≡ cond passes (column ∷ other ∷ []) [] ++ flat pairWords (divisionPairs z (filter test (rest (i + 1) (left - 1))) (column + cond passes 1 0))
-    pairs-next test z column other passes e f = ap (λ l. flat pairWords (divisionPairs z (filter test l) column)) next-leaf ∙ rw (e, f) (go (test (leafAt words collected i)))
+    pairs-next test z column other passes e f = ap (λ l. flat pairWords (divisionPairs z (filter test l) column)) next-leaf ∙ rw (e, f) (go (test (leafAt words opposite collected i)))
       where
-        go : (b : Bool) → flat pairWords (divisionPairs z (cond b (leafAt words collected i ∷ filter test (rest (i + 1) (left - 1))) (filter test (rest (i + 1) (left - 1)))) column) ≡ cond b (column ∷ otherAttribute z (leafAt words collected i) .number ∷ []) [] ++ flat pairWords (divisionPairs z (filter test (rest (i + 1) (left - 1))) (column + cond b 1 0))
+        go : (b : Bool) → flat pairWords (divisionPairs z (cond b (leafAt words opposite collected i ∷ filter test (rest (i + 1) (left - 1))) (filter test (rest (i + 1) (left - 1)))) column) ≡ cond b (column ∷ otherAttribute z (leafAt words opposite collected i) .number ∷ []) [] ++ flat pairWords (divisionPairs z (filter test (rest (i + 1) (left - 1))) (column + cond b 1 0))
         go true = let k : column + 1 ≡ suc column = omega arith in rw k
         go false = let k : column + 0 ≡ column = omega arith in rw k
 
-    pub outside-next : (test : calculus.Atom → Bool) (s : Scope) (z column other : ℕ) (passes : Bool) → passes ≡ test (leafAt words collected i) → other ≡ columnNumber s (otherVariable z (leafAt words collected i)) (otherAttribute z (leafAt words collected i) .number)
+    pub outside-next : (test : calculus.Atom → Bool) (s : Scope) (z column other : ℕ) (passes : Bool) → passes ≡ test (leafAt words opposite collected i) → other ≡ columnNumber s (otherVariable z (leafAt words opposite collected i)) (otherAttribute z (leafAt words opposite collected i) .number)
         → flat tripleWords (outsideTriples s z (filter test (rest i left)) column) ≡ cond passes (other ∷ 1 ∷ column ∷ []) [] ++ flat tripleWords (outsideTriples s z (filter test (rest (i + 1) (left - 1))) (column + cond passes 1 0))
-    outside-next test s z column other passes e f = ap (λ l. flat tripleWords (outsideTriples s z (filter test l) column)) next-leaf ∙ rw (e, f) (go (test (leafAt words collected i)))
+    outside-next test s z column other passes e f = ap (λ l. flat tripleWords (outsideTriples s z (filter test l) column)) next-leaf ∙ rw (e, f) (go (test (leafAt words opposite collected i)))
       where
-        go : (b : Bool) → flat tripleWords (outsideTriples s z (cond b (leafAt words collected i ∷ filter test (rest (i + 1) (left - 1))) (filter test (rest (i + 1) (left - 1)))) column) ≡ cond b (columnNumber s (otherVariable z (leafAt words collected i)) (otherAttribute z (leafAt words collected i) .number) ∷ 1 ∷ column ∷ []) [] ++ flat tripleWords (outsideTriples s z (filter test (rest (i + 1) (left - 1))) (column + cond b 1 0))
+        go : (b : Bool) → flat tripleWords (outsideTriples s z (cond b (leafAt words opposite collected i ∷ filter test (rest (i + 1) (left - 1))) (filter test (rest (i + 1) (left - 1)))) column) ≡ cond b (columnNumber s (otherVariable z (leafAt words opposite collected i)) (otherAttribute z (leafAt words opposite collected i) .number) ∷ 1 ∷ column ∷ []) [] ++ flat tripleWords (outsideTriples s z (filter test (rest (i + 1) (left - 1))) (column + cond b 1 0))
         go true = let k : column + 1 ≡ suc column = omega arith in rw k
         go false = let k : column + 0 ≡ column = omega arith in rw k
 
@@ -122,7 +125,7 @@ module _ (s : Scope) (x v : ℕ) (a : Attribute) (o : Operator) where
 pub triple-none : (s : Scope) (x : ℕ) (a : calculus.Atom) → comparesWithOther x a ≡ false → flat tripleWords (triplesOf s x (a ∷ [])) ≡ []
 triple-none s x a h = rw h
 
--- at most 8 triples are at most 24 words
+-- the words of the triples that a node may list fit its list
 pub triples-fit : (s : Scope) (x : ℕ) (atoms : List calculus.Atom) → length (filter (comparesWithOther x) atoms) ≤ tripleLimit → length (flat tripleWords (triplesOf s x atoms)) ≤ listWords
 triples-fit s x atoms h = omega (arith, length-flat 3 tripleWords (triplesOf s x atoms) (λ t. refl), length-map (filter (comparesWithOther x) atoms) (tripleOf s x))
 
@@ -147,35 +150,50 @@ pub outside-size : (s : Scope) (z : ℕ) (atoms : List calculus.Atom) (column : 
 outside-size s z [] column = refl
 outside-size s z (a ∷ atoms) column = omega (arith, outside-size s z atoms (suc column))
 
--- S4 is S3 on the opposites, which are as many of each kind
+-- a rule's leaves once they are found: its selects, its triples and its equations
+module _ {words plan scope : List ℕ} {rule : ShortRule} {x width condition y n : ℕ} (r : RuleReady words plan scope rule x width condition y n) {found : List ℕ} (f : FoundLeaves words (conditionAt words condition) found) where
+  abbrev atoms : List calculus.Atom
+  atoms = leaves (conditionAt words condition)
 
-alone-opposite : (x : ℕ) (atoms : List calculus.Atom) → length (filter (aloneOn x) (map oppositeAtom atoms)) ≡ length (filter (aloneOn x) atoms)
-alone-opposite x [] = refl
-alone-opposite x (a ∷ atoms) = go a (alone-opposite x atoms)
-  where
-    each : (b : Bool) (p q : calculus.Atom) → length (filter (aloneOn x) (map oppositeAtom atoms)) ≡ length (filter (aloneOn x) atoms) → length (cond b (p ∷ filter (aloneOn x) (map oppositeAtom atoms)) (filter (aloneOn x) (map oppositeAtom atoms))) ≡ length (cond b (q ∷ filter (aloneOn x) atoms) (filter (aloneOn x) atoms))
-    each true p q same = ap suc same
-    each false p q same = same
-
-    go : (b : calculus.Atom) → length (filter (aloneOn x) (map oppositeAtom atoms)) ≡ length (filter (aloneOn x) atoms) → length (filter (aloneOn x) (oppositeAtom b ∷ map oppositeAtom atoms)) ≡ length (filter (aloneOn x) (b ∷ atoms))
-    go (calculus.compare v attribute o (calculus.fixed c)) same = each (aloneOn x (calculus.compare v attribute o (calculus.fixed c))) (oppositeAtom (calculus.compare v attribute o (calculus.fixed c))) (calculus.compare v attribute o (calculus.fixed c)) same
-    go (calculus.compare v attribute o (calculus.ofVariable w other)) same = each (aloneOn x (calculus.compare v attribute o (calculus.ofVariable w other))) (oppositeAtom (calculus.compare v attribute o (calculus.ofVariable w other))) (calculus.compare v attribute o (calculus.ofVariable w other)) same
-
-pub opposites-ready : {words plan : List ℕ} {scope : CarriedScope} {leaves : Leaves} {x width n : ℕ} → RuleFits words plan scope leaves x width n 1 × (length (filter (comparesWithOther x) (atomsOf words leaves)) ≤ tripleLimit) × (leaves .opposite ≡ false)
-    → RuleFits words plan scope (opposites leaves) x width n 1 × (length (filter (comparesWithOther x) (atomsOf words (opposites leaves))) ≤ tripleLimit)
-opposites-ready {words} {leaves = leaves} {x = x} h =
-    let e : atomsOf words (opposites leaves) ≡ map oppositeAtom (atomsOf words leaves) = opposite-atoms words leaves (h .2) in
-    let r = h .0 in (
+  rule-fits : (opposite : Bool) (more : ℕ) → more ≤ 5 → length (atomsOf words opposite found) ≡ length atoms → RuleFits words plan opposite found x width n more
+  rule-fits opposite more h e =
       record {
-        scope-fits = r .scope-fits;
-        leaves-fit = record { few = r .leaves-fit .few; inside = r .leaves-fit .inside };
+        leaves-fit = f .fit;
         some-columns = r .some-columns;
         few-columns = r .few-columns;
         some-nodes = r .some-nodes;
-        room = room-less _ (r .room) (omega (arith, ap (λ (atoms : List calculus.Atom). length (filter (aloneOn x) atoms)) e, alone-opposite x (atomsOf words leaves)));
-      },
-      omega (arith, h .1, ap (λ (atoms : List calculus.Atom). length (filter (comparesWithOther x) atoms)) e, few-opposite x (atomsOf words leaves)),
-    )
+        room = room-less _ (r .room) (omega (arith, h, e, filter-size (aloneOn x) (atomsOf words opposite found), leaves-size (conditionAt words condition)));
+      }
+
+  module _ (h : shortRule2Atoms x atoms ≡ true) where
+    few : length (filter (comparesWithOther x) atoms) ≤ tripleLimit
+    few = leb-true (length (filter (comparesWithOther x) atoms)) tripleLimit (and-right (all (λ a. aloneOn x a || comparesWithOther x a) atoms) (leb (length (filter (comparesWithOther x) atoms)) tripleLimit) h)
+
+    pub join-ready : ScopeFits scope × RuleFits words plan false found x width n 1 × (length (filter (comparesWithOther x) (atomsOf words false found)) ≤ tripleLimit)
+    join-ready = (r .scope-fits, rule-fits false 1 (omega arith) (ap length (f .straight)), rw (f .straight) few)
+
+    pub opposite-ready : ScopeFits scope × RuleFits words plan true found x width n 1 × (length (filter (comparesWithOther x) (atomsOf words true found)) ≤ tripleLimit)
+    opposite-ready = (r .scope-fits, rule-fits true 1 (omega arith) (ap length (f .turned) ∙ length-map atoms oppositeAtom), rw (f .turned, few-opposite x atoms) few)
+
+  module _ (h : shortRule5Atoms x y atoms ≡ true) where
+    abbrev shared : ℕ
+    shared = length (filter (equatesWith x y) atoms)
+
+    abbrev outside : ℕ
+    outside = length (filter (equatesOutside x y) atoms)
+
+    both-few : (between 1 pairLimit shared && between 1 tripleLimit outside) ≡ true
+    both-few = and-right (all (λ a. aloneOn x a || (equatesWith x y a || equatesOutside x y a)) atoms) (between 1 pairLimit shared && between 1 tripleLimit outside) h
+
+    few-shared : shared ≤ pairLimit
+    few-shared = leb-true shared pairLimit (and-right (leb 1 shared) (leb shared pairLimit) (and-left (between 1 pairLimit shared) (between 1 tripleLimit outside) both-few))
+
+    few-outside : outside ≤ tripleLimit
+    few-outside = leb-true outside tripleLimit (and-right (leb 1 outside) (leb outside tripleLimit) (and-right (between 1 pairLimit shared) (between 1 tripleLimit outside) both-few))
+
+    pub division-ready : ScopeFits scope × DividendFits words plan found y x width n 5
+    division-ready =
+        (r .scope-fits, record { rule = rule-fits false 5 (omega arith) (ap length (f .straight)); few-shared = rw (f .straight) few-shared; few-outside = rw (f .straight) few-outside })
 
 -- S5's columns: those of the equations with a variable outside stand first
 module _ (s : Scope) (z y : ℕ) (atoms : List calculus.Atom) {triples : NodeList} (outside : triples ≡ nodeList (flat tripleWords (outsideTriples s z (filter (equatesOutside z y) atoms) 1))) where

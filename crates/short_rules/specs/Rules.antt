@@ -1,19 +1,51 @@
 -- What the short rules ask for. The nodes that they write are those of calculus' ShortRules; the nodes of a rule's range stand there already, so the rule is given none. Assumes nothing.
 use Prim.Native.Nat.{ℕ, _+_, _≤_}
-use mathlib.Core.Bool.{Bool, true, cond}
-use mathlib.Core.List.{List, [], _++_}
+use mathlib.Core.Path.{_≡_}
+use mathlib.Core.Bool.{Bool, true, false, cond, _||_}
+use mathlib.Core.List.{List, [], _∷_, _++_}
 use lib.ListN.{length}
-use Rattle.relations.specs.Limits.{columnLimit, tripleLimit, pairLimit}
+use Rattle.relations.specs.Limits.{columnLimit, tripleLimit, pairLimit, questionNodeLimit}
 use Rattle.relations.specs.Lists.{filter}
 use Rattle.relations.specs.Nodes.{Node}
-use Rattle.calculus.specs.Question.{Atom}
-use Rattle.calculus.specs.Leaves.{aloneOn, equatesWith, equatesOutside}
-use Rattle.calculus.specs.ShortRules.{lastNumber, projectNodes, restrictedRange, shortRule5Columns}
-use Rattle.conditions.specs.Scopes as code
+use Rattle.calculus.specs.Question.{Atom, Condition, conditionNodes}
+use Rattle.calculus.specs.Scope.{Scope}
+use Rattle.calculus.specs.Leaves.{leaves, aloneOn, equatesWith, equatesOutside}
+use Rattle.calculus.specs.ShortRules.{lastNumber, selectNode, projectNodes, restrictedRange, shortRule2Fits, shortRule2Atoms, shortRule2Nodes, shortRule3Fits, shortRule3Nodes, shortRule4Fits, shortRule4Nodes, shortRule5Atoms, shortRule5Fits, shortRule5Columns, shortRule5Nodes, shortRule6Fits, shortRule6Nodes}
+use Rattle.conditions.specs.Readings.{Names, conditionAt}
+use Rattle.conditions.specs.Scopes.{ScopeFits}
 use Rattle.conditions.specs.Leaves.{atomsOf, LeavesFit}
 use Rattle.emission.specs.Written.{Room}
-use Rattle.conditions.specs.declared.scope.CarriedScope as scope
-use Rattle.conditions.specs.declared.leaves.Leaves.{Leaves}
+use Rattle.short_rules.specs.declared.fits.ShortRule.{ShortRule}
+use Rattle.short_rules.specs.declared.fits.ShortRule.the-variants.{S2, S3, S4, S5}
+
+-- the rule fits above a condition: S2 and S4 over x, S5 under "every x"; S3 and S6 stand under a "not"
+abbrev pub ruleFits : ShortRule → ℕ → Condition → Bool
+ruleFits S2 x f = shortRule2Fits x f
+ruleFits S3 x f = shortRule3Fits f || shortRule6Fits f
+ruleFits S4 x f = shortRule4Fits x f
+ruleFits S5 x f = shortRule5Fits x f
+
+-- the atoms that the rule asks for among the leaves of x's condition; y is the variable of S5's "every"
+abbrev pub ruleAtoms : ShortRule → (x y : ℕ) → List Atom → Bool
+ruleAtoms S2 x y atoms = shortRule2Atoms x atoms
+ruleAtoms S3 x y atoms = shortRule2Atoms x atoms
+ruleAtoms S4 x y atoms = shortRule2Atoms x atoms
+ruleAtoms S5 x y atoms = shortRule5Atoms x y atoms
+
+-- what the rule writes; node k is the range of y
+abbrev pub ruleNodes : ShortRule → Scope → (y k x width : ℕ) → List Atom → (p n : ℕ) → List Node
+ruleNodes S2 s y k x width atoms p n = shortRule2Nodes s x width atoms [] p n
+ruleNodes S3 s y k x width atoms p n = shortRule3Nodes s x width atoms [] p n
+ruleNodes S4 s y k x width atoms p n = shortRule4Nodes s x width atoms [] p n
+ruleNodes S5 s y k x width atoms p n = shortRule5Nodes s y k x width atoms [] p n
+
+-- S2's nodes, or S3's
+abbrev pub joinNodes : Bool → Scope → (x width : ℕ) → List Atom → (p n : ℕ) → List Node
+joinNodes anti s x width atoms p n = cond anti (shortRule3Nodes s x width atoms [] p n) (shortRule2Nodes s x width atoms [] p n)
+
+-- an atom's node, or its opposite's
+abbrev pub atomNodes : Bool → Scope → ℕ → Atom → List Node
+atomNodes opposite s p a = cond opposite (shortRule6Nodes s p a) (selectNode s p a ∷ [])
 
 -- S5's two kinds of equations: z = a variable outside, z = y
 abbrev pub links : Bool → ℕ → ℕ → Atom → Bool
@@ -25,21 +57,27 @@ dividendNodes y z width atoms n =
     let restricted = restrictedRange z width atoms [] n in
     restricted ++ projectNodes true width (lastNumber n restricted) (shortRule5Columns z y atoms)
 
--- a rule can write, and so many nodes more than its selects
-pub record RuleFits (words plan : List ℕ) (scope : scope.CarriedScope) (leaves : Leaves) (x width n more : ℕ) : Type 0 where
-  pub scope-fits : code.ScopeFits scope
-  pub leaves-fit : LeavesFit words leaves
+-- a rule can write behind a range of x, and so many nodes more than its selects
+pub record RuleFits (words plan : List ℕ) (opposite : Bool) (found : List ℕ) (x width n more : ℕ) : Type 0 where
+  pub leaves-fit : LeavesFit words found
   pub some-columns : 1 ≤ width
   pub few-columns : width ≤ columnLimit
   pub some-nodes : 1 ≤ n
-  pub room : Room plan n (length (filter (aloneOn x) (atomsOf words leaves)) + more)
+  pub room : Room plan n (length (filter (aloneOn x) (atomsOf words opposite found)) + more)
 
 -- the same for S5, whose equations of each kind are at most 8
-pub record DividendFits (words plan : List ℕ) (leaves : Leaves) (y z width n more : ℕ) : Type 0 where
-  pub leaves-fit : LeavesFit words leaves
+pub record DividendFits (words plan found : List ℕ) (y z width n more : ℕ) : Type 0 where
+  pub rule : RuleFits words plan false found z width n more
+  pub few-shared : length (filter (equatesWith z y) (atomsOf words false found)) ≤ pairLimit
+  pub few-outside : length (filter (equatesOutside z y) (atomsOf words false found)) ≤ tripleLimit
+
+-- a rule's atoms are those that it asks for, and there is room for what it writes
+pub record RuleReady (words plan scope : List ℕ) (rule : ShortRule) (x width condition y n : ℕ) : Type 0 where
+  pub named : Names words condition
+  pub small : conditionNodes (conditionAt words condition) ≤ questionNodeLimit
+  pub atoms : ruleAtoms rule x y (leaves (conditionAt words condition)) ≡ true
+  pub scope-fits : ScopeFits scope
   pub some-columns : 1 ≤ width
   pub few-columns : width ≤ columnLimit
   pub some-nodes : 1 ≤ n
-  pub few-shared : length (filter (equatesWith z y) (atomsOf words leaves)) ≤ pairLimit
-  pub few-outside : length (filter (equatesOutside z y) (atomsOf words leaves)) ≤ tripleLimit
-  pub room : Room plan n (length (filter (aloneOn z) (atomsOf words leaves)) + more)
+  pub room : Room plan n (conditionNodes (conditionAt words condition) + 5)

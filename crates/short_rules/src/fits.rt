@@ -1,20 +1,22 @@
 // When each of the short rules fits.
 ghost use mathlib.Core.Path.{_≡_};
-ghost use mathlib.Core.Bool.{cond, _&&_, _||_};
+ghost use mathlib.Core.Bool.{false, cond, _&&_};
 ghost use Prim.Native.Nat.{_≤_};
 ghost use Rattle.relations.specs.Limits.{listWords, questionNodeLimit};
 ghost use Rattle.calculus.specs.Question as calculus;
-ghost use Rattle.calculus.specs.ShortRules.{shortRule1Fits, shortRule2Atoms, shortRule3Fits, shortRule5Atoms, shortRule5Fits, shortRule6Fits};
+ghost use Rattle.calculus.specs.Leaves.{leaves};
+ghost use Rattle.calculus.specs.ShortRules.{shortRule1Fits, shortRule2Atoms, shortRule5Atoms, shortRule5Fits};
 ghost use Rattle.conditions.specs.Readings.{Names, conditionAt};
-ghost use Rattle.conditions.specs.Leaves.{atomsOf, LeavesFit};
+ghost use Rattle.conditions.specs.Leaves.{isTree, atomsOf, LeavesFit};
 ghost use Rattle.emission.specs.NodeLists.{attributesIn};
+ghost use Rattle.short_rules.specs.Rules.{ruleFits};
 use conditions::atom::alone_on;
 use conditions::atom::compares_with_other;
 use conditions::atom::equates_outside;
 use conditions::atom::equates_with;
-use conditions::leaves::Leaves;
+use conditions::leaves::LEAF_WORDS;
+use conditions::leaves::collect;
 use conditions::leaves::leaf;
-use conditions::leaves::leaves_of;
 use emission::node_list::NodeList;
 use nodes::node::Node;
 use nodes::node::decode;
@@ -54,16 +56,16 @@ pub fn once(test: bool) -> u32
 }
 
 // The atoms that S2 and S4 ask for: each on x alone or comparing x with another variable, the latter at most 8.
-fn short_rule_2_atoms(words: &[u32], x: u32, leaves: Leaves) -> bool
-    requires { ⌜ LeavesFit (now words) leaves ⌝ }
-    ensures { λ r. ⌜ r ≡ shortRule2Atoms x (atomsOf (now (words .entry)) leaves) ⌝ }
+fn short_rule_2_atoms(words: &[u32], x: u32, leaves: &[u32; LEAF_WORDS]) -> bool
+    requires { ⌜ LeavesFit (now words) (now leaves) ⌝ }
+    ensures { λ r. ⌜ r ≡ shortRule2Atoms x (atomsOf (now (words .entry)) false (now (leaves .entry))) ⌝ }
 {
     let mut fits = true;
     let mut comparing: u32 = 0;
     let mut i: usize = 0;
-    let mut left = leaves.count;
+    let mut left = leaves[0];
     while 0 < left {
-        let atom = leaf(words, leaves, i);
+        let atom = leaf(words, leaves, false, i);
         let compares = compares_with_other(x, atom);
         fits = fits & (alone_on(x, atom) | compares);
         comparing += once(compares);
@@ -73,32 +75,18 @@ fn short_rule_2_atoms(words: &[u32], x: u32, leaves: Leaves) -> bool
     fits & (comparing <= MOST_TRIPLES)
 }
 
-pub fn short_rule_2_fits(words: &[u32], x: u32, leaves: Leaves) -> bool
-    requires { ⌜ LeavesFit (now words) leaves ⌝ }
-    ensures { λ r. ⌜ r ≡ (leaves .conjoined && shortRule2Atoms x (atomsOf (now (words .entry)) leaves)) ⌝ }
-{
-    leaves.conjoined & short_rule_2_atoms(words, x, leaves)
-}
-
-pub fn short_rule_4_fits(words: &[u32], x: u32, leaves: Leaves) -> bool
-    requires { ⌜ LeavesFit (now words) leaves ⌝ }
-    ensures { λ r. ⌜ r ≡ (leaves .disjoined && shortRule2Atoms x (atomsOf (now (words .entry)) leaves)) ⌝ }
-{
-    leaves.disjoined & short_rule_2_atoms(words, x, leaves)
-}
-
-// S5 fits "every y" above "some z" with these leaves.
-pub fn short_rule_5_fits(words: &[u32], z: u32, y: u32, leaves: Leaves) -> bool
-    requires { ⌜ LeavesFit (now words) leaves ⌝ }
-    ensures { λ r. ⌜ r ≡ (leaves .conjoined && shortRule5Atoms z y (atomsOf (now (words .entry)) leaves)) ⌝ }
+// The atoms that S5 asks for: each on z alone, or one of the two kinds of equations, of which there are 1 to 8 each.
+fn short_rule_5_atoms(words: &[u32], z: u32, y: u32, leaves: &[u32; LEAF_WORDS]) -> bool
+    requires { ⌜ LeavesFit (now words) (now leaves) ⌝ }
+    ensures { λ r. ⌜ r ≡ shortRule5Atoms z y (atomsOf (now (words .entry)) false (now (leaves .entry))) ⌝ }
 {
     let mut fits = true;
     let mut shared: u32 = 0;
     let mut outside: u32 = 0;
     let mut i: usize = 0;
-    let mut left = leaves.count;
+    let mut left = leaves[0];
     while 0 < left {
-        let atom = leaf(words, leaves, i);
+        let atom = leaf(words, leaves, false, i);
         let with_y = equates_with(z, y, atom);
         let with_other = equates_outside(z, y, atom);
         fits = fits & (alone_on(z, atom) | (with_y | with_other));
@@ -107,39 +95,21 @@ pub fn short_rule_5_fits(words: &[u32], z: u32, y: u32, leaves: Leaves) -> bool
         i += 1;
         left -= 1;
     }
-    leaves.conjoined
-        & (fits
-            & ((1 <= shared)
-                & (shared <= MOST_PAIRS)
-                & ((1 <= outside) & (outside <= MOST_TRIPLES))))
+    fits & ((1 <= shared) & (shared <= MOST_PAIRS) & ((1 <= outside) & (outside <= MOST_TRIPLES)))
 }
 
-// S3 or S6 fits a "not" above the condition that a reference names.
-pub fn opposite_fits(words: &[u32], reference: u32) -> bool
+// S2, or S4 where it is asked of a tree of "or"s.
+fn tree_fits(words: &[u32], disjoined: bool, x: u32, reference: u32) -> bool
     requires { ⌜ Names (now words) reference × (calculus.conditionNodes (conditionAt (now words) reference) ≤ questionNodeLimit) ⌝ }
-    ensures { λ r. ⌜ r ≡ (shortRule3Fits (conditionAt (now (words .entry)) reference) || shortRule6Fits (conditionAt (now (words .entry)) reference)) ⌝ }
+    ensures { λ r. ⌜ r ≡ (isTree disjoined (conditionAt (now (words .entry)) reference) && shortRule2Atoms x (leaves (conditionAt (now (words .entry)) reference))) ⌝ }
 {
-    let node = decode(words, (reference - 1) as usize);
-    match node {
-        Node::Some {
-            variable,
-            range: _,
-            condition,
-        } => short_rule_2_fits(words, variable, leaves_of(words, condition)),
-        Node::And { left: _, right: _ } => false,
-        Node::Or { left: _, right: _ } => false,
-        Node::Not { inner: _ } => false,
-        Node::Every {
-            variable: _,
-            range: _,
-            condition: _,
-        } => false,
-        _ => true,
-    }
+    let mut leaves = [0u32; LEAF_WORDS];
+    let tree = collect(words, disjoined, reference, &mut leaves);
+    tree & short_rule_2_atoms(words, x, &leaves)
 }
 
 // S5 fits an "every y" above the condition that a reference names.
-pub fn division_fits(words: &[u32], y: u32, reference: u32) -> bool
+fn division_fits(words: &[u32], y: u32, reference: u32) -> bool
     requires { ⌜ Names (now words) reference × (calculus.conditionNodes (conditionAt (now words) reference) ≤ questionNodeLimit) ⌝ }
     ensures { λ r. ⌜ r ≡ shortRule5Fits y (conditionAt (now (words .entry)) reference) ⌝ }
 {
@@ -149,7 +119,51 @@ pub fn division_fits(words: &[u32], y: u32, reference: u32) -> bool
             variable,
             range: _,
             condition,
-        } => short_rule_5_fits(words, variable, y, leaves_of(words, condition)),
+        } => {
+            let mut leaves = [0u32; LEAF_WORDS];
+            let tree = collect(words, false, condition, &mut leaves);
+            tree & short_rule_5_atoms(words, variable, y, &leaves)
+        }
         _ => false,
+    }
+}
+
+// The short rules that stand above a condition, by their names in document 01. S3 answers for S6 too: both stand under a "not".
+pub enum ShortRule {
+    S2,
+    S3,
+    S4,
+    S5,
+}
+
+// The rule fits above the condition that a reference names. S3 is S2 of the "some" below the "not"; S6 fits every atom there. One function answers for all
+// of them and calls itself, so that no caller's frame holds their leaves: the compiler inlines no such function.
+pub fn rule_fits(words: &[u32], rule: ShortRule, x: u32, reference: u32) -> bool
+    requires { ⌜ Names (now words) reference × (calculus.conditionNodes (conditionAt (now words) reference) ≤ questionNodeLimit) ⌝ }
+    ensures { λ r. ⌜ r ≡ ruleFits rule x (conditionAt (now (words .entry)) reference) ⌝ }
+{
+    match rule {
+        ShortRule::S2 => tree_fits(words, false, x, reference),
+        ShortRule::S3 => {
+            let node = decode(words, (reference - 1) as usize);
+            match node {
+                Node::Some {
+                    variable,
+                    range: _,
+                    condition,
+                } => rule_fits(words, ShortRule::S2, variable, condition),
+                Node::And { left: _, right: _ } => false,
+                Node::Or { left: _, right: _ } => false,
+                Node::Not { inner: _ } => false,
+                Node::Every {
+                    variable: _,
+                    range: _,
+                    condition: _,
+                } => false,
+                _ => true,
+            }
+        }
+        ShortRule::S4 => tree_fits(words, true, x, reference),
+        ShortRule::S5 => division_fits(words, x, reference),
     }
 }

@@ -7,16 +7,18 @@ ghost use lib.ListN.{length};
 ghost use Rattle.relations.specs.Limits.{columnLimit, listWords, tripleLimit, pairLimit};
 ghost use Rattle.relations.specs.Lists.{flat, filter};
 ghost use Rattle.relations.specs.PlanWords.{tripleWords, pairWords};
-ghost use Rattle.calculus.specs.Leaves.{aloneOn, comparesWithOther, equatesWith, equatesOutside, ownAttribute};
-ghost use Rattle.calculus.specs.ShortRules.{selectNode, selectNodes, projectNodes, triplesOf, restrictedRange, shortRule2Nodes, shortRule3Nodes, shortRule4Nodes, outsideTriples, divisionPairs, shortRule5Nodes, shortRule6Nodes};
+ghost use Rattle.calculus.specs.Leaves.{leaves, aloneOn, comparesWithOther, equatesWith, equatesOutside, ownAttribute};
+ghost use Rattle.calculus.specs.ShortRules.{selectNode, selectNodes, projectNodes, triplesOf, restrictedRange, outsideTriples, divisionPairs, shortRule5Nodes};
 ghost use Rattle.question.specs.Trees.{atomOf};
+ghost use Rattle.conditions.specs.Readings.{conditionAt};
 ghost use Rattle.conditions.specs.Scopes.{scopeOf, ScopeFits};
 ghost use Rattle.conditions.specs.Atoms.{AtomNarrow};
 ghost use Rattle.conditions.specs.Leaves.{atomsOf, LeavesFit};
 ghost use Rattle.short_rules.specs.Rules as rules;
 ghost use Rattle.emission.specs.NodeLists.{nodeList, grownBy, numbersOf, attributesIn, ListsAttributes};
 ghost use Rattle.emission.specs.Written.{Room, Written};
-ghost use Rattle.short_rules.specs.Rules.{dividendNodes, RuleFits, DividendFits};
+ghost use Rattle.short_rules.specs.Rules.{joinNodes, atomNodes, dividendNodes, ruleNodes, RuleFits, DividendFits, RuleReady};
+use crate::fits::ShortRule;
 use crate::fits::once;
 use crate::fits::short_rule_1_fits;
 use conditions::atom::alone_on;
@@ -28,20 +30,19 @@ use conditions::atom::other_attribute;
 use conditions::atom::other_variable;
 use conditions::atom::own_attribute;
 use conditions::atom::turned;
-use conditions::leaves::Leaves;
+use conditions::leaves::LEAF_WORDS;
+use conditions::leaves::collect;
 use conditions::leaves::leaf;
-use conditions::leaves::opposites;
-use conditions::scope::CarriedScope;
+use conditions::scope::SCOPE_WORDS;
 use conditions::scope::column_of;
-use conditions::scope::empty;
 use conditions::scope::extend;
 use emission::emit::Comparand;
-use emission::emit::antijoin;
-use emission::emit::divide;
+use emission::emit::Linking;
+use emission::emit::Pairing;
+use emission::emit::link;
+use emission::emit::pair;
 use emission::emit::project;
 use emission::emit::select;
-use emission::emit::semijoin;
-use emission::emit::unite;
 use emission::node_list::NodeList;
 use emission::node_list::no_list;
 use emission::node_list::with_pair_if;
@@ -49,13 +50,13 @@ use emission::node_list::with_triple;
 use emission::node_list::with_triple_if;
 use emission::node_list::with_word_if;
 use nodes::node::Atom;
-use nodes::node::Attribute;
 use nodes::node::Operand;
+use terms::attribute::Attribute;
 
 // Atom: select. A select keeps the atom's sides.
-pub fn write_select(scope: CarriedScope, atom: Atom, p: u32, plan: &mut [u32], n: u32) -> u32
-    requires { ⌜ ScopeFits scope × AtomNarrow atom × Room (now plan) n 1 ⌝ }
-    ensures { λ r. ⌜ Written (now (plan .entry)) n (selectNode (scopeOf scope) p (atomOf atom) ∷ []) (now (plan .exit)) r ⌝ }
+fn write_select(scope: &[u32; SCOPE_WORDS], atom: Atom, p: u32, plan: &mut [u32], n: u32) -> u32
+    requires { ⌜ ScopeFits (now scope) × AtomNarrow atom × Room (now plan) n 1 ⌝ }
+    ensures { λ r. ⌜ Written (now (plan .entry)) n (selectNode (scopeOf (now (scope .entry))) p (atomOf atom) ∷ []) (now (plan .exit)) r ⌝ }
 {
     let operator = atom.operator;
     let own = atom.attribute;
@@ -81,9 +82,9 @@ pub fn write_select(scope: CarriedScope, atom: Atom, p: u32, plan: &mut [u32], n
 }
 
 // The triple of an atom that compares x with another variable: P's column is on the left, and the operator is turned when the sides are.
-fn with_triple_of(list: NodeList, scope: CarriedScope, x: u32, atom: Atom) -> NodeList
-    requires { ⌜ ScopeFits scope × AtomNarrow atom × (list .used + length (flat tripleWords (triplesOf (scopeOf scope) x (atomOf atom ∷ []))) ≤ listWords) ⌝ }
-    ensures { λ r. ⌜ r ≡ grownBy list (flat tripleWords (triplesOf (scopeOf scope) x (atomOf atom ∷ []))) ⌝ }
+fn with_triple_of(list: NodeList, scope: &[u32; SCOPE_WORDS], x: u32, atom: Atom) -> NodeList
+    requires { ⌜ ScopeFits (now scope) × AtomNarrow atom × (list .used + length (flat tripleWords (triplesOf (scopeOf (now scope)) x (atomOf atom ∷ []))) ≤ listWords) ⌝ }
+    ensures { λ r. ⌜ r ≡ grownBy list (flat tripleWords (triplesOf (scopeOf (now (scope .entry))) x (atomOf atom ∷ []))) ⌝ }
 {
     if !compares_with_other(x, atom) {
         return list;
@@ -96,15 +97,21 @@ fn with_triple_of(list: NodeList, scope: CarriedScope, x: u32, atom: Atom) -> No
     with_triple(list, other, atom.operator, own)
 }
 
-fn triples_of(words: &[u32], scope: CarriedScope, x: u32, leaves: Leaves) -> NodeList
-    requires { ⌜ ScopeFits scope × LeavesFit (now words) leaves × (length (filter (comparesWithOther x) (atomsOf (now words) leaves)) ≤ tripleLimit) ⌝ }
-    ensures { λ r. ⌜ r ≡ nodeList (flat tripleWords (triplesOf (scopeOf scope) x (atomsOf (now (words .entry)) leaves))) ⌝ }
+fn triples_of(
+    words: &[u32],
+    scope: &[u32; SCOPE_WORDS],
+    x: u32,
+    leaves: &[u32; LEAF_WORDS],
+    opposite: bool,
+) -> NodeList
+    requires { ⌜ ScopeFits (now scope) × LeavesFit (now words) (now leaves) × (length (filter (comparesWithOther x) (atomsOf (now words) opposite (now leaves))) ≤ tripleLimit) ⌝ }
+    ensures { λ r. ⌜ r ≡ nodeList (flat tripleWords (triplesOf (scopeOf (now (scope .entry))) x (atomsOf (now (words .entry)) opposite (now (leaves .entry))))) ⌝ }
 {
     let mut list = no_list();
     let mut i: usize = 0;
-    let mut left = leaves.count;
+    let mut left = leaves[0];
     while 0 < left {
-        list = with_triple_of(list, scope, x, leaf(words, leaves, i));
+        list = with_triple_of(list, scope, x, leaf(words, leaves, opposite, i));
         i += 1;
         left -= 1;
     }
@@ -112,9 +119,9 @@ fn triples_of(words: &[u32], scope: CarriedScope, x: u32, leaves: Leaves) -> Nod
 }
 
 // A select of an atom on x alone, on the value before.
-fn write_if_alone(own: CarriedScope, x: u32, atom: Atom, plan: &mut [u32], n: u32) -> u32
-    requires { ⌜ ScopeFits own × AtomNarrow atom × (1 ≤ n) × Room (now plan) n (length (filter (aloneOn x) (atomOf atom ∷ []))) ⌝ }
-    ensures { λ r. ⌜ Written (now (plan .entry)) n (selectNodes (scopeOf own) (filter (aloneOn x) (atomOf atom ∷ [])) (pred n) n) (now (plan .exit)) r ⌝ }
+fn write_if_alone(own: &[u32; SCOPE_WORDS], x: u32, atom: Atom, plan: &mut [u32], n: u32) -> u32
+    requires { ⌜ ScopeFits (now own) × AtomNarrow atom × (1 ≤ n) × Room (now plan) n (length (filter (aloneOn x) (atomOf atom ∷ []))) ⌝ }
+    ensures { λ r. ⌜ Written (now (plan .entry)) n (selectNodes (scopeOf (now (own .entry))) (filter (aloneOn x) (atomOf atom ∷ [])) (pred n) n) (now (plan .exit)) r ⌝ }
 {
     if alone_on(x, atom) {
         return write_select(own, atom, n - 1, plan, n);
@@ -125,20 +132,21 @@ fn write_if_alone(own: CarriedScope, x: u32, atom: Atom, plan: &mut [u32], n: u3
 // A select for each leaf on x alone, each on the value before.
 fn write_selects(
     words: &[u32],
-    own: CarriedScope,
+    own: &[u32; SCOPE_WORDS],
     x: u32,
-    leaves: Leaves,
+    leaves: &[u32; LEAF_WORDS],
+    opposite: bool,
     plan: &mut [u32],
     n: u32,
 ) -> u32
-    requires { ⌜ ScopeFits own × LeavesFit (now words) leaves × (1 ≤ n) × Room (now plan) n (length (filter (aloneOn x) (atomsOf (now words) leaves))) ⌝ }
-    ensures { λ r. ⌜ Written (now (plan .entry)) n (selectNodes (scopeOf own) (filter (aloneOn x) (atomsOf (now (words .entry)) leaves)) (pred n) n) (now (plan .exit)) r ⌝ }
+    requires { ⌜ ScopeFits (now own) × LeavesFit (now words) (now leaves) × (1 ≤ n) × Room (now plan) n (length (filter (aloneOn x) (atomsOf (now words) opposite (now leaves)))) ⌝ }
+    ensures { λ r. ⌜ Written (now (plan .entry)) n (selectNodes (scopeOf (now (own .entry))) (filter (aloneOn x) (atomsOf (now (words .entry)) opposite (now (leaves .entry)))) (pred n) n) (now (plan .exit)) r ⌝ }
 {
     let mut count = n;
     let mut i: usize = 0;
-    let mut left = leaves.count;
+    let mut left = leaves[0];
     while 0 < left {
-        count = write_if_alone(own, x, leaf(words, leaves, i), plan, count);
+        count = write_if_alone(own, x, leaf(words, leaves, opposite, i), plan, count);
         i += 1;
         left -= 1;
     }
@@ -150,78 +158,59 @@ fn write_own_selects(
     words: &[u32],
     x: u32,
     width: u32,
-    leaves: Leaves,
+    leaves: &[u32; LEAF_WORDS],
+    opposite: bool,
     plan: &mut [u32],
     n: u32,
 ) -> u32
-    requires { ⌜ LeavesFit (now words) leaves × (1 ≤ width) × (width ≤ columnLimit) × (1 ≤ n) × Room (now plan) n (length (filter (aloneOn x) (atomsOf (now words) leaves))) ⌝ }
-    ensures { λ r. ⌜ Written (now (plan .entry)) n (restrictedRange x width (atomsOf (now (words .entry)) leaves) [] n) (now (plan .exit)) r ⌝ }
+    requires { ⌜ LeavesFit (now words) (now leaves) × (1 ≤ width) × (width ≤ columnLimit) × (1 ≤ n) × Room (now plan) n (length (filter (aloneOn x) (atomsOf (now words) opposite (now leaves)))) ⌝ }
+    ensures { λ r. ⌜ Written (now (plan .entry)) n (restrictedRange x width (atomsOf (now (words .entry)) opposite (now (leaves .entry))) [] n) (now (plan .exit)) r ⌝ }
 {
-    let own = extend(empty(), x, width);
-    write_selects(words, own, x, leaves, plan, n)
+    let mut own = [0u32; SCOPE_WORDS];
+    extend(&mut own, x, width);
+    write_selects(words, &own, x, leaves, opposite, plan, n)
 }
 
-// S2: "some x". The range of x stands before node n.
-pub fn write_short_rule_2(
+// A semijoin from P with x's range, restricted to the leaves on x alone, which stands before node n; or an antijoin.
+fn write_join(
     words: &[u32],
-    scope: CarriedScope,
+    scope: &[u32; SCOPE_WORDS],
+    anti: bool,
     x: u32,
     width: u32,
-    leaves: Leaves,
+    leaves: &[u32; LEAF_WORDS],
+    opposite: bool,
     p: u32,
     plan: &mut [u32],
     n: u32,
 ) -> u32
-    requires { ⌜ RuleFits (now words) (now plan) scope leaves x width n 1 × (length (filter (comparesWithOther x) (atomsOf (now words) leaves)) ≤ tripleLimit) ⌝ }
-    ensures { λ r. ⌜ Written (now (plan .entry)) n (shortRule2Nodes (scopeOf scope) x width (atomsOf (now (words .entry)) leaves) [] p n) (now (plan .exit)) r ⌝ }
+    requires { ⌜ ScopeFits (now scope) × RuleFits (now words) (now plan) opposite (now leaves) x width n 1 × (length (filter (comparesWithOther x) (atomsOf (now words) opposite (now leaves))) ≤ tripleLimit) ⌝ }
+    ensures { λ r. ⌜ Written (now (plan .entry)) n (joinNodes anti (scopeOf (now (scope .entry))) x width (atomsOf (now (words .entry)) opposite (now (leaves .entry))) p n) (now (plan .exit)) r ⌝ }
 {
-    let triples = triples_of(words, scope, x, leaves);
-    let count = write_own_selects(words, x, width, leaves, plan, n);
-    semijoin(plan, count, p, count - 1, triples)
+    let triples = triples_of(words, scope, x, leaves, opposite);
+    let count = write_own_selects(words, x, width, leaves, opposite, plan, n);
+    if anti {
+        return link(plan, count, Linking::Antijoin, p, count - 1, triples);
+    }
+    link(plan, count, Linking::Semijoin, p, count - 1, triples)
 }
 
-// S3: not above a "some" that S2 fits.
-pub fn write_short_rule_3(
-    words: &[u32],
-    scope: CarriedScope,
-    x: u32,
-    width: u32,
-    leaves: Leaves,
+// Atom: select. S6, not above an atom, selects its opposite.
+pub fn write_atom(
+    scope: &[u32; SCOPE_WORDS],
+    opposite: bool,
+    atom: Atom,
     p: u32,
     plan: &mut [u32],
     n: u32,
 ) -> u32
-    requires { ⌜ RuleFits (now words) (now plan) scope leaves x width n 1 × (length (filter (comparesWithOther x) (atomsOf (now words) leaves)) ≤ tripleLimit) ⌝ }
-    ensures { λ r. ⌜ Written (now (plan .entry)) n (shortRule3Nodes (scopeOf scope) x width (atomsOf (now (words .entry)) leaves) [] p n) (now (plan .exit)) r ⌝ }
+    requires { ⌜ ScopeFits (now scope) × AtomNarrow atom × Room (now plan) n 1 ⌝ }
+    ensures { λ r. ⌜ Written (now (plan .entry)) n (atomNodes opposite (scopeOf (now (scope .entry))) p (atomOf atom)) (now (plan .exit)) r ⌝ }
 {
-    let triples = triples_of(words, scope, x, leaves);
-    let count = write_own_selects(words, x, width, leaves, plan, n);
-    antijoin(plan, count, p, count - 1, triples)
-}
-
-// S4: "every x"; S3 with every operator turned to its opposite.
-pub fn write_short_rule_4(
-    words: &[u32],
-    scope: CarriedScope,
-    x: u32,
-    width: u32,
-    leaves: Leaves,
-    p: u32,
-    plan: &mut [u32],
-    n: u32,
-) -> u32
-    requires { ⌜ RuleFits (now words) (now plan) scope leaves x width n 1 × (length (filter (comparesWithOther x) (atomsOf (now words) leaves)) ≤ tripleLimit) × (leaves .opposite ≡ false) ⌝ }
-    ensures { λ r. ⌜ Written (now (plan .entry)) n (shortRule4Nodes (scopeOf scope) x width (atomsOf (now (words .entry)) leaves) [] p n) (now (plan .exit)) r ⌝ }
-{
-    write_short_rule_3(words, scope, x, width, opposites(leaves), p, plan, n)
-}
-
-// S6: not above an atom.
-pub fn write_short_rule_6(scope: CarriedScope, atom: Atom, p: u32, plan: &mut [u32], n: u32) -> u32
-    requires { ⌜ ScopeFits scope × AtomNarrow atom × Room (now plan) n 1 ⌝ }
-    ensures { λ r. ⌜ Written (now (plan .entry)) n (shortRule6Nodes (scopeOf scope) p (atomOf atom)) (now (plan .exit)) r ⌝ }
-{
-    write_select(scope, opposite_atom(atom), p, plan, n)
+    if opposite {
+        return write_select(scope, opposite_atom(atom), p, plan, n);
+    }
+    write_select(scope, atom, p, plan, n)
 }
 
 pub fn write_project(
@@ -258,17 +247,17 @@ fn with_own_columns(
     outside: bool,
     z: u32,
     y: u32,
-    leaves: Leaves,
+    leaves: &[u32; LEAF_WORDS],
     list: NodeList,
 ) -> NodeList
-    requires { ⌜ LeavesFit (now words) leaves × (list .used + length (filter (rules.links outside z y) (atomsOf (now words) leaves)) ≤ listWords) ⌝ }
-    ensures { λ r. ⌜ r ≡ grownBy list (numbersOf (map (ownAttribute z) (filter (rules.links outside z y) (atomsOf (now (words .entry)) leaves)))) ⌝ }
+    requires { ⌜ LeavesFit (now words) (now leaves) × (list .used + length (filter (rules.links outside z y) (atomsOf (now words) false (now leaves))) ≤ listWords) ⌝ }
+    ensures { λ r. ⌜ r ≡ grownBy list (numbersOf (map (ownAttribute z) (filter (rules.links outside z y) (atomsOf (now (words .entry)) false (now (leaves .entry)))))) ⌝ }
 {
     let mut longer = list;
     let mut i: usize = 0;
-    let mut left = leaves.count;
+    let mut left = leaves[0];
     while 0 < left {
-        let atom = leaf(words, leaves, i);
+        let atom = leaf(words, leaves, false, i);
         let own = own_attribute(z, atom);
         longer = with_word_if(longer, links(outside, z, y, atom), own.0);
         i += 1;
@@ -278,16 +267,16 @@ fn with_own_columns(
 }
 
 // Pairs (column, y's attribute) for the equations z = y; the columns count up from `first`.
-fn division_pairs(words: &[u32], z: u32, y: u32, leaves: Leaves, first: u32) -> NodeList
-    requires { ⌜ LeavesFit (now words) leaves × (length (filter (equatesWith z y) (atomsOf (now words) leaves)) ≤ pairLimit) × (first ≤ columnLimit) ⌝ }
-    ensures { λ r. ⌜ r ≡ nodeList (flat pairWords (divisionPairs z (filter (equatesWith z y) (atomsOf (now (words .entry)) leaves)) first)) ⌝ }
+fn division_pairs(words: &[u32], z: u32, y: u32, leaves: &[u32; LEAF_WORDS], first: u32) -> NodeList
+    requires { ⌜ LeavesFit (now words) (now leaves) × (length (filter (equatesWith z y) (atomsOf (now words) false (now leaves))) ≤ pairLimit) × (first ≤ columnLimit) ⌝ }
+    ensures { λ r. ⌜ r ≡ nodeList (flat pairWords (divisionPairs z (filter (equatesWith z y) (atomsOf (now (words .entry)) false (now (leaves .entry)))) first)) ⌝ }
 {
     let mut list = no_list();
     let mut column = first;
     let mut i: usize = 0;
-    let mut left = leaves.count;
+    let mut left = leaves[0];
     while 0 < left {
-        let atom = leaf(words, leaves, i);
+        let atom = leaf(words, leaves, false, i);
         let with_y = equates_with(z, y, atom);
         let other = other_attribute(z, atom);
         list = with_pair_if(list, with_y, Attribute(column), other);
@@ -299,16 +288,22 @@ fn division_pairs(words: &[u32], z: u32, y: u32, leaves: Leaves, first: u32) -> 
 }
 
 // Triples (P's column, =, column) for the equations with a variable outside; the columns count up from 1.
-fn outside_triples(words: &[u32], scope: CarriedScope, z: u32, y: u32, leaves: Leaves) -> NodeList
-    requires { ⌜ ScopeFits scope × LeavesFit (now words) leaves × (length (filter (equatesOutside z y) (atomsOf (now words) leaves)) ≤ tripleLimit) ⌝ }
-    ensures { λ r. ⌜ r ≡ nodeList (flat tripleWords (outsideTriples (scopeOf scope) z (filter (equatesOutside z y) (atomsOf (now (words .entry)) leaves)) 1)) ⌝ }
+fn outside_triples(
+    words: &[u32],
+    scope: &[u32; SCOPE_WORDS],
+    z: u32,
+    y: u32,
+    leaves: &[u32; LEAF_WORDS],
+) -> NodeList
+    requires { ⌜ ScopeFits (now scope) × LeavesFit (now words) (now leaves) × (length (filter (equatesOutside z y) (atomsOf (now words) false (now leaves))) ≤ tripleLimit) ⌝ }
+    ensures { λ r. ⌜ r ≡ nodeList (flat tripleWords (outsideTriples (scopeOf (now (scope .entry))) z (filter (equatesOutside z y) (atomsOf (now (words .entry)) false (now (leaves .entry)))) 1)) ⌝ }
 {
     let mut list = no_list();
     let mut column: u32 = 1;
     let mut i: usize = 0;
-    let mut left = leaves.count;
+    let mut left = leaves[0];
     while 0 < left {
-        let atom = leaf(words, leaves, i);
+        let atom = leaf(words, leaves, false, i);
         let with_other = equates_outside(z, y, atom);
         let other = column_of(scope, other_variable(z, atom), other_attribute(z, atom));
         list = with_triple_if(list, with_other, other, 1, Attribute(column));
@@ -325,40 +320,69 @@ fn write_dividend(
     y: u32,
     z: u32,
     width: u32,
-    leaves: Leaves,
+    leaves: &[u32; LEAF_WORDS],
     plan: &mut [u32],
     n: u32,
 ) -> u32
-    requires { ⌜ DividendFits (now words) (now plan) leaves y z width n 1 ⌝ }
-    ensures { λ r. ⌜ Written (now (plan .entry)) n (dividendNodes y z width (atomsOf (now (words .entry)) leaves) n) (now (plan .exit)) r ⌝ }
+    requires { ⌜ DividendFits (now words) (now plan) (now leaves) y z width n 1 ⌝ }
+    ensures { λ r. ⌜ Written (now (plan .entry)) n (dividendNodes y z width (atomsOf (now (words .entry)) false (now (leaves .entry))) n) (now (plan .exit)) r ⌝ }
 {
     let outside = with_own_columns(words, true, z, y, leaves, no_list());
     let columns = with_own_columns(words, false, z, y, leaves, outside);
-    let count = write_own_selects(words, z, width, leaves, plan, n);
+    let count = write_own_selects(words, z, width, leaves, false, plan, n);
     write_project(true, width, count - 1, columns, plan, count)
 }
 
 // S5: "every y", whose range is node k, above "some z", whose range stands before node n.
-pub fn write_short_rule_5(
+fn write_division(
     words: &[u32],
-    scope: CarriedScope,
+    scope: &[u32; SCOPE_WORDS],
     y: u32,
     k: u32,
     z: u32,
     width: u32,
-    leaves: Leaves,
+    leaves: &[u32; LEAF_WORDS],
     p: u32,
     plan: &mut [u32],
     n: u32,
 ) -> u32
-    requires { ⌜ ScopeFits scope × DividendFits (now words) (now plan) leaves y z width n 5 ⌝ }
-    ensures { λ r. ⌜ Written (now (plan .entry)) n (shortRule5Nodes (scopeOf scope) y k z width (atomsOf (now (words .entry)) leaves) [] p n) (now (plan .exit)) r ⌝ }
+    requires { ⌜ ScopeFits (now scope) × DividendFits (now words) (now plan) (now leaves) y z width n 5 ⌝ }
+    ensures { λ r. ⌜ Written (now (plan .entry)) n (shortRule5Nodes (scopeOf (now (scope .entry))) y k z width (atomsOf (now (words .entry)) false (now (leaves .entry))) [] p n) (now (plan .exit)) r ⌝ }
 {
     let triples = outside_triples(words, scope, z, y, leaves);
     let pairs = division_pairs(words, z, y, leaves, triples.used / 3 + 1);
     let q = write_dividend(words, y, z, width, leaves, plan, n);
-    let divided = divide(plan, q, q - 1, k, pairs);
-    let matched = semijoin(plan, divided, p, q, triples);
-    let unmatched = antijoin(plan, matched, p, k, no_list());
-    unite(plan, unmatched, divided, matched)
+    let divided = link(plan, q, Linking::Divide, q - 1, k, pairs);
+    let matched = link(plan, divided, Linking::Semijoin, p, q, triples);
+    let unmatched = link(plan, matched, Linking::Antijoin, p, k, no_list());
+    pair(plan, unmatched, Pairing::Unite, divided, matched)
+}
+
+// What a rule that fits writes behind the range of x, which stands before node n: S2 for "some x", S3 for a "not" above it, S4 for "every x", each above the
+// condition that a reference names; S5 for "every y", whose range is node k, above "some x". One function writes all of them, so that no caller's frame
+// holds their leaves and lists.
+pub fn write_rule(
+    words: &[u32],
+    scope: &[u32; SCOPE_WORDS],
+    rule: ShortRule,
+    x: u32,
+    width: u32,
+    condition: u32,
+    y: u32,
+    k: u32,
+    p: u32,
+    plan: &mut [u32],
+    n: u32,
+) -> u32
+    requires { ⌜ RuleReady (now words) (now plan) (now scope) rule x width condition y n ⌝ }
+    ensures { λ r. ⌜ Written (now (plan .entry)) n (ruleNodes rule (scopeOf (now (scope .entry))) y k x width (leaves (conditionAt (now (words .entry)) condition)) p n) (now (plan .exit)) r ⌝ }
+{
+    let mut found = [0u32; LEAF_WORDS];
+    collect(words, false, condition, &mut found);
+    match rule {
+        ShortRule::S2 => write_join(words, scope, false, x, width, &found, false, p, plan, n),
+        ShortRule::S3 => write_join(words, scope, true, x, width, &found, false, p, plan, n),
+        ShortRule::S4 => write_join(words, scope, true, x, width, &found, true, p, plan, n),
+        ShortRule::S5 => write_division(words, scope, y, k, x, width, &found, p, plan, n),
+    }
 }

@@ -1,12 +1,12 @@
 // What no bundle on standard input can show: buffers that are one word or one byte too small, and calls that `write` refuses.
+use bundle_reading::Reading;
+use bundle_reading::read;
+use bundle_writing::Writing;
+use bundle_writing::write;
 use libc::STDOUT_FILENO;
 use relations::limits::CATALOGUE_WORDS;
 use relations::limits::QUESTION_WORDS;
 use relations::limits::WORDS;
-use text::bundle::Reading;
-use text::bundle::read;
-use text::writing::Writing;
-use text::writing::write;
 
 fn line(key: &[u8], number: u64) {
     io::write_all(STDOUT_FILENO, key);

@@ -1,35 +1,17 @@
--- `desk_main::print_outcome` meets its contract. What `read` hands back is within its limits (`bundle-numbers`), so the parts that it names can be lent; and a wrong
+-- `desk_main::print_outcome` meets its contract. The parts of the buffers that `read` names are there (`bundle-parts`), so they can be lent; and a wrong
 -- line is a small number (`wrong-line-within`), which a word holds. Assumes nothing.
-use Prim.Native.Nat.{_*_, _≤_}
-use mathlib.Core.Path.{_≡_, refl}
+use mathlib.Core.Path.{refl}
 use native.Mathlib.Omega.{arith}
 use borrow.Author.Needs.{needs}
-use lib.ListN.{length, length-take}
-use Rattle.text.proofs.Rooms.{BundleNumbers, bundle-numbers}
-use Rattle.text.proofs.LineNumbers.{wrong-line-within}
+use Rattle.bundles.proofs.Rooms.{PartsThere, pairs-long, words-long, nodes-long}
+use Rattle.bundle_reading.proofs.Rooms.{bundle-parts, wrong-line-within}
 use Rattle.desk_main.proofs.print_outcome.Statement.{statement}
 use Rattle.desk_main.proofs.print_outcome.Tie as tie
-use Rattle.desk_main.proofs.print_outcome.Reads as reads
-use Rattle.desk_main.proofs.print_outcome.Lts as lts
-use Rattle.desk_main.proofs.print_answer.Reads as print-answer-reads
-use Rattle.desk_main.proofs.print_refusal.Reads as print-refusal-reads
-use Rattle.text.proofs.bundle.read.Reads as read-reads
 
--- a bundle that was read: the parts that its numbers name are in the buffers
-abbrev Bundle : Type 0
-Bundle = lts.After-mode (read-reads.Asked, read-reads.Learnt, print-answer-reads.Asked, print-answer-reads.Learnt, print-refusal-reads.Asked, print-refusal-reads.Learnt) reads.Pre reads.Post
-
-numbers : (c : Bundle) → BundleNumbers (c .mode .given .0 .1 .0) (c .mode .given .0 .1 .1 .0) (c .mode .given .0 .1 .1 .1 .0)
-numbers c = bundle-numbers _ _ _ _ (c .before .before .before .before .before .read .ensures) refl (c .mode .given .1)
-
-catalogue-there : (c : Bundle) → 2 * c .mode .given .0 .1 .0 ≤ length (c .before .before .before .before .before .read .last .1 .0)
-catalogue-there c = omega (arith, numbers c .few-pairs, c .before .before .before .before .before .read .kept .1 .0)
-
-tables-there : (c : Bundle) → c .mode .given .0 .1 .1 .0 ≤ length (c .before .before .before .before .before .read .last .1 .1 .0)
-tables-there c = omega (arith, numbers c .few-words, c .before .before .before .before .before .read .kept .1 .1 .0)
-
-question-there : (c : Bundle) → 6 * c .mode .given .0 .1 .1 .1 .0 ≤ length (c .before .before .before .before .before .read .last .1 .1 .1 .0)
-question-there c = omega (arith, numbers c .few-nodes, c .before .before .before .before .before .read .kept .1 .1 .1 .0)
+-- a bundle that was read
+parts : (c : tie.After-mode)
+    → PartsThere (c .mode .given .0 .1 .0) (c .mode .given .0 .1 .1 .0) (c .mode .given .0 .1 .1 .1 .0) (c .before .before .before .before .before .read .last .1 .0) (c .before .before .before .before .before .read .last .1 .1 .0) (c .before .before .before .before .before .read .last .1 .1 .1 .0)
+parts c = bundle-parts _ _ _ _ (c .before .before .before .before .before .read .ensures) refl (c .mode .given .1)
 
 slice-aggregate-read : tie.Need-slice-aggregate-read
 slice-aggregate-read c = search needs
@@ -47,28 +29,28 @@ enum-known-mode : tie.Need-enum-known-mode
 enum-known-mode c = search needs
 
 mul-catalogue : tie.Need-mul-catalogue
-mul-catalogue c = omega (arith, numbers (c .before) .few-pairs)
+mul-catalogue c = omega (arith, parts (c .before) .pairs-there, c .before .before .before .before .before .before .read .kept .1 .0)
 
 array-share-prefix-catalogue : tie.Need-array-share-prefix-catalogue
-array-share-prefix-catalogue c = catalogue-there (c .before)
+array-share-prefix-catalogue c = parts (c .before) .pairs-there
 
 slice-aggregate-print-answer : tie.Need-slice-aggregate-print-answer
-slice-aggregate-print-answer c = omega (arith, catalogue-there (c .before .before), length-take (2 * c .before .before .mode .given .0 .1 .0) (c .before .before .before .before .before .before .before .read .last .1 .0))
+slice-aggregate-print-answer c = pairs-long (parts (c .before .before))
 
 array-share-prefix-tables : tie.Need-array-share-prefix-tables
-array-share-prefix-tables c = tables-there (c .before .before)
+array-share-prefix-tables c = parts (c .before .before) .words-there
 
 slice-aggregate-print-answer-2 : tie.Need-slice-aggregate-print-answer-2
-slice-aggregate-print-answer-2 c = omega (arith, tables-there (c .before .before .before), length-take (c .before .before .before .mode .given .0 .1 .1 .0) (c .before .before .before .before .before .before .before .before .read .last .1 .1 .0))
+slice-aggregate-print-answer-2 c = words-long (parts (c .before .before .before))
 
 mul-question : tie.Need-mul-question
-mul-question c = omega (arith, numbers (c .before .before .before) .few-nodes)
+mul-question c = omega (arith, parts (c .before .before .before) .nodes-there, c .before .before .before .before .before .before .before .before .read .kept .1 .1 .1 .0)
 
 array-share-prefix-question : tie.Need-array-share-prefix-question
-array-share-prefix-question c = question-there (c .before .before .before)
+array-share-prefix-question c = parts (c .before .before .before) .nodes-there
 
 slice-aggregate-print-answer-3 : tie.Need-slice-aggregate-print-answer-3
-slice-aggregate-print-answer-3 c = omega (arith, question-there (c .before .before .before .before), length-take (6 * c .before .before .before .before .mode .given .0 .1 .1 .1 .0) (c .before .before .before .before .before .before .before .before .before .read .last .1 .1 .1 .0))
+slice-aggregate-print-answer-3 c = nodes-long (parts (c .before .before .before .before))
 
 print-answer-requires : tie.Need-print-answer-requires
 print-answer-requires c κs = search needs

@@ -4,7 +4,7 @@ use Prim.Native.Nat.{_≤_}
 use native.Mathlib.Omega.{arith}
 use borrow.Author.Needs.{needs}
 use Rattle.listing.specs.Listing.{statusKey, nodesKey, heavyKey, roomKey, widthKey, rowsKey, headText}
-use Rattle.text.proofs.Stores.{put-then}
+use Rattle.lines.proofs.Stores.{put-then}
 use Rattle.listing.proofs.Lengths.{line-length, line-ends}
 use Rattle.listing.proofs.put_head.Statement.{statement}
 use Rattle.listing.proofs.put_head.Tie as tie

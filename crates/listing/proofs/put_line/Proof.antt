@@ -2,8 +2,8 @@
 -- Assumes nothing.
 use native.Mathlib.Omega.{arith}
 use borrow.Author.Needs.{needs}
-use Rattle.text.specs.Writing.{numbersText}
-use Rattle.text.proofs.Stores.{put-then}
+use Rattle.lines.specs.Writing.{numbersText}
+use Rattle.lines.proofs.Stores.{put-then}
 use Rattle.listing.proofs.Lengths.{line-parts}
 use Rattle.listing.proofs.put_line.Statement.{statement}
 use Rattle.listing.proofs.put_line.Tie as tie

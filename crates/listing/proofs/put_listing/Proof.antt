@@ -3,7 +3,7 @@
 use native.Mathlib.Omega.{arith}
 use borrow.Author.Needs.{needs}
 use Rattle.listing.specs.Listing.{listingText}
-use Rattle.text.proofs.Stores.{put-then}
+use Rattle.lines.proofs.Stores.{put-then}
 use Rattle.listing.proofs.Lengths.{rows-reach}
 use Rattle.listing.proofs.put_listing.Statement.{statement}
 use Rattle.listing.proofs.put_listing.Tie as tie

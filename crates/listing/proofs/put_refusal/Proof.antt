@@ -2,7 +2,7 @@
 use native.Mathlib.Omega.{arith}
 use borrow.Author.Needs.{needs}
 use Rattle.listing.specs.Listing.{statusKey, placeKey, refusalText}
-use Rattle.text.proofs.Stores.{put-then}
+use Rattle.lines.proofs.Stores.{put-then}
 use Rattle.listing.proofs.Lengths.{line-length, line-ends}
 use Rattle.listing.proofs.put_refusal.Statement.{statement}
 use Rattle.listing.proofs.put_refusal.Tie as tie

@@ -1,6 +1,6 @@
 -- `text_main::write_back` meets its contract. What `write` hands back is within the buffer (`bytes-within`), so the part that it names can be written.
 -- Assumes nothing.
-use Rattle.text.proofs.Rooms.{bytes-within}
+use Rattle.bundle_writing.proofs.Rooms.{bytes-within}
 use lib.ListN.{length-take}
 use mathlib.Core.Path.{refl}
 use native.Mathlib.Omega.{arith}

@@ -1,46 +1,72 @@
 use Rattle.conditions.proofs.ScopeLaws.{extended}
-use lib.ListN.{length}
-use mathlib.Core.Path.{_≡_}
+use Rattle.conditions.specs.Scopes.{withVariable}
 use borrow.Author.Needs.{needs}
 use Rattle.conditions.proofs.scope.extend.Statement.{statement}
 use Rattle.conditions.proofs.scope.extend.Tie as tie
 
+element-copy-out-count : tie.Need-element-copy-out-count
+element-copy-out-count c = search needs
+
+element-copy-out-columns : tie.Need-element-copy-out-columns
+element-copy-out-columns c = search needs
+
 cast-at : tie.Need-cast-at
 cast-at c = search needs
 
-mul-longer : tie.Need-mul-longer
-mul-longer c = search needs
+mul-at : tie.Need-mul-at
+mul-at c = search needs
 
-element-write-longer : tie.Need-element-write-longer
-element-write-longer c = search needs
+add-at : tie.Need-add-at
+add-at c = search needs
 
-mul-longer-2 : tie.Need-mul-longer-2
-mul-longer-2 c = search needs
+mul-scope : tie.Need-mul-scope
+mul-scope c = search needs
 
-element-write-longer-2 : tie.Need-element-write-longer-2
-element-write-longer-2 c = search needs
+element-write-scope : tie.Need-element-write-scope
+element-write-scope c = search needs
 
-add-longer : tie.Need-add-longer
-add-longer c = search needs
+add-scope : tie.Need-add-scope
+add-scope c = search needs
 
-add-longer-2 : tie.Need-add-longer-2
-add-longer-2 c = search needs
+mul-scope-2 : tie.Need-mul-scope-2
+mul-scope-2 c = search needs
+
+element-write-scope-2 : tie.Need-element-write-scope-2
+element-write-scope-2 c = search needs
+
+add-scope-2 : tie.Need-add-scope-2
+add-scope-2 c = search needs
+
+element-write-scope-3 : tie.Need-element-write-scope-3
+element-write-scope-3 c = search needs
+
+add-scope-3 : tie.Need-add-scope-3
+add-scope-3 c = search needs
+
+element-write-scope-4 : tie.Need-element-write-scope-4
+element-write-scope-4 c = search needs
 
 returns : tie.Need-returns
-returns c = let s = c .before .before .before in
-    let l : length (s .args .scope .variables) ≡ 32 = search needs in
-    let m : length (s .args .scope .widths) ≡ 32 = search needs in
-    extended (s .args .scope) (s .args .variable) (s .args .width) l m (s .pre .0) (s .pre .1) (s .pre .2)
+unfolding withVariable
+returns c = let s = c .before .before in
+    extended (s .args .scope .now) (s .args .variable) (s .args .width) (s .pre .0) (s .pre .1) (s .pre .2)
 
 pub extend-spec : {M : Type 1} → statement M
 extend-spec =
     tie.close
     (tie.spec
+    element-copy-out-count
+    element-copy-out-columns
     cast-at
-    mul-longer
-    element-write-longer
-    mul-longer-2
-    element-write-longer-2
-    add-longer
-    add-longer-2
+    mul-at
+    add-at
+    mul-scope
+    element-write-scope
+    add-scope
+    mul-scope-2
+    element-write-scope-2
+    add-scope-2
+    element-write-scope-3
+    add-scope-3
+    element-write-scope-4
     returns)

@@ -1,6 +1,6 @@
 use Rattle.conditions.proofs.ScopeLaws.{width-here, width-later}
 use mathlib.Core.Path.{_∙_, sym, _≡_, refl}
-use Rattle.conditions.specs.Scopes.{entryAt, scopeOf}
+use Rattle.conditions.specs.Scopes.{variablesCarried, entryAt, scopeOf}
 use Rattle.conditions.specs.Entries.{entries}
 use Rattle.calculus.specs.Scope.{widthIn}
 use Prim.Native.Nat.{_+_}
@@ -9,19 +9,31 @@ use Rattle.conditions.proofs.scope.width_in.Statement.{statement}
 use Rattle.conditions.proofs.scope.width_in.Tie as tie
 
 abbrev Inv-loop : tie.InvT-loop
-Inv-loop variable scope i₀ left₀ i left = (i + left ≡ scope .count) × (widthIn (scopeOf scope) variable ≡ widthIn (entries (entryAt scope) i left) variable)
+Inv-loop scope variable i₀ left₀ i left = (i + left ≡ variablesCarried scope) × (widthIn (scopeOf scope) variable ≡ widthIn (entries (entryAt scope) i left) variable)
 
 abbrev μ-loop : tie.MeasureT-loop
-μ-loop variable scope i₀ left₀ i left = left
+μ-loop scope variable i₀ left₀ i left = left
+
+element-copy-out-left : tie.Need-element-copy-out-left Inv-loop μ-loop
+element-copy-out-left c = omega arith
 
 loop-holds : tie.Need-loop-holds Inv-loop μ-loop
 loop-holds c = (omega arith, refl)
+
+mul-at : tie.Need-mul-at Inv-loop μ-loop
+mul-at c = omega arith
+
+add-at : tie.Need-add-at Inv-loop μ-loop
+add-at c = omega arith
 
 mul-if1 : tie.Need-mul-if1 Inv-loop μ-loop
 mul-if1 c = omega arith
 
 element-copy-out-if1 : tie.Need-element-copy-out-if1 Inv-loop μ-loop
 element-copy-out-if1 c = omega arith
+
+add-result : tie.Need-add-result Inv-loop μ-loop
+add-result c = omega arith
 
 mul-result : tie.Need-mul-result Inv-loop μ-loop
 mul-result c = omega arith
@@ -30,7 +42,7 @@ element-copy-out-result : tie.Need-element-copy-out-result Inv-loop μ-loop
 element-copy-out-result c = omega arith
 
 returns : tie.Need-returns Inv-loop μ-loop
-returns c = sym (c .before .before .before .before .loop .inv .1 ∙ width-here (c .before .before .before .before .before .args .t1) (c .before .before .before .before .before .args .variable) (c .before .before .before .before .loop .i) (c .before .before .before .before .loop .left) (omega arith) (c .before .if1 .taken))
+returns c = sym (c .before .before .before .before .loop .inv .1 ∙ width-here (c .before .before .before .before .before .before .args .scope .now) (c .before .before .before .before .before .before .args .variable) (c .before .before .before .before .loop .i) (c .before .before .before .before .loop .left) (omega arith) (c .before .if1 .taken))
 
 add-i : tie.Need-add-i Inv-loop μ-loop
 add-i c = omega arith
@@ -42,7 +54,7 @@ loop-less : tie.Need-loop-less Inv-loop μ-loop
 loop-less c = omega arith
 
 loop-again : tie.Need-loop-again Inv-loop μ-loop
-loop-again c = (omega arith, c .before .before .before .loop .inv .1 ∙ width-later (c .before .before .before .before .args .t1) (c .before .before .before .before .args .variable) (c .before .before .before .loop .i) (c .before .before .before .loop .left) (omega arith) (c .if1 .left))
+loop-again c = (omega arith, c .before .before .before .loop .inv .1 ∙ width-later (c .before .before .before .before .before .args .scope .now) (c .before .before .before .before .before .args .variable) (c .before .before .before .loop .i) (c .before .before .before .loop .left) (omega arith) (c .if1 .left))
 
 returns-2 : tie.Need-returns-2 Inv-loop μ-loop
 returns-2 c = let e : c .before .loop .left ≡ 0 = omega arith in
@@ -54,9 +66,13 @@ width-in-spec =
     (tie.spec
     Inv-loop
     μ-loop
+    element-copy-out-left
     loop-holds
+    mul-at
+    add-at
     mul-if1
     element-copy-out-if1
+    add-result
     mul-result
     element-copy-out-result
     returns

@@ -1,18 +1,22 @@
-use Prim.Native.Nat.{_*_, _≤_, _-_, _+_}
-use Rattle.emission.proofs.Stores.{sets-more, sets-four}
+use Prim.Native.Nat.{ℕ, _*_, _≤_, _-_, _+_}
+use mathlib.Core.List.{List}
+use mathlib.Core.Path.{_≡_, refl, sym, ap, _∙_}
+use lib.ListN.{length, length-set, take, set}
 use lib.Seq.{sets, length-sets, take-all}
-use lib.ListN.{length, length-set, take}
-use mathlib.Core.Path.{_≡_, refl, ap, _∙_}
+use Rattle.relations.specs.Limits.{headWords, listWords, planNodeWords}
+use Rattle.emission.specs.NodeLists.{padded}
+use Rattle.emission.proofs.NodeListLaws.{padded-long, padded-at}
+use Rattle.emission.proofs.Stores.{sets-more, sets-four}
 use borrow.Author.Needs.{needs}
 use native.Mathlib.Omega.{arith}
 use Rattle.emission.proofs.emit.push.Statement.{statement}
 use Rattle.emission.proofs.emit.push.Tie as tie
 
 abbrev Inv-loop : tie.InvT-loop
-Inv-loop plan₀ n operation left right count list at j₀ plan j = (j ≤ 32) × (plan ≡ sets plan₀ (at + 4) (take j list))
+Inv-loop plan₀ n operation left right count list at j₀ plan j = (j ≤ listWords) × (plan ≡ sets plan₀ (at + headWords) (take j (padded list)))
 
 abbrev μ-loop : tie.MeasureT-loop
-μ-loop plan₀ n operation left right count list at j₀ plan j = 32 - j
+μ-loop plan₀ n operation left right count list at j₀ plan j = listWords - j
 
 mul-at : tie.Need-mul-at Inv-loop μ-loop
 mul-at c = omega arith
@@ -53,11 +57,8 @@ slice-write-plan-4 c = simp length-set (omega arith)
 loop-holds : tie.Need-loop-holds Inv-loop μ-loop
 loop-holds c = (omega arith, refl)
 
-mul-plan-5 : tie.Need-mul-plan-5 Inv-loop μ-loop
-mul-plan-5 c = omega arith
-
-array-read-plan : tie.Need-array-read-plan Inv-loop μ-loop
-array-read-plan c = omega arith
+word-at-requires : tie.Need-word-at-requires Inv-loop μ-loop
+word-at-requires c κs = search needs
 
 add-plan-4 : tie.Need-add-plan-4 Inv-loop μ-loop
 add-plan-4 c = omega arith
@@ -65,11 +66,11 @@ add-plan-4 c = omega arith
 add-plan-5 : tie.Need-add-plan-5 Inv-loop μ-loop
 add-plan-5 c = omega arith
 
-mul-plan-6 : tie.Need-mul-plan-6 Inv-loop μ-loop
-mul-plan-6 c = omega arith
+mul-plan-5 : tie.Need-mul-plan-5 Inv-loop μ-loop
+mul-plan-5 c = omega arith
 
 slice-write-plan-5 : tie.Need-slice-write-plan-5 Inv-loop μ-loop
-slice-write-plan-5 c = omega (arith, simp (length-sets, length-set) at (ap length (c .before .loop .inv .1)))
+slice-write-plan-5 c = omega (arith, simp (length-sets, length-set) at (ap length (c .before .before .loop .inv .1)))
 
 add-j : tie.Need-add-j Inv-loop μ-loop
 add-j c = omega arith
@@ -78,9 +79,13 @@ loop-less : tie.Need-loop-less Inv-loop μ-loop
 loop-less c = omega arith
 
 loop-again : tie.Need-loop-again Inv-loop μ-loop
-loop-again c = let s = c .before .before in
-    let l : length (s .args .t7) ≡ 32 = search needs in
-    (omega arith, sets-more _ _ (s .args .n * 36 + 4) (c .before .loop .j) (s .args .t7) (omega arith) (c .before .loop .inv .1))
+loop-again c = let s = c .before .before .before .before .before in
+    let turn = c .before .before .loop in
+    let list : List ℕ = s .args .list .now in (
+      omega arith,
+      ap (λ (v : ℕ). set (turn .plan) (s .args .n * planNodeWords + headWords + turn .j) v) (c .word-at .ensures ∙ sym (padded-at list (listWords - length list) (turn .j)))
+          ∙ sets-more _ _ (s .args .n * planNodeWords + headWords) (turn .j) (padded list) (omega (arith, padded-long list (s .pre .1))) (turn .inv .1),
+    )
 
 add-result : tie.Need-add-result Inv-loop μ-loop
 add-result c = omega arith
@@ -89,9 +94,9 @@ same-length : tie.Need-same-length Inv-loop μ-loop
 same-length c = simp (length-sets, length-set) at (ap length (c .before .loop .inv .1))
 
 returns : tie.Need-returns Inv-loop μ-loop
-returns c = let s = c .before .before in
-    let l : length (s .args .t7) ≡ 32 = search needs in
-    (c .before .loop .inv .1 ∙ rw (take-all (c .before .loop .j) (s .args .t7) (omega arith)) (sets-four (s .args .plan .now) (s .args .n * 36) (s .args .operation) (s .args .left) (s .args .right) (s .args .count) (s .args .t7)), refl)
+returns c = let s = c .before .before .before .before in
+    let list : List ℕ = s .args .list .now in
+    (c .before .loop .inv .1 ∙ rw (take-all (c .before .loop .j) (padded list) (omega (arith, padded-long list (s .pre .1)))) (sets-four (s .args .plan .now) (s .args .n * planNodeWords) (s .args .operation) (s .args .left) (s .args .right) (s .args .count) (padded list)), refl)
 
 pub push-spec : {M : Type 1} → statement M
 push-spec =
@@ -112,11 +117,10 @@ push-spec =
     mul-plan-4
     slice-write-plan-4
     loop-holds
-    mul-plan-5
-    array-read-plan
+    word-at-requires
     add-plan-4
     add-plan-5
-    mul-plan-6
+    mul-plan-5
     slice-write-plan-5
     add-j
     loop-less

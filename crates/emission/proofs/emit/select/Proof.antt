@@ -5,21 +5,16 @@ use Rattle.emission.specs.NodeLists.{padded}
 use Rattle.emission.specs.Selects.{NamesOperator, selecting}
 use Rattle.emission.specs.declared.emit.Comparand.{Comparand}
 use Rattle.emission.proofs.WrittenLaws.{written-one, written-as}
+use native.Mathlib.Omega.{arith}
 use borrow.Author.Needs.{needs}
 use Rattle.emission.proofs.emit.select.Statement.{statement}
 use Rattle.emission.proofs.emit.select.Tie as tie
 
-array-write-list : tie.Need-array-write-list
-array-write-list c = search needs
-
-array-write-list-2 : tie.Need-array-write-list-2
-array-write-list-2 c = search needs
-
 enum-known-with : tie.Need-enum-known-with
 enum-known-with c = search needs
 
-array-write-list-3 : tie.Need-array-write-list-3
-array-write-list-3 c = search needs
+slice-aggregate-push : tie.Need-slice-aggregate-push
+slice-aggregate-push c = search needs
 
 push-requires : tie.Need-push-requires
 push-requires c κs = search needs
@@ -27,8 +22,8 @@ push-requires c κs = search needs
 enum-known-with-2 : tie.Need-enum-known-with-2
 enum-known-with-2 c = search needs
 
-array-write-list-4 : tie.Need-array-write-list-4
-array-write-list-4 c = search needs
+slice-aggregate-push-2 : tie.Need-slice-aggregate-push-2
+slice-aggregate-push-2 c = search needs
 
 push-requires-2 : tie.Need-push-requires-2
 push-requires-2 c κs = search needs
@@ -37,9 +32,8 @@ same-length : tie.Need-same-length
 same-length c = search needs
 
 returns : tie.Need-returns
-returns c =
-    let s = c .before .before .before .before .before .before .before .before in
-    let given = c .before .before .before .before .before .with .given in
+returns c = let s = c .before .before .before .before .before .before .before .before .before in
+    let given = c .before .before .before .before .before .before .with .given in
     let e : NamesOperator (s .args .operator) = s .pre .1 in
     written-as
     (ap (λ (with : Comparand). selecting (s .args .left) (s .args .attribute .0) (s .args .operator) with ∷ []) (given .1))
@@ -49,9 +43,8 @@ same-length-2 : tie.Need-same-length-2
 same-length-2 c = search needs
 
 returns-2 : tie.Need-returns-2
-returns-2 c =
-    let s = c .before .before .before .before .before .before .before .before in
-    let given = c .before .before .before .before .before .with2 .given in
+returns-2 c = let s = c .before .before .before .before .before .before .before .before .before in
+    let given = c .before .before .before .before .before .before .with2 .given in
     let e : NamesOperator (s .args .operator) = s .pre .1 in
     written-as
     (ap (λ (with : Comparand). selecting (s .args .left) (s .args .attribute .0) (s .args .operator) with ∷ []) (given .1))
@@ -61,13 +54,11 @@ pub select-spec : {M : Type 1} → statement M
 select-spec =
     tie.close
     (tie.spec
-    array-write-list
-    array-write-list-2
     enum-known-with
-    array-write-list-3
+    slice-aggregate-push
     push-requires
     enum-known-with-2
-    array-write-list-4
+    slice-aggregate-push-2
     push-requires-2
     same-length
     returns

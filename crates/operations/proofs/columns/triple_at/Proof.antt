@@ -5,7 +5,7 @@ use Rattle.operations.proofs.columns.triple_at.Statement.{statement}
 use Rattle.operations.proofs.columns.triple_at.Tie as tie
 use Rattle.operations.proofs.columns.triple_at.Reads as reads
 use Rattle.operations.proofs.columns.triple_at.Lts as lts
-use Rattle.operations.proofs.columns.operator_of.Reads as operator-of-reads
+use Rattle.terms.proofs.operator.operator_of.Reads as operator-of-reads
 
 -- src/columns.rt:86:30
 mul-t3 : tie.Need-mul-t3

@@ -19,21 +19,21 @@ use Rattle.operations.proofs.keep.keep.Lts as lts
 use Rattle.operations.proofs.keep.keep_row.Reads as keep-row-reads
 
 abbrev Inv-loop : tie.InvT-loop
-Inv-loop list work₀ test out width at₀ left₀ made₀ work at left made =
+Inv-loop work₀ test out width at₀ left₀ made₀ work at left made =
     (at + left * width ≤ out)
-    × Filled width out 0 made (filter (keeps test list (rightOf test work₀)) (rowsAt width left₀ at₀ work₀)) (filter (keeps test list (rightOf test work₀)) (rowsAt width left at work₀)) work₀ work
+    × Filled width out 0 made (filter (keeps test (rightOf test work₀)) (rowsAt width left₀ at₀ work₀)) (filter (keeps test (rightOf test work₀)) (rowsAt width left at work₀)) work₀ work
 
 abbrev μ-loop : tie.MeasureT-loop
-μ-loop list work₀ test out width at₀ left₀ made₀ work at left made = left
+μ-loop work₀ test out width at₀ left₀ made₀ work at left made = left
 
 -- src/keep.rt:91:5
 loop-holds : tie.Need-loop-holds Inv-loop μ-loop
-loop-holds c = let s = c .before .before .args in (omega arith, filled-none (s .value .width) (s .out) (filter (keeps (s .test) (s .list .now) (rightOf (s .test) (s .work .now))) (rowsAt (s .value .width) (s .value .rows) (s .value .base) (s .work .now))) (s .work .now) (omega arith))
+loop-holds c = let s = c .before .args in (omega arith, filled-none (s .value .width) (s .out) (filter (keeps (s .test) (rightOf (s .test) (s .work .now))) (rowsAt (s .value .width) (s .value .rows) (s .value .base) (s .work .now))) (s .work .now) (omega arith))
 
 -- src/keep.rt:92:15
 keep-row-requires : tie.Need-keep-row-requires Inv-loop μ-loop
-keep-row-requires c κs = let s = c .before .before .before .before .before .args in let l = c .before .before .loop in
-    (omega arith, omega (arith, times-step (l .left) (s .value .width) (omega arith)), fits-now (l .inv .1) (s .test) (s .list .now) (c .before .before .before .before .before .pre .3), l .inv .1 .fits, l .inv .1 .ascending)
+keep-row-requires c κs = let s = c .before .before .before .before .args in let l = c .before .before .loop in
+    (omega arith, omega (arith, times-step (l .left) (s .value .width) (omega arith)), fits-now (l .inv .1) (s .test) (c .before .before .before .before .pre .3), l .inv .1 .fits, l .inv .1 .ascending)
 
 -- src/keep.rt:93:26
 enum-known-rows : tie.Need-enum-known-rows Inv-loop μ-loop
@@ -49,15 +49,15 @@ same-length c = omega (arith, c .before .before .before .before .keep-row .kept,
 
 -- src/keep.rt:97:17
 returns : tie.Need-returns Inv-loop μ-loop
-returns c = let s = c .before .before .before .before .before .before .before .before .before .before .args in let l = c .before .before .before .before .before .before .before .loop in let w = s .value .width in
+returns c = let s = c .before .before .before .before .before .before .before .before .before .args in let l = c .before .before .before .before .before .before .before .loop in let w = s .value .width in
     let ahead : l .at + w ≤ s .out = omega (arith, times-step (l .left) w (omega arith)) in
-    filled-off (l .inv .1) (filter (keeps (s .test) (s .list .now) (rightOf (s .test) (s .work .now))) (rowsAt w (l .left - 1) (l .at + w) (s .work .now)))
-    (filter-step w (l .left) (l .at) (s .work .now) (omega arith) (omega arith) (keeps (s .test) (s .list .now) (rightOf (s .test) (s .work .now))))
-    (builds-by (kept-now (l .inv .1) (s .test) (s .list .now) (l .at) w (c .before .before .before .before .before .before .before .before .before .before .pre .3) ahead) (c .before .before .before .before .keep-row .ensures)) (c .enum-told .given .1)
+    filled-off (l .inv .1) (filter (keeps (s .test) (rightOf (s .test) (s .work .now))) (rowsAt w (l .left - 1) (l .at + w) (s .work .now)))
+    (filter-step w (l .left) (l .at) (s .work .now) (omega arith) (omega arith) (keeps (s .test) (rightOf (s .test) (s .work .now))))
+    (builds-by (kept-now (l .inv .1) (s .test) (l .at) w (c .before .before .before .before .before .before .before .before .before .pre .3) ahead) (c .before .before .before .before .keep-row .ensures)) (c .enum-told .given .1)
 
 -- src/keep.rt:100:9
 add-at : tie.Need-add-at Inv-loop μ-loop
-add-at c = let l = c .before .before .before .before .before .before .before .before .loop in let w = c .before .before .before .before .before .before .before .before .before .before .before .args .value .width in omega (arith, times-step (l .left) w (omega arith))
+add-at c = let l = c .before .before .before .before .before .before .before .before .loop in let w = c .before .before .before .before .before .before .before .before .before .before .args .value .width in omega (arith, times-step (l .left) w (omega arith))
 
 -- src/keep.rt:101:9
 sub-left : tie.Need-sub-left Inv-loop μ-loop
@@ -69,12 +69,12 @@ loop-less c = omega arith
 
 -- src/keep.rt:91:5
 loop-again : tie.Need-loop-again Inv-loop μ-loop
-loop-again c = let s = c .before .before .before .before .before .before .before .before .before .before .before .args in let l = c .before .before .before .before .before .before .before .before .loop in let w = s .value .width in
+loop-again c = let s = c .before .before .before .before .before .before .before .before .before .before .args in let l = c .before .before .before .before .before .before .before .before .loop in let w = s .value .width in
     let ahead : l .at + w ≤ s .out = omega (arith, times-step (l .left) w (omega arith)) in (
       omega (arith, times-step (l .left) w (omega arith)),
-      filled-on (l .inv .1) (filter (keeps (s .test) (s .list .now) (rightOf (s .test) (s .work .now))) (rowsAt w (l .left - 1) (l .at + w) (s .work .now)))
-          (filter-step w (l .left) (l .at) (s .work .now) (omega arith) (omega arith) (keeps (s .test) (s .list .now) (rightOf (s .test) (s .work .now))))
-          (builds-by (kept-now (l .inv .1) (s .test) (s .list .now) (l .at) w (c .before .before .before .before .before .before .before .before .before .before .before .pre .3) ahead) (c .before .before .before .before .before .keep-row .ensures)) (c .before .rows .given .0 .0) (c .before .rows .given .1),
+      filled-on (l .inv .1) (filter (keeps (s .test) (rightOf (s .test) (s .work .now))) (rowsAt w (l .left - 1) (l .at + w) (s .work .now)))
+          (filter-step w (l .left) (l .at) (s .work .now) (omega arith) (omega arith) (keeps (s .test) (rightOf (s .test) (s .work .now))))
+          (builds-by (kept-now (l .inv .1) (s .test) (l .at) w (c .before .before .before .before .before .before .before .before .before .before .pre .3) ahead) (c .before .before .before .before .before .keep-row .ensures)) (c .before .rows .given .0 .0) (c .before .rows .given .1),
     )
 
 -- src/keep.rt:83:1
@@ -83,8 +83,8 @@ same-length-2 c = omega (arith, c .before .loop .inv .1 .size)
 
 -- src/keep.rt:83:1
 returns-2 : tie.Need-returns-2 Inv-loop μ-loop
-returns-2 c = let s = c .before .before .before .before .args in let l = c .before .loop in
-    filled-end (l .inv .1) (no-rows (filter (keeps (s .test) (s .list .now) (rightOf (s .test) (s .work .now)))) (s .value .width) (l .at) (s .work .now) (omega arith))
+returns-2 c = let s = c .before .before .before .args in let l = c .before .loop in
+    filled-end (l .inv .1) (no-rows (filter (keeps (s .test) (rightOf (s .test) (s .work .now)))) (s .value .width) (l .at) (s .work .now) (omega arith))
 
 pub keep-spec : {M : Type 1} → statement M
 keep-spec =

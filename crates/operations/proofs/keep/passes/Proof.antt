@@ -2,7 +2,7 @@ use mathlib.Core.Path.{_≡_, refl, sym, ap, ap₂, _∙_}
 use Prim.Native.Nat.{ℕ, _+_, _*_, _-_, _≤_, _<_}
 use lib.ListN.{length, getD, take, drop, length-set}
 use Rattle.relations.specs.Limits.{columnLimit}
-use Rattle.operations.proofs.TestLaws.{fits-meets, fits-in, fits-not-in}
+use Rattle.operations.proofs.TestLaws.{fits-in, fits-not-in}
 use native.Mathlib.Omega.{arith}
 use borrow.Author.Needs.{needs}
 use Rattle.operations.proofs.keep.passes.Statement.{statement}
@@ -10,8 +10,7 @@ use Rattle.operations.proofs.keep.passes.Tie as tie
 use Rattle.operations.proofs.keep.passes.Reads as reads
 use Rattle.operations.proofs.keep.passes.Lts as lts
 use Rattle.operations.proofs.columns.column_of.Reads as column-of-reads
-use Rattle.operations.proofs.columns.holds.Reads as holds-reads
-use Rattle.operations.proofs.keep.meets_some.Reads as meets-some-reads
+use Rattle.terms.proofs.operator.holds.Reads as holds-reads
 use Rattle.values.proofs.rows.row.Reads as row-reads
 use Rattle.values.proofs.search.has_row.Reads as has-row-reads
 
@@ -47,29 +46,21 @@ column-of-requires-3 c κs = search needs
 holds-requires-2 : tie.Need-holds-requires-2
 holds-requires-2 c κs = search needs
 
--- src/keep.rt:106:21
+-- src/keep.rt:110:18
 enum-known-test-3 : tie.Need-enum-known-test-3
 enum-known-test-3 c = search needs
 
--- src/keep.rt:107:17
-meets-some-requires : tie.Need-meets-some-requires
-meets-some-requires c κs = let s = c .before .before .before .before .before .before .args in fits-meets (length (s .work .now)) (s .list .now) (s .work .now) (c .before .test3 .given .1) (c .before .before .before .before .before .before .pre)
+-- src/keep.rt:110:28
+has-row-requires : tie.Need-has-row-requires
+has-row-requires c κs = let s = c .before .before .before .before .before .args in fits-in (length (s .work .now)) (s .work .now) (c .before .test3 .given .1) (c .before .before .before .before .before .pre)
 
--- src/keep.rt:110:18
+-- src/keep.rt:111:21
 enum-known-test-4 : tie.Need-enum-known-test-4
 enum-known-test-4 c = search needs
 
--- src/keep.rt:110:28
-has-row-requires : tie.Need-has-row-requires
-has-row-requires c κs = let s = c .before .before .before .before .before .before .args in fits-in (length (s .work .now)) (s .list .now) (s .work .now) (c .before .test4 .given .1) (c .before .before .before .before .before .before .pre)
-
--- src/keep.rt:111:21
-enum-known-test-5 : tie.Need-enum-known-test-5
-enum-known-test-5 c = search needs
-
 -- src/keep.rt:111:32
 has-row-requires-2 : tie.Need-has-row-requires-2
-has-row-requires-2 c κs = let s = c .before .before .before .before .before .before .args in fits-not-in (length (s .work .now)) (s .list .now) (s .work .now) (c .before .test5 .given .1) (c .before .before .before .before .before .before .pre)
+has-row-requires-2 c κs = let s = c .before .before .before .before .before .args in fits-not-in (length (s .work .now)) (s .work .now) (c .before .test4 .given .1) (c .before .before .before .before .before .pre)
 
 -- src/keep.rt:98:1
 returns : tie.Need-returns
@@ -81,19 +72,11 @@ returns-2 c = rw (c .before .before .before .before .test2 .given .1) (c .holds2
 
 -- src/keep.rt:98:1
 returns-3 : tie.Need-returns-3
-returns-3 c = rw (c .before .before .before .test3 .given .1, c .if1 .taken) (c .before .meets-some .ensures ∙ rw (c .before .before .before .before .before .row .ensures))
+returns-3 c = rw (c .before .before .test3 .given .1) (c .has-row .ensures ∙ rw (c .before .before .before .before .row .ensures))
 
 -- src/keep.rt:98:1
 returns-4 : tie.Need-returns-4
-returns-4 c = rw (c .before .before .before .test3 .given .1, c .if1 .left) (rw (c .before .meets-some .ensures, c .before .before .before .before .before .row .ensures))
-
--- src/keep.rt:98:1
-returns-5 : tie.Need-returns-5
-returns-5 c = rw (c .before .before .test4 .given .1) (c .has-row .ensures ∙ rw (c .before .before .before .before .row .ensures))
-
--- src/keep.rt:98:1
-returns-6 : tie.Need-returns-6
-returns-6 c = rw (c .before .before .test5 .given .1) (rw (c .has-row2 .ensures, c .before .before .before .before .row .ensures))
+returns-4 c = rw (c .before .before .test4 .given .1) (rw (c .has-row2 .ensures, c .before .before .before .before .row .ensures))
 
 pub passes-spec : {M : Type 1} → statement M
 passes-spec =
@@ -108,14 +91,10 @@ passes-spec =
     column-of-requires-3
     holds-requires-2
     enum-known-test-3
-    meets-some-requires
-    enum-known-test-4
     has-row-requires
-    enum-known-test-5
+    enum-known-test-4
     has-row-requires-2
     returns
     returns-2
     returns-3
-    returns-4
-    returns-5
-    returns-6)
+    returns-4)

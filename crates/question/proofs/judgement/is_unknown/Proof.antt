@@ -1,100 +1,75 @@
--- `question::judgement::is_unknown` meets its contract. A table's relation is compared; no other node has one. Assumes nothing.
+use native.Mathlib.Omega.{arith}
 use borrow.Author.Needs.{needs}
 use Rattle.question.proofs.judgement.is_unknown.Statement.{statement}
 use Rattle.question.proofs.judgement.is_unknown.Tie as tie
+use Rattle.question.proofs.judgement.is_unknown.Reads as reads
+use Rattle.question.proofs.judgement.is_unknown.Lts as lts
 
-enum-known-node : tie.Need-enum-known-node
-enum-known-node c = search needs
+-- src/judgement.rt:109:22
+enum-known-role : tie.Need-enum-known-role
+enum-known-role c = search needs
 
+-- src/judgement.rt:109:49
 cast-result : tie.Need-cast-result
 cast-result c = search needs
 
+-- src/judgement.rt:110:24
 enum-told : tie.Need-enum-told
 enum-told c = search needs
 
+-- src/judgement.rt:111:27
 enum-told-2 : tie.Need-enum-told-2
 enum-told-2 c = search needs
 
+-- src/judgement.rt:112:27
 enum-told-3 : tie.Need-enum-told-3
 enum-told-3 c = search needs
 
+-- src/judgement.rt:113:24
 enum-told-4 : tie.Need-enum-told-4
 enum-told-4 c = search needs
 
+-- src/judgement.rt:114:49
 enum-told-5 : tie.Need-enum-told-5
 enum-told-5 c = search needs
 
+-- src/judgement.rt:115:24
 enum-told-6 : tie.Need-enum-told-6
 enum-told-6 c = search needs
 
-enum-told-7 : tie.Need-enum-told-7
-enum-told-7 c = search needs
-
-enum-told-8 : tie.Need-enum-told-8
-enum-told-8 c = search needs
-
-enum-told-9 : tie.Need-enum-told-9
-enum-told-9 c = search needs
-
-enum-told-10 : tie.Need-enum-told-10
-enum-told-10 c = search needs
-
-enum-told-11 : tie.Need-enum-told-11
-enum-told-11 c = search needs
-
-enum-told-12 : tie.Need-enum-told-12
-enum-told-12 c = search needs
-
-enum-told-13 : tie.Need-enum-told-13
-enum-told-13 c = search needs
-
+-- src/judgement.rt:105:1
 returns : tie.Need-returns
-returns c = simp (c .before .node .given .1)
+returns c = simp (c .before .role .given .1)
 
+-- src/judgement.rt:105:1
 returns-2 : tie.Need-returns-2
 returns-2 c = search needs
 
+-- src/judgement.rt:105:1
 returns-3 : tie.Need-returns-3
 returns-3 c = search needs
 
+-- src/judgement.rt:105:1
 returns-4 : tie.Need-returns-4
 returns-4 c = search needs
 
+-- src/judgement.rt:105:1
 returns-5 : tie.Need-returns-5
 returns-5 c = search needs
 
+-- src/judgement.rt:105:1
 returns-6 : tie.Need-returns-6
 returns-6 c = search needs
 
+-- src/judgement.rt:105:1
 returns-7 : tie.Need-returns-7
 returns-7 c = search needs
-
-returns-8 : tie.Need-returns-8
-returns-8 c = search needs
-
-returns-9 : tie.Need-returns-9
-returns-9 c = search needs
-
-returns-10 : tie.Need-returns-10
-returns-10 c = search needs
-
-returns-11 : tie.Need-returns-11
-returns-11 c = search needs
-
-returns-12 : tie.Need-returns-12
-returns-12 c = search needs
-
-returns-13 : tie.Need-returns-13
-returns-13 c = search needs
-
-returns-14 : tie.Need-returns-14
-returns-14 c = search needs
 
 pub is-unknown-spec : {M : Type 1} → statement M
 is-unknown-spec =
     tie.close
     (tie.spec
-    enum-known-node
+    enum-known-role
     cast-result
     enum-told
     enum-told-2
@@ -102,24 +77,10 @@ is-unknown-spec =
     enum-told-4
     enum-told-5
     enum-told-6
-    enum-told-7
-    enum-told-8
-    enum-told-9
-    enum-told-10
-    enum-told-11
-    enum-told-12
-    enum-told-13
     returns
     returns-2
     returns-3
     returns-4
     returns-5
     returns-6
-    returns-7
-    returns-8
-    returns-9
-    returns-10
-    returns-11
-    returns-12
-    returns-13
-    returns-14)
+    returns-7)

@@ -21,11 +21,14 @@ loop-holds c = (omega arith, search-start (λ j. isUnknown (c .before .args .rel
 decode-requires : tie.Need-decode-requires Inv-loop μ-loop
 decode-requires c κs = omega arith
 
+role-of-requires : tie.Need-role-of-requires Inv-loop μ-loop
+role-of-requires c κs = tt
+
 is-unknown-requires : tie.Need-is-unknown-requires Inv-loop μ-loop
 is-unknown-requires c κs = tt
 
 returns : tie.Need-returns Inv-loop μ-loop
-returns c = sym (c .before .before .before .before .loop .inv .1 ∙ search-found (λ j. isUnknown (c .before .before .before .before .before .before .args .relations) (nodeAt (c .before .before .before .before .before .before .args .words .now) j)) (c .before .before .before .before .before .before .args .nodes) (c .before .before .before .before .loop .i) (omega arith) (sym (rw (c .before .before .decode .ensures) at (c .before .is-unknown .ensures)) ∙ c .if1 .taken))
+returns c = sym (c .before .before .before .before .before .loop .inv .1 ∙ search-found (λ j. isUnknown (c .before .before .before .before .before .before .before .args .relations) (nodeAt (c .before .before .before .before .before .before .before .args .words .now) j)) (c .before .before .before .before .before .before .before .args .nodes) (c .before .before .before .before .before .loop .i) (omega arith) (sym (rw (c .before .before .role-of .ensures, c .before .before .before .decode .ensures) at (c .before .is-unknown .ensures)) ∙ c .if1 .taken))
 
 add-i : tie.Need-add-i Inv-loop μ-loop
 add-i c = omega arith
@@ -34,7 +37,7 @@ loop-less : tie.Need-loop-less Inv-loop μ-loop
 loop-less c = omega arith
 
 loop-again : tie.Need-loop-again Inv-loop μ-loop
-loop-again c = (omega arith, c .before .before .before .before .loop .inv .1 ∙ search-on (λ j. isUnknown (c .before .before .before .before .before .before .args .relations) (nodeAt (c .before .before .before .before .before .before .args .words .now) j)) (c .before .before .before .before .before .before .args .nodes) (c .before .before .before .before .loop .i) (omega arith) (sym (rw (c .before .before .decode .ensures) at (c .before .is-unknown .ensures)) ∙ c .if1 .left))
+loop-again c = (omega arith, c .before .before .before .before .before .loop .inv .1 ∙ search-on (λ j. isUnknown (c .before .before .before .before .before .before .before .args .relations) (nodeAt (c .before .before .before .before .before .before .before .args .words .now) j)) (c .before .before .before .before .before .before .before .args .nodes) (c .before .before .before .before .before .loop .i) (omega arith) (sym (rw (c .before .before .role-of .ensures, c .before .before .before .decode .ensures) at (c .before .is-unknown .ensures)) ∙ c .if1 .left))
 
 returns-2 : tie.Need-returns-2 Inv-loop μ-loop
 returns-2 c = sym (c .before .loop .inv .1 ∙ search-end (λ j. isUnknown (c .before .before .before .args .relations) (nodeAt (c .before .before .before .args .words .now) j)) (c .before .before .before .args .nodes) (c .before .loop .i) (omega arith))
@@ -47,6 +50,7 @@ lowest-unknown-spec =
     μ-loop
     loop-holds
     decode-requires
+    role-of-requires
     is-unknown-requires
     returns
     add-i

@@ -25,10 +25,10 @@ use Rattle.running.proofs.node.make_value.Reads as reads
 use Rattle.running.proofs.node.make_value.Lts as lts
 use Rattle.operations.proofs.copy.unite.Reads as unite-reads
 use Rattle.division.proofs.divide.divide.Reads as divide-reads
-use Rattle.operations.proofs.join.join.Reads as join-reads
-use Rattle.operations.proofs.keyed.antijoin.Reads as antijoin-reads
+use Rattle.joining.proofs.join.join.Reads as join-reads
+use Rattle.joining.proofs.keyed.antijoin.Reads as antijoin-reads
 use Rattle.operations.proofs.keep.intersect.Reads as intersect-reads
-use Rattle.operations.proofs.keyed.semijoin.Reads as semijoin-reads
+use Rattle.joining.proofs.keyed.semijoin.Reads as semijoin-reads
 use Rattle.operations.proofs.keep.subtract.Reads as subtract-reads
 use Rattle.operations.proofs.project.project.Reads as project-reads
 use Rattle.values.proofs.clearing.finish.Reads as finish-reads

@@ -1,10 +1,10 @@
 use mathlib.Core.Path.{ap, _∙_}
 use lib.ListN.{getD}
-use Rattle.relations.specs.Comparison.{Operator}
+use Rattle.relations.specs.Comparison.{Operator, operatorNamed}
 use Rattle.relations.specs.Columns as meaning
 use Rattle.relations.specs.Operations.{selectConstantCandidates}
 use Rattle.values.specs.Words.{rowsOf}
-use Rattle.operations.specs.Lists.{operatorIn, constantIn, operatorNamed}
+use Rattle.terms.specs.Terms.{operatorIn, constantIn}
 use Rattle.operations.proofs.FillSteps.{builds-by}
 use native.Mathlib.Omega.{arith}
 use borrow.Author.Needs.{needs}
@@ -12,7 +12,7 @@ use Rattle.running.proofs.node.select_by_constant.Statement.{statement}
 use Rattle.running.proofs.node.select_by_constant.Tie as tie
 use Rattle.running.proofs.node.select_by_constant.Reads as reads
 use Rattle.running.proofs.node.select_by_constant.Lts as lts
-use Rattle.operations.proofs.columns.operator_of.Reads as operator-of-reads
+use Rattle.terms.proofs.operator.operator_of.Reads as operator-of-reads
 use Rattle.operations.proofs.keep.select_constant.Reads as select-constant-reads
 use Rattle.running.proofs.node.attribute_at.Reads as attribute-at-reads
 use Rattle.running.proofs.node.constant_at.Reads as constant-at-reads

@@ -1,24 +1,19 @@
-use Rattle.conditions.proofs.LeafLaws.{collectable}
-use Rattle.short_rules.proofs.FitLaws.{some-nodes-below, conjoined-atoms, not-divided}
-use Rattle.conditions.proofs.Readings.{condition-is, some-parts}
-use Rattle.conditions.specs.Readings.{rangeAt, conditionAt}
-use Rattle.nodes.specs.Nodes.{nodeAt}
+use Rattle.short_rules.proofs.FitLaws.{some-reads, some-ready, not-divided}
+use Rattle.conditions.proofs.LeafLaws.{collectable, found-leaves}
 use Rattle.nodes.specs.declared.node.Node.the-variants.{Some}
-use Rattle.calculus.specs.Question.{forSome}
 use Rattle.calculus.specs.ShortRules.{shortRule5Atoms, shortRule5Fits}
-use mathlib.Core.Path.{_≡_, sym, ap, _∙_}
+use mathlib.Core.Bool.{_&&_}
+use Rattle.conditions.proofs.Readings.{condition-is}
+use Rattle.nodes.specs.Nodes.{nodeAt}
+use mathlib.Core.Path.{_≡_, sym, ap, ap₂, _∙_}
 use Prim.Native.Nat.{_-_}
 use borrow.Author.Needs.{needs}
 use Rattle.short_rules.proofs.fits.division_fits.Statement.{statement}
 use Rattle.short_rules.proofs.fits.division_fits.Tie as tie
 
--- the "some" that was decoded: its parts, and what it reads as
+-- the "some" that was decoded
 some-node : (c : tie.After-known-told) → Some (c .before .node .given .0 .0) (c .before .node .given .0 .1 .0) (c .before .node .given .0 .1 .1 .0) ≡ nodeAt (c .before .before .before .before .before .args .words .now) (c .before .before .before .before .before .args .reference - 1)
 some-node c = sym (c .before .node .given .1) ∙ c .before .before .before .decode .ensures
-
-some-reads : (c : tie.After-known-told) → conditionAt (c .before .before .before .before .before .args .words .now) (c .before .before .before .before .before .args .reference) ≡ forSome (c .before .node .given .0 .0) (rangeAt (c .before .before .before .before .before .args .words .now) (c .before .node .given .0 .1 .0)) (conditionAt (c .before .before .before .before .before .args .words .now) (c .before .node .given .0 .1 .1 .0))
-some-reads c = let s = c .before .before .before .before .before in
-    condition-is (s .args .words .now) (s .args .reference) _ (s .pre .0 .0) (some-node c)
 
 sub-decode : tie.Need-sub-decode
 sub-decode c = search needs
@@ -32,18 +27,22 @@ decode-requires c κs = search needs
 enum-known-node : tie.Need-enum-known-node
 enum-known-node c = search needs
 
-leaves-of-requires : tie.Need-leaves-of-requires
-leaves-of-requires c κs = let s = c .before .before .before .before .before in
-    let words = s .args .words .now in
-    collectable words _ (some-parts words (s .args .reference) (s .pre .0) (some-node c) .1 .0) (some-nodes-below (some-reads c) (s .pre .1))
+collect-requires : tie.Need-collect-requires
+collect-requires c κs = let s = c .before .before .before .before .before .before in
+    let r = some-ready (s .args .words .now) (s .pre .0) (some-node (c .before)) (s .pre .1) in
+    collectable (c .before .before .before .before .before .before .args .words .now) _ (r .0) (r .1)
 
-short-rule-5-fits-requires : tie.Need-short-rule-5-fits-requires
-short-rule-5-fits-requires c κs = search needs
+short-rule-5-atoms-requires : tie.Need-short-rule-5-atoms-requires
+short-rule-5-atoms-requires c κs = let s = c .before .before .before .before .before .before .before .before in
+    let r = some-ready (s .args .words .now) (s .pre .0) (some-node (c .before .before .before)) (s .pre .1) in
+    found-leaves (c .before .before .before .before .before .before .before .before .args .words .now) _ (r .0) (r .1) (c .before .collect .ensures .0) .fit
 
 returns : tie.Need-returns
-returns c = let k = c .before .before in
-    let y = k .before .before .before .before .before .args .y in
-    conjoined-atoms (shortRule5Atoms (k .before .node .given .0 .0) y) (c .before .leaves-of .ensures .1) (c .short-rule-5-fits .ensures) ∙ sym (ap (shortRule5Fits y) (some-reads k))
+returns c = let s = c .before .before .before .before .before .before .before .before .before in
+    let k = c .before .before .before .before in
+    let r = some-ready (s .args .words .now) (s .pre .0) (some-node k) (s .pre .1) in
+    let f = found-leaves (s .args .words .now) _ (r .0) (r .1) (c .before .before .collect .ensures .0) in
+    ap₂ _&&_ (c .before .before .collect .ensures .1) (c .short-rule-5-atoms .ensures ∙ ap (shortRule5Atoms (k .before .node .given .0 .0) (s .args .y)) (f .straight)) ∙ sym (ap (shortRule5Fits (s .args .y)) (some-reads (s .args .words .now) (s .pre .0) (some-node k)))
 
 returns-2 : tie.Need-returns-2
 returns-2 c = let s = c .before .before .before in
@@ -57,7 +56,7 @@ division-fits-spec =
     cast-decode
     decode-requires
     enum-known-node
-    leaves-of-requires
-    short-rule-5-fits-requires
+    collect-requires
+    short-rule-5-atoms-requires
     returns
     returns-2)

@@ -1,3 +1,4 @@
+use Rattle.relations.specs.Limits.{listWords}
 use Rattle.short_rules.proofs.ProjectLaws.{other-number, same-on, same-stop, same-end}
 use Prim.Native.Nat.{_+_, _-_, _≤_}
 use mathlib.Core.Path.{_≡_, sym, _∙_}
@@ -20,7 +21,7 @@ abbrev μ-loop : tie.MeasureT-loop
 
 few : (c : tie.Start Inv-loop μ-loop) → c .args .t2 .used ≤ length (c .args .t2 .words)
 few c =
-    let l : length (c .args .t2 .words) ≡ 32 = search needs in
+    let l : length (c .args .t2 .words) ≡ listWords = search needs in
     omega (arith, c .pre)
 
 returns : tie.Need-returns Inv-loop μ-loop

@@ -1,3 +1,4 @@
+use Rattle.relations.specs.Limits.{listWords}
 use Rattle.short_rules.proofs.RuleLaws.{rest, pairs-next, pairs-size}
 use Rattle.calculus.specs.ShortRules.{divisionPairs}
 use Rattle.calculus.specs.Leaves.{equatesWith, otherAttribute}
@@ -5,12 +6,12 @@ use Rattle.relations.specs.PlanWords.{pairWords}
 use Rattle.emission.proofs.NodeListLaws.{grown-used, grown-step, grown-none, grown-list}
 use Rattle.emission.specs.declared.node_list.NodeList.{NodeList}
 use Rattle.emission.specs.NodeLists.{nodeList, grownBy}
-use Rattle.conditions.specs.Leaves.{atomsOf}
+use Rattle.conditions.specs.Leaves.{leafCount, atomsOf}
 use Rattle.calculus.specs.Question as calculus
 use Rattle.relations.specs.Lists.{flat, filter}
 use lib.ListN.{length, length-append}
 use mathlib.Core.List.{[], _∷_}
-use mathlib.Core.Bool.{cond}
+use mathlib.Core.Bool.{false, cond}
 use mathlib.Core.Path.{_≡_, refl, ap, sym, _∙_}
 use Prim.Native.Nat.{ℕ, _+_, _-_, _≤_}
 use native.Mathlib.Omega.{arith}
@@ -18,10 +19,10 @@ use Rattle.short_rules.proofs.rules.division_pairs.Statement.{statement
 use Rattle.short_rules.proofs.rules.division_pairs.Tie as tie
 
 abbrev Inv-loop : tie.InvT-loop
-Inv-loop words z y leaves first list₀ column₀ i₀ left₀ list column i left = (i + left ≡ leaves .count)
+Inv-loop words z y leaves first list₀ column₀ i₀ left₀ list column i left = (i + left ≡ leafCount leaves)
     × (column ≤ first + i)
-    × (list .used + length (flat pairWords (divisionPairs z (filter (equatesWith z y) (rest words leaves i left)) column)) ≤ 32)
-    × (grownBy list (flat pairWords (divisionPairs z (filter (equatesWith z y) (rest words leaves i left)) column)) ≡ nodeList (flat pairWords (divisionPairs z (filter (equatesWith z y) (atomsOf words leaves)) first)))
+    × (list .used + length (flat pairWords (divisionPairs z (filter (equatesWith z y) (rest words false leaves i left)) column)) ≤ listWords)
+    × (grownBy list (flat pairWords (divisionPairs z (filter (equatesWith z y) (rest words false leaves i left)) column)) ≡ nodeList (flat pairWords (divisionPairs z (filter (equatesWith z y) (atomsOf words false leaves)) first)))
 
 abbrev μ-loop : tie.MeasureT-loop
 μ-loop words z y leaves first list₀ column₀ i₀ left₀ list column i left = left
@@ -29,13 +30,16 @@ abbrev μ-loop : tie.MeasureT-loop
 no-list-requires : tie.Need-no-list-requires Inv-loop μ-loop
 no-list-requires c κs = tt
 
+element-copy-out-left : tie.Need-element-copy-out-left Inv-loop μ-loop
+element-copy-out-left c = omega arith
+
 loop-holds : tie.Need-loop-holds Inv-loop μ-loop
-loop-holds c = let s = c .before .before in
-    let size = pairs-size (s .args .z) (filter (equatesWith (s .args .z) (s .args .y)) (atomsOf (s .args .words .now) (s .args .leaves))) (s .args .first) in
-    (omega arith, omega arith, omega (arith, s .pre .1, ap (λ (l : NodeList). l .used) (c .no-list .ensures), size), grown-list _ (c .no-list .ensures) refl (omega (arith, s .pre .1, size)))
+loop-holds c = let s = c .before .before .before in
+    let size = pairs-size (s .args .z) (filter (equatesWith (s .args .z) (s .args .y)) (atomsOf (s .args .words .now) false (s .args .leaves .now))) (s .args .first) in
+    (omega arith, omega arith, omega (arith, s .pre .1, ap (λ (l : NodeList). l .used) (c .before .no-list .ensures), size), grown-list _ (c .before .no-list .ensures) refl (omega (arith, s .pre .1, size)))
 
 leaf-requires : tie.Need-leaf-requires Inv-loop μ-loop
-leaf-requires c κs = (c .before .before .before .before .pre .0, omega arith)
+leaf-requires c κs = (c .before .before .before .before .before .pre .0, omega arith)
 
 equates-with-requires : tie.Need-equates-with-requires Inv-loop μ-loop
 equates-with-requires c κs = c .leaf .ensures .1
@@ -44,19 +48,19 @@ other-attribute-requires : tie.Need-other-attribute-requires Inv-loop μ-loop
 other-attribute-requires c κs = c .before .leaf .ensures .1
 
 with-pair-if-requires : tie.Need-with-pair-if-requires Inv-loop μ-loop
-with-pair-if-requires c κs = let s = c .before .before .before .before .before .before .before in
+with-pair-if-requires c κs = let s = c .before .before .before .before .before .before .before .before in
     let l = c .before .before .before .before .loop in
     let a = c .before .before .leaf .ensures .0 in
     let t = c .before .equates-with .ensures ∙ ap (equatesWith (s .args .z) (s .args .y)) a in
     let o = c .other-attribute .ensures .0 ∙ ap (λ (b : calculus.Atom). otherAttribute (s .args .z) b .number) a in
-    let e = pairs-next (s .args .words .now) (s .args .leaves) (l .i) (l .left) (omega arith) (equatesWith (s .args .z) (s .args .y)) (s .args .z) (l .column) _ _ t o in
-    omega (arith, l .inv .2, ap length e, length-append (cond (c .before .equates-with .result) (l .column ∷ c .other-attribute .result .0 ∷ []) []) (flat pairWords (divisionPairs (s .args .z) (filter (equatesWith (s .args .z) (s .args .y)) (rest (s .args .words .now) (s .args .leaves) (l .i + 1) (l .left - 1))) (l .column + cond (c .before .equates-with .result) 1 0))))
+    let e = pairs-next (s .args .words .now) false (s .args .leaves .now) (l .i) (l .left) (omega arith) (equatesWith (s .args .z) (s .args .y)) (s .args .z) (l .column) _ _ t o in
+    omega (arith, l .inv .2, ap length e, length-append (cond (c .before .equates-with .result) (l .column ∷ c .other-attribute .result .0 ∷ []) []) (flat pairWords (divisionPairs (s .args .z) (filter (equatesWith (s .args .z) (s .args .y)) (rest (s .args .words .now) false (s .args .leaves .now) (l .i + 1) (l .left - 1))) (l .column + cond (c .before .equates-with .result) 1 0))))
 
 once-requires : tie.Need-once-requires Inv-loop μ-loop
 once-requires c κs = tt
 
 add-column : tie.Need-add-column Inv-loop μ-loop
-add-column c = omega (arith, c .once .ensures .1, c .before .before .before .before .before .before .before .before .before .pre .2)
+add-column c = omega (arith, c .once .ensures .1, c .before .before .before .before .before .before .before .before .before .before .pre .2)
 
 add-i : tie.Need-add-i Inv-loop μ-loop
 add-i c = omega arith
@@ -68,14 +72,14 @@ loop-less : tie.Need-loop-less Inv-loop μ-loop
 loop-less c = omega arith
 
 loop-again : tie.Need-loop-again Inv-loop μ-loop
-loop-again c = let s = c .before .before .before .before .before .before .before .before .before in
+loop-again c = let s = c .before .before .before .before .before .before .before .before .before .before in
     let l = c .before .before .before .before .before .before .loop in
     let a = c .before .before .before .before .leaf .ensures .0 in
     let t = c .before .before .before .equates-with .ensures ∙ ap (equatesWith (s .args .z) (s .args .y)) a in
     let o = c .before .before .other-attribute .ensures .0 ∙ ap (λ (b : calculus.Atom). otherAttribute (s .args .z) b .number) a in
-    let e = pairs-next (s .args .words .now) (s .args .leaves) (l .i) (l .left) (omega arith) (equatesWith (s .args .z) (s .args .y)) (s .args .z) (l .column) _ _ t o in
-    let m = length-append (cond (c .before .before .before .equates-with .result) (l .column ∷ c .before .before .other-attribute .result .0 ∷ []) []) (flat pairWords (divisionPairs (s .args .z) (filter (equatesWith (s .args .z) (s .args .y)) (rest (s .args .words .now) (s .args .leaves) (l .i + 1) (l .left - 1))) (l .column + cond (c .before .before .before .equates-with .result) 1 0))) in
-    let k = ap (λ (x : ℕ). flat pairWords (divisionPairs (s .args .z) (filter (equatesWith (s .args .z) (s .args .y)) (rest (s .args .words .now) (s .args .leaves) (l .i + 1) (l .left - 1))) (l .column + x))) (c .once .ensures .0) in (
+    let e = pairs-next (s .args .words .now) false (s .args .leaves .now) (l .i) (l .left) (omega arith) (equatesWith (s .args .z) (s .args .y)) (s .args .z) (l .column) _ _ t o in
+    let m = length-append (cond (c .before .before .before .equates-with .result) (l .column ∷ c .before .before .other-attribute .result .0 ∷ []) []) (flat pairWords (divisionPairs (s .args .z) (filter (equatesWith (s .args .z) (s .args .y)) (rest (s .args .words .now) false (s .args .leaves .now) (l .i + 1) (l .left - 1))) (l .column + cond (c .before .before .before .equates-with .result) 1 0))) in
+    let k = ap (λ (x : ℕ). flat pairWords (divisionPairs (s .args .z) (filter (equatesWith (s .args .z) (s .args .y)) (rest (s .args .words .now) false (s .args .leaves .now) (l .i + 1) (l .left - 1))) (l .column + x))) (c .once .ensures .0) in (
       omega arith,
       omega (arith, c .once .ensures .1),
       omega (arith, l .inv .2, grown-used _ _ (c .before .with-pair-if .ensures), ap length e, ap length k, m),
@@ -94,6 +98,7 @@ division-pairs-spec =
     Inv-loop
     μ-loop
     no-list-requires
+    element-copy-out-left
     loop-holds
     leaf-requires
     equates-with-requires

@@ -1,4 +1,5 @@
-use Rattle.conditions.specs.Leaves.{leafAt, atomsOf}
+use Rattle.relations.specs.Limits.{listWords}
+use Rattle.conditions.specs.Leaves.{leafCount, leafAt, atomsOf}
 use Rattle.calculus.specs.Question as calculus
 use Prim.Native.Nat.{_-_, _+_, _≤_}
 use Rattle.short_rules.proofs.RuleLaws.{rest, triples-next, triples-fit}
@@ -17,29 +18,32 @@ use Rattle.short_rules.proofs.rules.triples_of.Statement.{statement}
 use Rattle.short_rules.proofs.rules.triples_of.Tie as tie
 
 abbrev Inv-loop : tie.InvT-loop
-Inv-loop words scope x leaves list₀ i₀ left₀ list i left = (i + left ≡ leaves .count)
-    × (list .used + length (flat tripleWords (triplesOf (scopeOf scope) x (rest words leaves i left))) ≤ 32)
-    × (grownBy list (flat tripleWords (triplesOf (scopeOf scope) x (rest words leaves i left))) ≡ nodeList (flat tripleWords (triplesOf (scopeOf scope) x (atomsOf words leaves))))
+Inv-loop words scope x leaves opposite list₀ i₀ left₀ list i left = (i + left ≡ leafCount leaves)
+    × (list .used + length (flat tripleWords (triplesOf (scopeOf scope) x (rest words opposite leaves i left))) ≤ listWords)
+    × (grownBy list (flat tripleWords (triplesOf (scopeOf scope) x (rest words opposite leaves i left))) ≡ nodeList (flat tripleWords (triplesOf (scopeOf scope) x (atomsOf words opposite leaves))))
 
 abbrev μ-loop : tie.MeasureT-loop
-μ-loop words scope x leaves list₀ i₀ left₀ list i left = left
+μ-loop words scope x leaves opposite list₀ i₀ left₀ list i left = left
 
 no-list-requires : tie.Need-no-list-requires Inv-loop μ-loop
 no-list-requires c κs = tt
 
+element-copy-out-left : tie.Need-element-copy-out-left Inv-loop μ-loop
+element-copy-out-left c = omega arith
+
 loop-holds : tie.Need-loop-holds Inv-loop μ-loop
-loop-holds c = (omega arith, omega (arith, ap (λ (l : NodeList). l .used) (c .no-list .ensures), triples-fit (scopeOf (c .before .before .args .scope)) (c .before .before .args .x) (atomsOf (c .before .before .args .words .now) (c .before .before .args .leaves)) (c .before .before .pre .2)), grown-list _ (c .no-list .ensures) refl (triples-fit (scopeOf (c .before .before .args .scope)) (c .before .before .args .x) (atomsOf (c .before .before .args .words .now) (c .before .before .args .leaves)) (c .before .before .pre .2)))
+loop-holds c = (omega arith, omega (arith, ap (λ (l : NodeList). l .used) (c .before .no-list .ensures), triples-fit (scopeOf (c .before .before .before .args .scope .now)) (c .before .before .before .args .x) (atomsOf (c .before .before .before .args .words .now) (c .before .before .before .args .opposite) (c .before .before .before .args .leaves .now)) (c .before .before .before .pre .2)), grown-list _ (c .before .no-list .ensures) refl (triples-fit (scopeOf (c .before .before .before .args .scope .now)) (c .before .before .before .args .x) (atomsOf (c .before .before .before .args .words .now) (c .before .before .before .args .opposite) (c .before .before .before .args .leaves .now)) (c .before .before .before .pre .2)))
 
 leaf-requires : tie.Need-leaf-requires Inv-loop μ-loop
-leaf-requires c κs = (c .before .before .before .before .pre .1, omega arith)
+leaf-requires c κs = (c .before .before .before .before .before .pre .1, omega arith)
 
 with-triple-of-requires : tie.Need-with-triple-of-requires Inv-loop μ-loop
-with-triple-of-requires c κs = let s = c .before .before .before .before .before in
+with-triple-of-requires c κs = let s = c .before .before .before .before .before .before in
     let l = c .before .before .loop in
     let words = s .args .words .now in
-    let e = triples-next words (s .args .leaves) (l .i) (l .left) (omega arith) (scopeOf (s .args .scope)) (s .args .x) in
-    let a = ap (λ (b : calculus.Atom). flat tripleWords (triplesOf (scopeOf (s .args .scope)) (s .args .x) (b ∷ []))) (c .leaf .ensures .0) in
-    let m = length-append (flat tripleWords (triplesOf (scopeOf (s .args .scope)) (s .args .x) (leafAt words (s .args .leaves) (l .i) ∷ []))) (flat tripleWords (triplesOf (scopeOf (s .args .scope)) (s .args .x) (rest words (s .args .leaves) (l .i + 1) (l .left - 1)))) in
+    let e = triples-next words (s .args .opposite) (s .args .leaves .now) (l .i) (l .left) (omega arith) (scopeOf (s .args .scope .now)) (s .args .x) in
+    let a = ap (λ (b : calculus.Atom). flat tripleWords (triplesOf (scopeOf (s .args .scope .now)) (s .args .x) (b ∷ []))) (c .leaf .ensures .0) in
+    let m = length-append (flat tripleWords (triplesOf (scopeOf (s .args .scope .now)) (s .args .x) (leafAt words (s .args .opposite) (s .args .leaves .now) (l .i) ∷ []))) (flat tripleWords (triplesOf (scopeOf (s .args .scope .now)) (s .args .x) (rest words (s .args .opposite) (s .args .leaves .now) (l .i + 1) (l .left - 1)))) in
     (s .pre .0, c .leaf .ensures .1, omega (arith, l .inv .1, ap length e, ap length a, m))
 
 add-i : tie.Need-add-i Inv-loop μ-loop
@@ -52,12 +56,12 @@ loop-less : tie.Need-loop-less Inv-loop μ-loop
 loop-less c = omega arith
 
 loop-again : tie.Need-loop-again Inv-loop μ-loop
-loop-again c = let s = c .before .before .before .before .before .before in
+loop-again c = let s = c .before .before .before .before .before .before .before in
     let l = c .before .before .before .loop in
     let words = s .args .words .now in
-    let e = triples-next words (s .args .leaves) (l .i) (l .left) (omega arith) (scopeOf (s .args .scope)) (s .args .x) in
-    let a = ap (λ (b : calculus.Atom). flat tripleWords (triplesOf (scopeOf (s .args .scope)) (s .args .x) (b ∷ []))) (c .before .leaf .ensures .0) in
-    let m = length-append (flat tripleWords (triplesOf (scopeOf (s .args .scope)) (s .args .x) (leafAt words (s .args .leaves) (l .i) ∷ []))) (flat tripleWords (triplesOf (scopeOf (s .args .scope)) (s .args .x) (rest words (s .args .leaves) (l .i + 1) (l .left - 1)))) in (
+    let e = triples-next words (s .args .opposite) (s .args .leaves .now) (l .i) (l .left) (omega arith) (scopeOf (s .args .scope .now)) (s .args .x) in
+    let a = ap (λ (b : calculus.Atom). flat tripleWords (triplesOf (scopeOf (s .args .scope .now)) (s .args .x) (b ∷ []))) (c .before .leaf .ensures .0) in
+    let m = length-append (flat tripleWords (triplesOf (scopeOf (s .args .scope .now)) (s .args .x) (leafAt words (s .args .opposite) (s .args .leaves .now) (l .i) ∷ []))) (flat tripleWords (triplesOf (scopeOf (s .args .scope .now)) (s .args .x) (rest words (s .args .opposite) (s .args .leaves .now) (l .i + 1) (l .left - 1)))) in (
       omega arith,
       omega (arith, l .inv .1, grown-used _ _ (c .with-triple-of .ensures), ap length e, ap length a, m),
       grown-step _ _ _ (c .with-triple-of .ensures ∙ ap (grownBy (l .list)) a) ∙ ap (grownBy (l .list)) (sym e) ∙ l .inv .2,
@@ -75,6 +79,7 @@ triples-of-spec =
     Inv-loop
     μ-loop
     no-list-requires
+    element-copy-out-left
     loop-holds
     leaf-requires
     with-triple-of-requires

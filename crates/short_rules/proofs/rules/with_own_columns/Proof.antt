@@ -1,8 +1,10 @@
+use Rattle.relations.specs.Limits.{listWords}
+use mathlib.Core.Bool.{false}
 use Rattle.short_rules.proofs.RuleLaws.{rest, own-next, own-count}
 use Rattle.emission.proofs.NodeListLaws.{grown-used, grown-step, grown-none}
 use Rattle.emission.specs.NodeLists.{grownBy, numbersOf}
 use Rattle.short_rules.specs.Rules.{links}
-use Rattle.conditions.specs.Leaves.{atomsOf}
+use Rattle.conditions.specs.Leaves.{leafCount, atomsOf}
 use Rattle.calculus.specs.Leaves.{ownAttribute}
 use Rattle.calculus.specs.Question as calculus
 use Rattle.relations.specs.Lists.{filter}
@@ -15,18 +17,21 @@ use Rattle.short_rules.proofs.rules.with_own_columns.Statement.{stateme
 use Rattle.short_rules.proofs.rules.with_own_columns.Tie as tie
 
 abbrev Inv-loop : tie.InvT-loop
-Inv-loop words outside z y leaves longer₀ i₀ left₀ longer i left = (i + left ≡ leaves .count)
-    × (longer .used + length (filter (links outside z y) (rest words leaves i left)) ≤ 32)
-    × (grownBy longer (numbersOf (map (ownAttribute z) (filter (links outside z y) (rest words leaves i left)))) ≡ grownBy longer₀ (numbersOf (map (ownAttribute z) (filter (links outside z y) (atomsOf words leaves)))))
+Inv-loop words outside z y leaves longer₀ i₀ left₀ longer i left = (i + left ≡ leafCount leaves)
+    × (longer .used + length (filter (links outside z y) (rest words false leaves i left)) ≤ listWords)
+    × (grownBy longer (numbersOf (map (ownAttribute z) (filter (links outside z y) (rest words false leaves i left)))) ≡ grownBy longer₀ (numbersOf (map (ownAttribute z) (filter (links outside z y) (atomsOf words false leaves)))))
 
 abbrev μ-loop : tie.MeasureT-loop
 μ-loop words outside z y leaves longer₀ i₀ left₀ longer i left = left
 
+element-copy-out-left : tie.Need-element-copy-out-left Inv-loop μ-loop
+element-copy-out-left c = omega arith
+
 loop-holds : tie.Need-loop-holds Inv-loop μ-loop
-loop-holds c = (omega arith, c .before .pre .1, refl)
+loop-holds c = (omega arith, c .before .before .pre .1, refl)
 
 leaf-requires : tie.Need-leaf-requires Inv-loop μ-loop
-leaf-requires c κs = (c .before .before .before .pre .0, omega arith)
+leaf-requires c κs = (c .before .before .before .before .pre .0, omega arith)
 
 own-attribute-requires : tie.Need-own-attribute-requires Inv-loop μ-loop
 own-attribute-requires c κs = tt
@@ -35,11 +40,11 @@ links-requires : tie.Need-links-requires Inv-loop μ-loop
 links-requires c κs = c .before .leaf .ensures .1
 
 with-word-if-requires : tie.Need-with-word-if-requires Inv-loop μ-loop
-with-word-if-requires c κs = let s = c .before .before .before .before .before .before in
+with-word-if-requires c κs = let s = c .before .before .before .before .before .before .before in
     let l = c .before .before .before .before .loop in
     let a = c .before .before .leaf .ensures .0 in
     let t = c .links .ensures ∙ ap (links (s .args .outside) (s .args .z) (s .args .y)) a in
-    omega (arith, l .inv .1, own-count (s .args .words .now) (s .args .leaves) (l .i) (l .left) (omega arith) (links (s .args .outside) (s .args .z) (s .args .y)) (c .before .own-attribute .result .0) _ t)
+    omega (arith, l .inv .1, own-count (s .args .words .now) false (s .args .leaves .now) (l .i) (l .left) (omega arith) (links (s .args .outside) (s .args .z) (s .args .y)) (c .before .own-attribute .result .0) _ t)
 
 add-i : tie.Need-add-i Inv-loop μ-loop
 add-i c = omega arith
@@ -51,14 +56,14 @@ loop-less : tie.Need-loop-less Inv-loop μ-loop
 loop-less c = omega arith
 
 loop-again : tie.Need-loop-again Inv-loop μ-loop
-loop-again c = let s = c .before .before .before .before .before .before .before in
+loop-again c = let s = c .before .before .before .before .before .before .before .before in
     let l = c .before .before .before .before .before .loop in
     let a = c .before .before .before .leaf .ensures .0 in
     let t = c .before .links .ensures ∙ ap (links (s .args .outside) (s .args .z) (s .args .y)) a in
     let o = c .before .before .own-attribute .ensures ∙ ap (λ (b : calculus.Atom). ownAttribute (s .args .z) b .number) a in (
       omega arith,
-      omega (arith, l .inv .1, grown-used _ _ (c .with-word-if .ensures), own-count (s .args .words .now) (s .args .leaves) (l .i) (l .left) (omega arith) (links (s .args .outside) (s .args .z) (s .args .y)) (c .before .before .own-attribute .result .0) _ t),
-      grown-step _ _ _ (c .with-word-if .ensures) ∙ ap (grownBy (l .longer)) (sym (own-next (s .args .words .now) (s .args .leaves) (l .i) (l .left) (omega arith) (links (s .args .outside) (s .args .z) (s .args .y)) (s .args .z) _ _ t o)) ∙ l .inv .2,
+      omega (arith, l .inv .1, grown-used _ _ (c .with-word-if .ensures), own-count (s .args .words .now) false (s .args .leaves .now) (l .i) (l .left) (omega arith) (links (s .args .outside) (s .args .z) (s .args .y)) (c .before .before .own-attribute .result .0) _ t),
+      grown-step _ _ _ (c .with-word-if .ensures) ∙ ap (grownBy (l .longer)) (sym (own-next (s .args .words .now) false (s .args .leaves .now) (l .i) (l .left) (omega arith) (links (s .args .outside) (s .args .z) (s .args .y)) (s .args .z) _ _ t o)) ∙ l .inv .2,
     )
 
 returns : tie.Need-returns Inv-loop μ-loop
@@ -72,6 +77,7 @@ with-own-columns-spec =
     (tie.spec
     Inv-loop
     μ-loop
+    element-copy-out-left
     loop-holds
     leaf-requires
     own-attribute-requires

@@ -1,3 +1,4 @@
+use Rattle.relations.specs.Limits.{tripleLimit, pairLimit}
 use Rattle.short_rules.proofs.RuleLaws.{own-size, behind-size}
 use Rattle.emission.proofs.WrittenLaws.{written-then, room-after, room-less, last-is, written-as}
 use Rattle.emission.proofs.NodeListLaws.{grown-used, grown-then, grown-list, numbers-append, lists-attributes, names-attributes}
@@ -22,45 +23,45 @@ no-list-requires c κs = tt
 
 with-own-columns-requires : tie.Need-with-own-columns-requires
 with-own-columns-requires c κs = let s = c .before .before .before in
-    let h : length (filter (links true (s .args .z) (s .args .y)) (atomsOf (s .args .words .now) (s .args .leaves))) ≤ 8 = s .pre .few-outside in
-    (s .pre .leaves-fit, omega (arith, h, ap (λ (l : NodeList). l .used) (c .no-list .ensures)))
+    let h : length (filter (links true (s .args .z) (s .args .y)) (atomsOf (s .args .words .now) false (s .args .leaves .now))) ≤ tripleLimit = s .pre .few-outside in
+    (s .pre .rule .leaves-fit, omega (arith, h, ap (λ (l : NodeList). l .used) (c .no-list .ensures)))
 
 with-own-columns-requires-2 : tie.Need-with-own-columns-requires-2
 with-own-columns-requires-2 c κs = let s = c .before .before .before .before in
-    let atoms = atomsOf (s .args .words .now) (s .args .leaves) in
-    let h : length (filter (links true (s .args .z) (s .args .y)) atoms) ≤ 8 = s .pre .few-outside in
-    let k : length (filter (links false (s .args .z) (s .args .y)) atoms) ≤ 8 = s .pre .few-shared in
-    (s .pre .leaves-fit, omega (arith, h, k, ap (λ (l : NodeList). l .used) (c .before .no-list .ensures), grown-used _ _ (c .with-own-columns .ensures), own-size (s .args .z) (filter (links true (s .args .z) (s .args .y)) atoms)))
+    let atoms = atomsOf (s .args .words .now) false (s .args .leaves .now) in
+    let h : length (filter (links true (s .args .z) (s .args .y)) atoms) ≤ tripleLimit = s .pre .few-outside in
+    let k : length (filter (links false (s .args .z) (s .args .y)) atoms) ≤ pairLimit = s .pre .few-shared in
+    (s .pre .rule .leaves-fit, omega (arith, h, k, ap (λ (l : NodeList). l .used) (c .before .no-list .ensures), grown-used _ _ (c .with-own-columns .ensures), own-size (s .args .z) (filter (links true (s .args .z) (s .args .y)) atoms)))
 
 write-own-selects-requires : tie.Need-write-own-selects-requires
 write-own-selects-requires c κs = let s = c .before .before .before .before .before .before in
-    (s .pre .leaves-fit, s .pre .some-columns, s .pre .few-columns, s .pre .some-nodes, room-less _ (s .pre .room) (omega arith))
+    (s .pre .rule .leaves-fit, s .pre .rule .some-columns, s .pre .rule .few-columns, s .pre .rule .some-nodes, room-less _ (s .pre .rule .room) (omega arith))
 
 sub-write-project : tie.Need-sub-write-project
-sub-write-project c = omega (arith, c .before .before .before .before .before .before .before .before .before .pre .some-nodes, c .before .before .write-own-selects .ensures .counted)
+sub-write-project c = omega (arith, c .before .before .before .before .before .before .before .before .before .pre .rule .some-nodes, c .before .before .write-own-selects .ensures .counted)
 
 -- z's attributes, as they stand in the list
-dividend-listed : (c : tie.After-write-own-selects) → c .before .before .with-own-columns2 .result ≡ nodeList (numbersOf (shortRule5Columns (c .before .before .before .before .before .before .before .args .z) (c .before .before .before .before .before .before .before .args .y) (atomsOf (c .before .before .before .before .before .before .before .args .words .now) (c .before .before .before .before .before .before .before .args .leaves))))
+dividend-listed : (c : tie.After-write-own-selects) → c .before .before .with-own-columns2 .result ≡ nodeList (numbersOf (shortRule5Columns (c .before .before .before .before .before .before .before .args .z) (c .before .before .before .before .before .before .before .args .y) (atomsOf (c .before .before .before .before .before .before .before .args .words .now) false (c .before .before .before .before .before .before .before .args .leaves .now))))
 dividend-listed c =
     let s = c .before .before .before .before .before .before .before in
-    let atoms = atomsOf (s .args .words .now) (s .args .leaves) in
+    let atoms = atomsOf (s .args .words .now) false (s .args .leaves .now) in
     let outside = filter (links true (s .args .z) (s .args .y)) atoms in
     let shared = filter (links false (s .args .z) (s .args .y)) atoms in
-    let h : length outside ≤ 8 = s .pre .few-outside in
-    let k : length shared ≤ 8 = s .pre .few-shared in
+    let h : length outside ≤ tripleLimit = s .pre .few-outside in
+    let k : length shared ≤ pairLimit = s .pre .few-shared in
     grown-list _ (c .before .before .before .before .no-list .ensures) (grown-then _ _ _ (c .before .before .before .with-own-columns .ensures) (c .before .before .with-own-columns2 .ensures)) (omega (arith, h, k, length-append (numbersOf (map (ownAttribute (s .args .z)) outside)) (numbersOf (map (ownAttribute (s .args .z)) shared)), own-size (s .args .z) outside, own-size (s .args .z) shared)) ∙ ap nodeList (sym (numbers-append (map (ownAttribute (s .args .z)) outside) (map (ownAttribute (s .args .z)) shared)))
 
 write-project-requires : tie.Need-write-project-requires
 write-project-requires c κs = let s = c .before .before .before .before .before .before .before .before .before .before in
-    let atoms = atomsOf (s .args .words .now) (s .args .leaves) in
-    (lists-attributes (shortRule5Columns (s .args .z) (s .args .y) atoms) (dividend-listed (c .before .before .before)), room-after 1 (s .pre .room) (c .before .before .before .write-own-selects .ensures) (omega (arith, behind-size (s .args .z) (s .args .width) atoms (s .args .n))))
+    let atoms = atomsOf (s .args .words .now) false (s .args .leaves .now) in
+    (lists-attributes (shortRule5Columns (s .args .z) (s .args .y) atoms) (dividend-listed (c .before .before .before)), room-after 1 (s .pre .rule .room) (c .before .before .before .write-own-selects .ensures) (omega (arith, behind-size (s .args .z) (s .args .width) atoms (s .args .n))))
 
 same-length : tie.Need-same-length
-same-length c = c .before .before .write-project .kept .1 .1 .1 .1 .0 ∙ c .before .before .before .before .before .before .write-own-selects .kept .1 .1 .1 .1 .0
+same-length c = c .before .before .write-project .kept .1 .1 .1 .1 .0 ∙ c .before .before .before .before .before .before .write-own-selects .kept .1 .1 .1 .1 .1 .0
 
 returns : tie.Need-returns
 returns c = let s = c .before .before .before .before .before .before .before .before .before .before .before .before .before in
-    let listed = shortRule5Columns (s .args .z) (s .args .y) (atomsOf (s .args .words .now) (s .args .leaves)) in
+    let listed = shortRule5Columns (s .args .z) (s .args .y) (atomsOf (s .args .words .now) false (s .args .leaves .now)) in
     let w = c .before .before .before .before .before .before .write-own-selects .ensures in
     written-then w (written-as (ap₂ (projectNodes true (s .args .width)) (last-is w) (sym (names-attributes listed (dividend-listed (c .before .before .before .before .before .before))))) (c .before .before .write-project .ensures))
 

@@ -28,11 +28,11 @@ same-length c = search needs
 returns : tie.Need-returns
 returns c = let s = c .before .before .before .before .before .before .before in
     let k : s .args .n - 1 ≡ pred (s .args .n) = omega arith in
-    written-as (ap (λ atoms. selectNodes (scopeOf (s .args .own)) atoms (pred (s .args .n)) (s .args .n)) (alone-here (s .args .x) (atomOf (s .args .atom)) (sym (c .before .before .before .before .before .alone-on .ensures) ∙ c .before .before .before .before .if1 .taken)) ∙ ap (λ (p : ℕ). selectNode (scopeOf (s .args .own)) p (atomOf (s .args .atom)) ∷ []) (sym k)) (c .before .before .write-select .ensures)
+    written-as (ap (λ atoms. selectNodes (scopeOf (s .args .own .now)) atoms (pred (s .args .n)) (s .args .n)) (alone-here (s .args .x) (atomOf (s .args .atom)) (sym (c .before .before .before .before .before .alone-on .ensures) ∙ c .before .before .before .before .if1 .taken)) ∙ ap (λ (p : ℕ). selectNode (scopeOf (s .args .own .now)) p (atomOf (s .args .atom)) ∷ []) (sym k)) (c .before .before .write-select .ensures)
 
 returns-2 : tie.Need-returns-2
 returns-2 c = let s = c .before .before .before in
-    written-as (ap (λ atoms. selectNodes (scopeOf (s .args .own)) atoms (pred (s .args .n)) (s .args .n)) (alone-not (s .args .x) (atomOf (s .args .atom)) (sym (c .before .alone-on .ensures) ∙ c .if1 .left))) (written-nothing (s .args .plan .now) (s .args .n))
+    written-as (ap (λ atoms. selectNodes (scopeOf (s .args .own .now)) atoms (pred (s .args .n)) (s .args .n)) (alone-not (s .args .x) (atomOf (s .args .atom)) (sym (c .before .alone-on .ensures) ∙ c .if1 .left))) (written-nothing (s .args .plan .now) (s .args .n))
 
 pub write-if-alone-spec : {M : Type 1} → statement M
 write-if-alone-spec =

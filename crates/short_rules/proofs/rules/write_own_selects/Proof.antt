@@ -1,25 +1,20 @@
 use Rattle.short_rules.proofs.RuleLaws.{own-selects}
 use Rattle.emission.proofs.WrittenLaws.{written-as}
 use Rattle.conditions.proofs.ScopeLaws.{empty-fits}
-use Rattle.conditions.specs.declared.scope.CarriedScope.{CarriedScope}
 use Rattle.conditions.specs.Leaves.{atomsOf}
-use Rattle.conditions.specs.Scopes.{scopeOf, ScopeFits}
 use Rattle.calculus.specs.ShortRules.{selectNodes}
 use Rattle.calculus.specs.Scope as calculus
 use Rattle.calculus.specs.Leaves.{aloneOn}
 use Rattle.relations.specs.Lists.{filter}
-use mathlib.Core.Path.{sym, ap, subst, _∙_}
+use mathlib.Core.Path.{sym, ap, _∙_}
 use Prim.Native.Nat.{pred}
 use native.Mathlib.Omega.{arith}
 use borrow.Author.Needs.{needs}
 use Rattle.short_rules.proofs.rules.write_own_selects.Statement.{statement}
 use Rattle.short_rules.proofs.rules.write_own_selects.Tie as tie
 
-empty-requires : tie.Need-empty-requires
-empty-requires c κs = search needs
-
 extend-requires : tie.Need-extend-requires
-extend-requires c κs = (subst ScopeFits (sym (c .empty .ensures)) empty-fits, c .before .before .before .pre .1, omega (arith, c .before .before .before .pre .2, ap (λ (s : CarriedScope). s .columns) (c .empty .ensures)))
+extend-requires c κs = (empty-fits, c .before .before .before .pre .1, omega (arith, c .before .before .before .pre .2))
 
 write-selects-requires : tie.Need-write-selects-requires
 write-selects-requires c κs = search needs
@@ -28,10 +23,10 @@ same-length : tie.Need-same-length
 same-length c = search needs
 
 returns : tie.Need-returns
-returns c = let s = c .before .before .before .before .before .before .before .before in
-    let e = c .before .before .before .before .extend .ensures .stands ∙ ap (λ (o : CarriedScope). calculus.extend (scopeOf o) (s .args .x) (s .args .width)) (c .before .before .before .before .before .empty .ensures) in
-    written-as (own-selects (s .args .x) (s .args .width) (atomsOf (s .args .words .now) (s .args .leaves)) (s .args .n) ∙ ap (λ (o : calculus.Scope). selectNodes o (filter (aloneOn (s .args .x)) (atomsOf (s .args .words .now) (s .args .leaves))) (pred (s .args .n)) (s .args .n)) (sym e)) (c .before .before .write-selects .ensures)
+returns c = let s = c .before .before .before .before .before .before .before .before .before in
+    let atoms = atomsOf (s .args .words .now) (s .args .opposite) (s .args .leaves .now) in
+    written-as (own-selects (s .args .x) (s .args .width) atoms (s .args .n) ∙ ap (λ (o : calculus.Scope). selectNodes o (filter (aloneOn (s .args .x)) atoms) (pred (s .args .n)) (s .args .n)) (sym (c .before .before .before .before .before .extend .ensures .stands))) (c .before .before .write-selects .ensures)
 
 pub write-own-selects-spec : {M : Type 1} → statement M
 write-own-selects-spec =
-    tie.close (tie.spec empty-requires extend-requires write-selects-requires same-length returns)
+    tie.close (tie.spec extend-requires write-selects-requires same-length returns)

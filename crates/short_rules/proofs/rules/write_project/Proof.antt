@@ -1,3 +1,4 @@
+use Rattle.relations.specs.Limits.{listWords}
 use Rattle.emission.proofs.NodeListLaws.{listed-few}
 use Rattle.emission.proofs.WrittenLaws.{written-nothing, written-as}
 use Rattle.emission.specs.NodeLists.{numbersOf, attributesIn}
@@ -12,7 +13,7 @@ use Rattle.short_rules.proofs.rules.write_project.Tie as tie
 
 short-rule-1-fits-requires : tie.Need-short-rule-1-fits-requires
 short-rule-1-fits-requires c κs =
-    let l : length (c .before .args .attributes .words) ≡ 32 = search needs in
+    let l : length (c .before .args .attributes .words) ≡ listWords = search needs in
     listed-few (numbersOf (attributesIn (c .before .args .attributes))) (c .before .pre .0) l
 
 returns : tie.Need-returns

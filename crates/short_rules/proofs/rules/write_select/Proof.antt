@@ -1,7 +1,7 @@
 use Rattle.emission.proofs.WrittenLaws.{written-as}
 use Rattle.conditions.proofs.AtomLaws.{read}
 use Rattle.conditions.specs.Scopes.{scopeOf}
-use Rattle.conditions.specs.Atoms.{operatorNamed}
+use Rattle.relations.specs.Comparison.{operatorNamed}
 use Rattle.calculus.specs.ShortRules.{selectNode}
 use Rattle.calculus.specs.Question as calculus
 use Rattle.relations.specs.Nodes.{selectConstant, selectAttribute}
@@ -39,7 +39,7 @@ returns c = let s = c .before .before .before .before .before .before .before .b
     let a = s .args .atom in
     let o = operatorNamed (a .operator) in
     written-as
-    (ap (λ (b : calculus.Atom). selectNode (scopeOf (s .args .scope)) (s .args .p) b ∷ []) (read a (c .before .before .before .before .before .before .operand .given .1))
+    (ap (λ (b : calculus.Atom). selectNode (scopeOf (s .args .scope .now)) (s .args .p) b ∷ []) (read a (c .before .before .before .before .before .before .operand .given .1))
     ∙ ap₂ (λ (x y : ℕ). selectAttribute (s .args .p) (attribute x) o (attribute y) ∷ []) (sym (c .before .before .before .before .before .before .before .before .column-of .ensures)) (sym (c .before .before .before .before .column-of2 .ensures)))
     (c .before .before .select .ensures)
 
@@ -51,7 +51,7 @@ returns-2 c = let s = c .before .before .before .before .before .before .before 
     let a = s .args .atom in
     let o = operatorNamed (a .operator) in
     written-as
-    (ap (λ (b : calculus.Atom). selectNode (scopeOf (s .args .scope)) (s .args .p) b ∷ []) (read a (c .before .before .before .before .before .operand2 .given .1))
+    (ap (λ (b : calculus.Atom). selectNode (scopeOf (s .args .scope .now)) (s .args .p) b ∷ []) (read a (c .before .before .before .before .before .operand2 .given .1))
     ∙ ap (λ (x : ℕ). selectConstant (s .args .p) (attribute x) o (constant (c .before .before .before .before .before .operand2 .given .0 .0 .0)) ∷ []) (sym (c .before .before .before .before .before .before .before .column-of .ensures)))
     (c .before .before .select2 .ensures)
 

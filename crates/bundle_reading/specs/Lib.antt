@@ -1,0 +1,2 @@
+pub mod ReadAnswer
+pub mod Answers

@@ -1,0 +1,2 @@
+pub mod WritingSteps
+pub mod Rooms

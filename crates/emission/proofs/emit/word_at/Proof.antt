@@ -1,0 +1,21 @@
+use mathlib.Core.Path.{sym}
+use Rattle.emission.proofs.NodeListLaws.{getD-behind}
+use native.Mathlib.Omega.{arith}
+use borrow.Author.Needs.{needs}
+use Rattle.emission.proofs.emit.word_at.Statement.{statement}
+use Rattle.emission.proofs.emit.word_at.Tie as tie
+
+mul-result : tie.Need-mul-result
+mul-result c = search needs
+
+shared-slice-read-result : tie.Need-shared-slice-read-result
+shared-slice-read-result c = search needs
+
+returns : tie.Need-returns
+returns c = search needs
+
+returns-2 : tie.Need-returns-2
+returns-2 c = sym (getD-behind (c .before .args .list .now) (c .before .args .place) (c .if1 .left))
+
+pub word-at-spec : {M : Type 1} → statement M
+word-at-spec = tie.close (tie.spec mul-result shared-slice-read-result returns returns-2)

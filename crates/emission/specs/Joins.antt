@@ -1,0 +1,40 @@
+-- The node that an operation on two values makes, and what its list must be. Assumes nothing.
+use Prim.Native.Nat.{ℕ, _/_}
+use mathlib.Core.List.{[]}
+use Rattle.relations.specs.Nodes.{Node, join, semijoin, antijoin, divide, unite, intersect, subtract, Operation, operationOfNode, operationNumber}
+use Rattle.relations.specs.PlanWords.{shapeOf}
+use Rattle.emission.specs.NodeLists.{triplesIn, pairsIn, ListsTriples, ListsPairs, nodeList}
+use Rattle.emission.specs.declared.node_list.NodeList.{NodeList}
+use Rattle.emission.specs.declared.emit.Pairing.{Pairing}
+use Rattle.emission.specs.declared.emit.Pairing.the-variants.{Product, Unite, Intersect, Subtract}
+use Rattle.emission.specs.declared.emit.Linking.{Linking}
+use Rattle.emission.specs.declared.emit.Linking.the-variants.{Semijoin, Antijoin, Divide}
+
+abbrev pub paired : Pairing → ℕ → ℕ → Node
+paired Product left right = join left right []
+paired Unite left right = unite left right
+paired Intersect left right = intersect left right
+paired Subtract left right = subtract left right
+
+abbrev pub pairingNumber : Pairing → ℕ
+pairingNumber how = operationNumber (operationOfNode (paired how 0 0))
+
+abbrev pub linked : Linking → ℕ → ℕ → NodeList → Node
+linked Semijoin left right list = semijoin left right (triplesIn list)
+linked Antijoin left right list = antijoin left right (triplesIn list)
+linked Divide left right list = divide left right (pairsIn list)
+
+abbrev pub linkingOperation : Linking → Operation
+linkingOperation how = operationOfNode (linked how 0 0 (nodeList []))
+
+abbrev pub linkingNumber : Linking → ℕ
+linkingNumber how = operationNumber (linkingOperation how)
+
+-- how many are listed in so many words
+abbrev pub linkingCount : Linking → ℕ → ℕ
+linkingCount how used = used / shapeOf (linkingOperation how) .unit
+
+abbrev pub ListsFor : Linking → NodeList → Type 0
+ListsFor Semijoin list = ListsTriples list
+ListsFor Antijoin list = ListsTriples list
+ListsFor Divide list = ListsPairs list

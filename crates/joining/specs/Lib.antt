@@ -1,0 +1,4 @@
+-- In reading order.
+pub mod Bounds
+pub mod Keys
+pub mod Joins

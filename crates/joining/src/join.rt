@@ -1,0 +1,256 @@
+// Operation 5: each left row before each right row that it meets. With no triple this is the product.
+ghost use mathlib.Core.Path.{_≡_};
+ghost use mathlib.Core.Bool.{true};
+ghost use mathlib.Core.List.{[], _∷_, _++_, map};
+ghost use Prim.Native.Nat.{ℕ, _+_, _-_, _*_, _≤_, _<_};
+ghost use lib.ListN.{length};
+ghost use Rattle.relations.specs.Limits.{columnLimit};
+ghost use Rattle.relations.specs.Lists.{filter};
+ghost use Rattle.relations.specs.Columns as meaning;
+ghost use Rattle.relations.specs.Values.{Ascending};
+ghost use Rattle.relations.specs.Operations.{joinCandidates};
+ghost use Rattle.values.specs.Words.{rowIn, rowsAt, rowsOf, end};
+ghost use Rattle.values.specs.Places.{rowsBefore, NoneBehind};
+ghost use Rattle.values.specs.Building.{Builds};
+ghost use Rattle.operations.specs.Lists.{triplesIn};
+ghost use Rattle.joining.specs.Joins.{joined};
+use crate::meeting::failing;
+use crate::partners::partners_at;
+use operations::columns::NO_WORDS;
+use operations::made::pair_row;
+use values::placing::Placed;
+use values::placing::place_row;
+use values::placing::write_row;
+use values::rows::Order;
+use values::rows::Value;
+use values::rows::compare_rows;
+use values::rows::row;
+use values::search::stands_before;
+use values::search::stands_behind;
+
+// Whether the rows that start at `a` and at `b` meet the triples.
+fn rows_meet(
+    list: &[u32],
+    count: usize,
+    work: &[u32],
+    a: usize,
+    width: usize,
+    b: usize,
+    more: usize,
+) -> bool
+    requires { ⌜ count * 3 ≤ length (now list) ⌝ }
+    ensures { λ r. ⌜ r ≡ meaning.meets (triplesIn count (now (list .entry))) (rowIn (now (work .entry)) a width) (rowIn (now (work .entry)) b more) ⌝ }
+{
+    failing(
+        list,
+        count,
+        count,
+        count,
+        row(work, work, true, a, width),
+        row(work, work, true, b, more),
+    )
+        == count
+}
+
+// Whether the row at `a` with the row at `b` behind it stands behind all `made` rows at `out`: it does if it stands behind the last.
+fn comes_last(
+    work: &[u32],
+    a: usize,
+    width: usize,
+    b: usize,
+    more: usize,
+    out: usize,
+    made: usize,
+) -> bool
+    requires { ⌜ (a + width ≤ length (now work)) × (b + more ≤ length (now work)) × (out + made * (width + more) ≤ length (now work)) × Ascending (rowsAt (width + more) made out (now work)) ⌝ }
+    ensures { λ r. ⌜ (r ≡ true → rowsBefore (rowIn (now (work .entry)) a width ++ rowIn (now (work .entry)) b more) (rowsAt (width + more) made out (now (work .entry))) ≡ made) ⌝ }
+{
+    if made == 0 {
+        return true;
+    }
+    let last = out + (made - 1) * (width + more);
+    let first = row(work, work, true, last, width);
+    match compare_rows(first, row(work, work, true, a, width)) {
+        Order::Less => true,
+        Order::Equal => stands_before(work, last + width, more, row(work, work, true, b, more)),
+        Order::Greater => false,
+    }
+}
+
+// The row at `a` with the row at `b` behind it is written behind the rows of the value, all of which it stands behind.
+fn append_pair(
+    work: &mut [u32],
+    a: usize,
+    width: usize,
+    b: usize,
+    more: usize,
+    out: usize,
+    made: usize,
+) -> Placed
+    requires { ⌜ (0 < width) × (a + width ≤ out) × (b + more ≤ out) × (out + made * (width + more) ≤ length (now work)) × Ascending (rowsAt (width + more) made out (now work)) × (rowsBefore (rowIn (now work) a width ++ rowIn (now work) b more) (rowsAt (width + more) made out (now work)) ≡ made) ⌝ }
+    ensures { λ r. ⌜ Builds (width + more) out made ((rowIn (now (work .entry)) a width ++ rowIn (now (work .entry)) b more) ∷ []) (now (work .entry)) (now (work .exit)) r ⌝ }
+{
+    let whole = width + more;
+    let end = out + made * whole;
+    if work.len() - end < whole {
+        return Placed::Full;
+    }
+    let middle = end + width;
+    write_row(&NO_WORDS, work, true, a, width, end);
+    write_row(&NO_WORDS, work, true, b, more, middle);
+    Placed::Rows(made + 1)
+}
+
+// The row at `a` with the row at `b` behind it is put into the value. Rows come in order, so few need a copy aside.
+fn place_pair(
+    work: &mut [u32],
+    a: usize,
+    width: usize,
+    b: usize,
+    more: usize,
+    out: usize,
+    made: usize,
+) -> Placed
+    requires { ⌜ (0 < width) × (width + more ≤ columnLimit) × (a + width ≤ out) × (b + more ≤ out) × (out + made * (width + more) ≤ length (now work)) × Ascending (rowsAt (width + more) made out (now work)) ⌝ }
+    ensures { λ r. ⌜ Builds (width + more) out made ((rowIn (now (work .entry)) a width ++ rowIn (now (work .entry)) b more) ∷ []) (now (work .entry)) (now (work .exit)) r ⌝ }
+{
+    if comes_last(work, a, width, b, more, out, made) {
+        append_pair(work, a, width, b, more, out, made)
+    } else {
+        let pair = pair_row(work, a, width, b, more);
+        place_row(
+            &pair,
+            work,
+            false,
+            0,
+            Value {
+                base: out,
+                rows: made,
+                width: width + more,
+            },
+        )
+    }
+}
+
+// The left row at `a` with the right row at `b` behind it, if they meet, is put into the value of `made` rows at `out`.
+fn join_pair(
+    list: &[u32],
+    count: usize,
+    work: &mut [u32],
+    a: usize,
+    width: usize,
+    b: usize,
+    more: usize,
+    out: usize,
+    made: usize,
+) -> Placed
+    requires { ⌜ (count * 3 ≤ length (now list)) × (0 < width) × (width + more ≤ columnLimit) × (a + width ≤ out) × (b + more ≤ out) × (out + made * (width + more) ≤ length (now work)) × Ascending (rowsAt (width + more) made out (now work)) ⌝ }
+    ensures { λ r. ⌜ Builds (width + more) out made (joined (triplesIn count (now (list .entry))) (rowIn (now (work .entry)) a width) (rowIn (now (work .entry)) b more ∷ [])) (now (work .entry)) (now (work .exit)) r ⌝ }
+{
+    if rows_meet(list, count, work, a, width, b, more) {
+        place_pair(work, a, width, b, more, out, made)
+    } else {
+        Placed::Rows(made)
+    }
+}
+
+// The left row at `a` with each right row from that number on that it meets. The right rows ascend, so the first one that the bound stands before ends them.
+fn join_from(
+    list: &[u32],
+    count: usize,
+    work: &mut [u32],
+    a: usize,
+    width: usize,
+    right: Value,
+    number: usize,
+    high: &[u32],
+    out: usize,
+    made: usize,
+) -> Placed
+    requires { ⌜ (count * 3 ≤ length (now list)) × (0 < width) × (width + right .width ≤ columnLimit) × (a + width ≤ out) × (end right ≤ out) × (out + made * (width + right .width) ≤ length (now work)) × Ascending (rowsAt (width + right .width) made out (now work)) × Ascending (rowsOf right (now work)) × (number ≤ right .rows) × (length (now high) ≤ right .width) × NoneBehind (right .width) (now high) (meaning.meets (triplesIn count (now list)) (rowIn (now work) a width)) ⌝ }
+    ensures { λ r. ⌜ Builds (width + right .width) out made (joined (triplesIn count (now (list .entry))) (rowIn (now (work .entry)) a width) (rowsAt (right .width) (right .rows - number) (right .base + number * right .width) (now (work .entry)))) (now (work .entry)) (now (work .exit)) r ⌝ }
+{
+    let more = right.width;
+    let mut at = right.base + number * more;
+    let mut left = right.rows - number;
+    let mut total = made;
+    while 0 < left {
+        if stands_behind(work, at, high) {
+            return Placed::Rows(total);
+        }
+        match join_pair(list, count, work, a, width, at, more, out, total) {
+            Placed::Rows(rows) => {
+                total = rows;
+            }
+            Placed::Full => {
+                return Placed::Full;
+            }
+        }
+        at += more;
+        left -= 1;
+    }
+    Placed::Rows(total)
+}
+
+// The left row at `a` with each right row that it meets.
+fn join_row(
+    list: &[u32],
+    count: usize,
+    work: &mut [u32],
+    a: usize,
+    width: usize,
+    right: Value,
+    out: usize,
+    made: usize,
+) -> Placed
+    requires { ⌜ (count * 3 ≤ length (now list)) × (0 < width) × (width + right .width ≤ columnLimit) × (a + width ≤ out) × (end right ≤ out) × (out + made * (width + right .width) ≤ length (now work)) × Ascending (rowsAt (width + right .width) made out (now work)) × Ascending (rowsOf right (now work)) ⌝ }
+    ensures { λ r. ⌜ Builds (width + right .width) out made (joined (triplesIn count (now (list .entry))) (rowIn (now (work .entry)) a width) (rowsOf right (now (work .entry)))) (now (work .entry)) (now (work .exit)) r ⌝ }
+{
+    let found = partners_at(list, count, work, a, width, right);
+    let number = found.number;
+    let high = found.high;
+    let highs = high.count;
+    let most = high.words;
+    join_from(
+        list,
+        count,
+        work,
+        a,
+        width,
+        right,
+        number,
+        &most[..highs],
+        out,
+        made,
+    )
+}
+
+pub fn join(
+    list: &[u32],
+    count: usize,
+    work: &mut [u32],
+    left: Value,
+    right: Value,
+    out: usize,
+) -> Placed
+    requires { ⌜ (count * 3 ≤ length (now list)) × (0 < left .width) × (left .width + right .width ≤ columnLimit) × (end left ≤ out) × (end right ≤ out) × (out ≤ length (now work)) × Ascending (rowsOf right (now work)) ⌝ }
+    ensures { λ r. ⌜ Builds (left .width + right .width) out 0 (joinCandidates (triplesIn count (now (list .entry))) (rowsOf left (now (work .entry))) (rowsOf right (now (work .entry)))) (now (work .entry)) (now (work .exit)) r ⌝ }
+{
+    let width = left.width;
+    let mut at = left.base;
+    let mut more = left.rows;
+    let mut made: usize = 0;
+    while 0 < more {
+        match join_row(list, count, work, at, width, right, out, made) {
+            Placed::Rows(rows) => {
+                made = rows;
+            }
+            Placed::Full => {
+                return Placed::Full;
+            }
+        }
+        at += width;
+        more -= 1;
+    }
+    Placed::Rows(made)
+}

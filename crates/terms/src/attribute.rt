@@ -1,0 +1,2 @@
+// A column's number, from 1.
+pub struct Attribute(pub u32);

@@ -1,9 +1,0 @@
-pub mod Marks
-pub mod Writing
-pub mod Reading
-pub mod ReadCall
-pub mod WriteCall
-pub mod RoundTrip
-pub mod FirstWrong
-pub mod Answers
-pub mod Put
