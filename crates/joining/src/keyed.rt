@@ -15,7 +15,7 @@ ghost use Rattle.joining.specs.Keys.{renumbers, wantedRows, Tried};
 use crate::bounds::triple_with;
 use crate::wanted::keep_by_rows;
 use operations::columns::column_of;
-use operations::project::project;
+use ordering::sorted::project;
 use relations::limits::ATTRIBUTES;
 use relations::limits::COLUMNS;
 use terms::attribute::Attribute;
@@ -194,10 +194,7 @@ fn keep_by_key(
                 }
             }
         }
-        Placed::Full => {
-            clear_from(work, out);
-            Placed::Full
-        }
+        Placed::Full => Placed::Full,
     }
 }
 

@@ -32,7 +32,6 @@ first-word list at = getD-drop at list 0 0 ∙ rw add-zero
 pub next-word : (list : List ℕ) (at i : ℕ) → getD (drop at list) i 0 ≡ getD list (at + i) 0
 next-word list at i = getD-drop at list i 0
 
-
 -- the triples that relations reads from a legal plan's words are those that the code reads
 pub triples-read : (count : ℕ) (list : List ℕ) (triples : List Triple) → readTriples count list ≡ some triples → triplesIn count list ≡ triples
 triples-read zero list triples h = cc

@@ -9,6 +9,8 @@ ghost use Rattle.relations.specs.Operations.{loadCandidates, projectCandidates}
 ghost use Rattle.values.specs.Words.{rowsOf, end};
 ghost use Rattle.values.specs.Building.{Blank, Makes};
 ghost use Rattle.ordering.specs.Offering as spec;
+use crate::ascending::ascends;
+use crate::ascending::copy_ascending;
 use crate::taking::take_rows;
 use operations::columns::NO_WORDS;
 use sorting::columns::Picks;
@@ -21,6 +23,9 @@ pub fn load(tables: &[u32], work: &mut [u32], stored: Value, out: usize) -> Plac
     requires { ⌜ (0 < stored .width) × (end stored ≤ length (now tables)) × (out ≤ length (now work)) × Blank out (now work) ⌝ }
     ensures { λ r. ⌜ Makes (stored .width) out (loadCandidates (rowsOf stored (now (tables .entry)))) (now (work .entry)) (now (work .exit)) r ⌝ }
 {
+    if ascends(tables, stored) {
+        return copy_ascending(tables, work, stored, out);
+    }
     let picks = Picks {
         leading: true,
         count: stored.width,
