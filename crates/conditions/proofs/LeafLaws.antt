@@ -20,7 +20,7 @@ use Rattle.relations.proofs.BoolLaws.{and-left, and-right}
 use Rattle.calculus.specs.Question as calculus
 use Rattle.calculus.proofs.SizeTheorem.{leaves-size}
 use Rattle.calculus.specs.Leaves.{leaves, oppositeAtom}
-use Rattle.nodes.specs.Nodes.{kindNamed, fits, operandFits, nodeAt}
+use Rattle.nodes.specs.Nodes.{kindNamed, nodeAt}
 use Rattle.nodes.specs.References.{references}
 use Rattle.question.specs.Trees.{Tree, treeOf, reading, atomOf}
 use Rattle.nodes.specs.declared.node.Operand.{Operand}
@@ -29,7 +29,7 @@ use Rattle.nodes.specs.declared.node.Atom.{Atom}
 use Rattle.nodes.specs.declared.node.Node.{Node}
 use Rattle.nodes.specs.declared.node.Node.the-variants.{Table, Alpha, Target, Binding, RangeOr, RangeAnd, RangeAndNot, Atom as AtomNode, And, Or, Not, Some, Every, IllFormed}
 use Rattle.nodes.proofs.node.Node.{the-type}
-use Rattle.nodes.proofs.Forms.{first-of, second-of, third-of}
+use Rattle.nodes.proofs.Forms.{fits, operandFits, first-of, second-of, third-of}
 use Rattle.question.proofs.TreeLaws.{tree-of-reference}
 use Rattle.conditions.specs.Entries.{entries}
 use Rattle.conditions.specs.Atoms.{OperandNarrow, AtomNarrow}

@@ -8,12 +8,13 @@ use lib.Dec.{ltb}
 use Rattle.relations.proofs.BoolLaws.{and-left, and-right}
 use Rattle.calculus.specs.Question as calculus
 use Rattle.relations.specs.Limits.{variableCount}
-use Rattle.nodes.specs.Nodes.{isRange, isCondition, kindNamed, fits, nodeAt}
+use Rattle.nodes.specs.Kinds.{isRange, isCondition}
+use Rattle.nodes.specs.Nodes.{kindNamed, nodeAt}
 use Rattle.nodes.specs.References.{references}
 use Rattle.question.specs.Trees.{Reading, blank, reading, readingOf, treeOf}
 use Rattle.nodes.specs.declared.node.Node.{Node}
 use Rattle.nodes.specs.declared.node.Node.the-variants.{And, Or, Not, Some, Every}
-use Rattle.nodes.proofs.Forms.{node-fits, lower, second-of, third-of}
+use Rattle.nodes.proofs.Forms.{fits, node-fits, lower, second-of, third-of}
 use Rattle.question.proofs.TreeLaws.{tree-of-reference, tree-of-none}
 use Rattle.conditions.specs.Readings.{Names, readingAt, targetsAt, rangeAt, bindingsAt, restrictionAt, conditionAt}
 

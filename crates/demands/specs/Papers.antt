@@ -1,13 +1,12 @@
 -- Document 01, "Examples; P marks those to prove": P1 to P10 as one table, from the shown text on. Proved in proofs/Papers, by computing `readOutcome` and `answerOutcome`.
 use Prim.Native.Nat.{ℕ, _*_, _/_}
-use Prim.Native.Char.{code}
-use Prim.Native.String.{String, [] as []ˢ, _∷_ as _∷ˢ_}
+use Prim.Native.String.{String}
 use mathlib.Core.Path.{_≡_}
 use mathlib.Core.List.{List, [], _∷_, _++_}
 use lib.ListN.{length, take, replicate}
 use Rattle.relations.specs.Limits.{cataloguePairLimit, wordLimit, questionNodeLimit, questionNodeWords}
 use Rattle.relations.specs.Lists.{All, flat}
-use Rattle.lines.specs.Marks.{lineFeed}
+use Rattle.lines.specs.Marks.{bytesOf, lineFeed}
 use Rattle.bundles.specs.ReadCall.{ReadOutcome, readOutcome}
 use Rattle.translation.specs.TranslateCall.{planBufferWords}
 use Rattle.running.specs.RunCall.{RunNumbers, runRefusal}
@@ -24,11 +23,6 @@ shownLines =
     "node=3 20 1 0 0 0" ∷ "node=1 2 0 0 0 0" ∷ "node=4 20 2 0 0 0" ∷ "node=1 1 0 0 0 0" ∷
     "node=1 0 0 0 0 0" ∷ "node=9 22 1 1 20 1" ∷ "node=9 22 2 1 21 1" ∷ "node=10 6 7 0 0 0" ∷
     "node=13 22 5 8 0 0" ∷ "node=14 21 4 9 0 0" ∷ "node=2 1 3 10 0 0" ∷ []
-
--- the bytes of a line of plain characters
-abbrev pub bytesOf : String → List ℕ
-bytesOf []ˢ = []
-bytesOf (character ∷ˢ others) = code character ∷ bytesOf others
 
 abbrev pub shownText : List ℕ
 shownText = flat (λ shown. bytesOf shown ++ (lineFeed ∷ [])) shownLines

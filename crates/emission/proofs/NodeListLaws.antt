@@ -20,7 +20,7 @@ use Rattle.emission.specs.NodeLists.{padded, nodeList, grownBy, numbersO
 use Rattle.emission.specs.Joins.{pairingNumber, paired, linked, linkingNumber, linkingCount, ListsFor}
 use Rattle.emission.specs.declared.node_list.NodeList.{NodeList}
 use Rattle.emission.specs.declared.emit.Pairing.{Pairing}
-use Rattle.emission.specs.declared.emit.Pairing.the-variants.{Product, Unite, Intersect, Subtract}
+use Rattle.emission.specs.declared.emit.Pairing.the-variants.{Unite, Intersect, Subtract}
 use Rattle.emission.specs.declared.emit.Linking.{Linking}
 use Rattle.emission.specs.declared.emit.Linking.the-variants.{Semijoin, Antijoin, Divide}
 
@@ -143,7 +143,6 @@ getD-behind (word ∷ list) zero h = absurd (omega arith)
 getD-behind (word ∷ list) (suc place) h = getD-behind list place (omega arith)
 
 pub pair-words : (how : Pairing) (left right : ℕ) → pairingNumber how ∷ left ∷ right ∷ 0 ∷ padded (0 ∷ []) ≡ nodeWords (paired how left right)
-pair-words Product left right = refl
 pair-words Unite left right = refl
 pair-words Intersect left right = refl
 pair-words Subtract left right = refl

@@ -1,17 +1,16 @@
 -- The node that an operation on two values makes, and what its list must be. Assumes nothing.
 use Prim.Native.Nat.{ℕ, _/_}
 use mathlib.Core.List.{[]}
-use Rattle.relations.specs.Nodes.{Node, join, semijoin, antijoin, divide, unite, intersect, subtract, Operation, operationOfNode, operationNumber}
+use Rattle.relations.specs.Nodes.{Node, semijoin, antijoin, divide, unite, intersect, subtract, Operation, operationOfNode, operationNumber}
 use Rattle.relations.specs.PlanWords.{shapeOf}
 use Rattle.emission.specs.NodeLists.{triplesIn, pairsIn, ListsTriples, ListsPairs, nodeList}
 use Rattle.emission.specs.declared.node_list.NodeList.{NodeList}
 use Rattle.emission.specs.declared.emit.Pairing.{Pairing}
-use Rattle.emission.specs.declared.emit.Pairing.the-variants.{Product, Unite, Intersect, Subtract}
+use Rattle.emission.specs.declared.emit.Pairing.the-variants.{Unite, Intersect, Subtract}
 use Rattle.emission.specs.declared.emit.Linking.{Linking}
 use Rattle.emission.specs.declared.emit.Linking.the-variants.{Semijoin, Antijoin, Divide}
 
 abbrev pub paired : Pairing → ℕ → ℕ → Node
-paired Product left right = join left right []
 paired Unite left right = unite left right
 paired Intersect left right = intersect left right
 paired Subtract left right = subtract left right

@@ -110,9 +110,16 @@ pub fn select(
     }
 }
 
-// The operations on two values that list nothing. A product is a join with no triples.
+// A join with no triples.
+pub fn product(plan: &mut [u32], n: u32, left: u32, right: u32) -> u32
+    requires { ⌜ Room (now plan) n 1 ⌝ }
+    ensures { λ r. ⌜ Written (now (plan .entry)) n (nodes.join left right [] ∷ []) (now (plan .exit)) r ⌝ }
+{
+    push(plan, n, 5, left, right, 0, &[0u32; 1])
+}
+
+// The operations on two values of one width.
 pub enum Pairing {
-    Product,
     Unite,
     Intersect,
     Subtract,
@@ -122,7 +129,6 @@ fn pairing_number(how: Pairing) -> u32
     ensures { λ r. ⌜ r ≡ pairingNumber how ⌝ }
 {
     match how {
-        Pairing::Product => 5,
         Pairing::Unite => 9,
         Pairing::Intersect => 10,
         Pairing::Subtract => 11,

@@ -10,7 +10,8 @@ use borrow.Author.Tests.{ltb-false, eqb-true, eqb-false, eq-eqb, not-false}
 use Rattle.relations.specs.Limits.{questionNodeLimit}
 use Rattle.relations.proofs.BoolLaws.{true-or-false}
 use Rattle.calculus.specs.Question.{rangeNodes}
-use Rattle.nodes.specs.Nodes.{nodeCount, nodeAt, isRange, isIllFormed}
+use Rattle.nodes.specs.Kinds.{isRange}
+use Rattle.nodes.specs.Nodes.{nodeCount, nodeAt, isIllFormed}
 use Rattle.nodes.specs.References.{referencesTo, seen, firstFrom, lowest, notOnce}
 use Rattle.catalogue.specs.Stored.{relationsOf, columnsOf}
 use Rattle.question.specs.Trees.{treeOf, treeNodes, questionOf}

@@ -19,7 +19,6 @@ use Rattle.calculus.specs.Form.{NotInScope, Known, GoodAtom, GoodTarget, widthO
 use Rattle.calculus.specs.Form as form
 use Rattle.calculus.proofs.ScopeLaws.{targets-width}
 use Rattle.calculus.proofs.LegalColumns.{targets-columns}
-use Rattle.nodes.specs.Nodes.{operandFits, atomFits}
 use Rattle.question.specs.Trees.{Tree, nothing, branch, operandOf, targetOf, atomOf, alphaOf, reading}
 use Rattle.question.specs.Walk.{widthKept, columnsKept, noWidths, addWidths, bind, opening, inside, operandUnboundAt, unboundAt, operandUnfitAt, unfitAt, targetWidthKept, lowestOf, foundAt, walk, Found}
 use Rattle.nodes.specs.declared.node.Operand.{Operand}
@@ -27,7 +26,7 @@ use Rattle.nodes.specs.declared.node.Operand.the-variants.{Of, Fixed}
 use Rattle.nodes.specs.declared.node.Atom.{Atom}
 use Rattle.nodes.specs.declared.node.Node.{Node}
 use Rattle.nodes.specs.declared.node.Node.the-variants.{Table, Alpha, Target, Binding, RangeOr, RangeAnd, RangeAndNot, Atom as AtomNode, And, Or, Not, Some, Every, IllFormed}
-use Rattle.nodes.proofs.Forms.{first-of, second-of, operand-variable, variable-fits}
+use Rattle.nodes.proofs.Forms.{operandFits, atomFits, first-of, second-of, operand-variable, variable-fits}
 use Rattle.judgements.proofs.SortedTrees.{RangeTree, tableTree, alphaTree, orTree, andTree, andNotTree, TargetTree, targetTree, TargetsIfAny, noTarget, moreTargets, BindingTree, bindingTree, BindingsIfAny, noBinding, moreBindings, ConditionTree, atomTree, bothTree, eitherTree, notTree, someTree, everyTree, ConditionIfAny, withoutCondition, withCondition}
 use Rattle.judgements.proofs.ScopesShown.{Shows, shows-empty, fresh, shows-bind}
 use Rattle.judgements.proofs.TreeSizes.{restriction-is}

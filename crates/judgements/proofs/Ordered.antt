@@ -9,14 +9,14 @@ use lib.Dec.{eqb}
 use borrow.Author.Tests.{eqb-true}
 use Rattle.relations.proofs.BoolLaws.{and-left, or-cases}
 use Rattle.calculus.specs.Scope.{Scope}
-use Rattle.nodes.specs.Nodes.{nodeAt, kindNamed, fits}
+use Rattle.nodes.specs.Nodes.{nodeAt, kindNamed}
 use Rattle.nodes.specs.References.{references}
 use Rattle.question.specs.Trees.{Tree, nothing, branch, treeOf}
 use Rattle.nodes.specs.Roles.{roleOf}
 use Rattle.nodes.specs.declared.roles.Role.{Role}
 use Rattle.judgements.specs.Faults.{firstSees, restSee, faultAt}
 use Rattle.nodes.specs.declared.node.Node.{Node}
-use Rattle.nodes.proofs.Forms.{node-fits, node-lower}
+use Rattle.nodes.proofs.Forms.{fits, node-fits, node-lower}
 use Rattle.question.proofs.TreeLaws.{tree-is, tree-of-none}
 
 pub record Fitting (node : Node) : Type 0 where

@@ -10,7 +10,8 @@ use lib.ListN.{getD}
 use borrow.Author.Tests.{leb-false, leb-true, ltb-true, eqb-true, le-leb}
 use Rattle.relations.specs.Limits.{columnLimit, questionNodeLimit, questionNodeWords, variableCount, operatorCount}
 use Rattle.relations.proofs.BoolLaws.{and-left, and-right, or-cases, true-or-false}
-use Rattle.nodes.specs.Nodes.{nodeCount, isTarget, isBinding, isRange, isCondition, kindNamed, operandFits, atomFits, fits, unusedZero, spelled, nodeAt, wordOf, isIllFormed}
+use Rattle.nodes.specs.Kinds.{isTarget, isBinding, isRange, isCondition, fieldsOf, wordsFit}
+use Rattle.nodes.specs.Nodes.{nodeCount, kindNamed, spelled, nodeAt, wordOf, isIllFormed}
 use Rattle.nodes.specs.References.{references}
 use Rattle.question.specs.Trees.{Tree, nothing, branch, treeOf}
 use Rattle.question.specs.Judgement.{isUnknown}
@@ -19,7 +20,7 @@ use Rattle.nodes.specs.declared.node.Operand.the-variants.{Of, Fixed}
 use Rattle.nodes.specs.declared.node.Atom.{Atom}
 use Rattle.nodes.specs.declared.node.Node.{Node}
 use Rattle.nodes.specs.declared.node.Node.the-variants.{Table, Alpha, Target, Binding, RangeOr, RangeAnd, RangeAndNot, Atom as AtomNode, And, Or, Not, Some, Every, IllFormed}
-use Rattle.nodes.proofs.Forms.{node-fits, lower, first-of, second-of, third-of}
+use Rattle.nodes.proofs.Forms.{operandFits, atomFits, fits, node-fits, lower, first-of, second-of, third-of}
 use Rattle.question.proofs.TreeLaws.{tree-is}
 
 -- trees of each sort, whose nodes have numbers below the limit
@@ -115,7 +116,7 @@ kind-kept words i h =
     let kind : ℕ = getD words (i * questionNodeWords) 0 in
     let w : ℕ → ℕ = wordOf words i in
     let node : Node = spelled kind (w 1) (w 2) (w 3) (w 4) (w 5) in
-    formed-kind (unusedZero kind (w 2) (w 3) (w 4) (w 5) && fits (kindNamed words i) node) kind node (spelled-kind kind (w 1) (w 2) (w 3) (w 4) (w 5)) h
+    formed-kind (wordsFit (kindNamed words i) (fieldsOf kind) (w 1) (w 2) (w 3) (w 4) (w 5)) kind node (spelled-kind kind (w 1) (w 2) (w 3) (w 4) (w 5)) h
 
 module _ (relations : ℕ) {tree : Tree} where
   only-range : (kind : ℕ) → isTarget kind ≡ false → isBinding kind ≡ false → isCondition kind ≡ false → RangeTree relations tree → OfKind relations kind tree

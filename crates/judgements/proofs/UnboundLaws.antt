@@ -13,7 +13,7 @@ use Rattle.relations.proofs.BoolLaws.{true-or-false, and-left, and-right}
 use Rattle.calculus.specs.Scope as scopes
 use Rattle.calculus.specs.Scope.{entry, extend}
 use Rattle.calculus.specs.Form.{widthOfRange, scopeOfBindings}
-use Rattle.nodes.specs.Nodes.{operandFits, atomFits, OperandVariableFits}
+use Rattle.nodes.specs.Nodes.{OperandVariableFits}
 use Rattle.nodes.specs.References.{lowest}
 use Rattle.question.specs.Trees.{Tree, nothing, branch, reading}
 use Rattle.nodes.specs.Roles.{roleOf}
@@ -24,7 +24,7 @@ use Rattle.nodes.specs.declared.node.Operand.the-variants.{Of, Fixed}
 use Rattle.nodes.specs.declared.node.Atom.{Atom}
 use Rattle.nodes.specs.declared.node.Node.{Node}
 use Rattle.nodes.specs.declared.node.Node.the-variants.{Table, Alpha, Target, Binding, RangeOr, RangeAnd, RangeAndNot, Atom as AtomNode, And, Or, Not, Some, Every}
-use Rattle.nodes.proofs.Forms.{first-of, operand-variable}
+use Rattle.nodes.proofs.Forms.{operandFits, atomFits, first-of, operand-variable}
 use Rattle.judgements.proofs.SortedTrees.{RangeTree, tableTree, alphaTree, orTree, andTree, andNotTree, TargetTree, targetTree, TargetsIfAny, noTarget, moreTargets, BindingTree, bindingTree, BindingsIfAny, noBinding, moreBindings, ConditionTree, atomTree, bothTree, eitherTree, notTree, someTree, everyTree, ConditionIfAny, withoutCondition, withCondition}
 use Rattle.judgements.proofs.ScopesShown.{bind-length, kept-bound, kept-other}
 use Rattle.judgements.proofs.LowestLaws.{lowest-none, node-lowest}

@@ -19,7 +19,7 @@ use Rattle.calculus.specs.Scope.{entry, extend, columnsIn}
 use Rattle.calculus.specs.Form.{NotInScope, widthOfRange, scopeOfBindings}
 use Rattle.calculus.specs.Form as form
 use Rattle.calculus.proofs.ScopeLaws.{columns-extend}
-use Rattle.nodes.specs.Nodes.{operandFits, atomFits, isTarget}
+use Rattle.nodes.specs.Kinds.{isTarget}
 use Rattle.nodes.specs.References.{lowest}
 use Rattle.question.specs.Trees.{Tree, nothing, branch, targetOf, alphaOf, reading}
 use Rattle.nodes.specs.Roles.{roleOf}
@@ -30,7 +30,7 @@ use Rattle.nodes.specs.declared.node.Operand.the-variants.{Of, Fixed}
 use Rattle.nodes.specs.declared.node.Atom.{Atom}
 use Rattle.nodes.specs.declared.node.Node.{Node}
 use Rattle.nodes.specs.declared.node.Node.the-variants.{Table, Alpha, Target, Binding, RangeOr, RangeAnd, RangeAndNot, Atom as AtomNode, And, Or, Not, Some, Every}
-use Rattle.nodes.proofs.Forms.{first-of, second-of, third-of}
+use Rattle.nodes.proofs.Forms.{operandFits, atomFits, first-of, second-of, third-of}
 use Rattle.judgements.proofs.SortedTrees.{RangeTree, tableTree, alphaTree, orTree, andTree, andNotTree, TargetTree, targetTree, TargetsIfAny, noTarget, moreTargets, BindingTree, bindingTree, BindingsIfAny, noBinding, moreBindings, ConditionTree, atomTree, bothTree, eitherTree, notTree, someTree, everyTree, ConditionIfAny, withoutCondition, withCondition}
 use Rattle.judgements.proofs.ScopesShown.{HasWidth, fresh, width-extend, bind-length, kept-bound, kept-other, columns-bound}
 use Rattle.judgements.proofs.GoodForm.{no-fault}

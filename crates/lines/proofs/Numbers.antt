@@ -9,7 +9,7 @@ use native.Mathlib.Nat.{pow-suc}
 use lib.Dec.{leb, ltb, eqb}
 use borrow.Author.Tests.{ltb-true, ltb-false, leb-true, eqb-true, eqb-false, lt-ltb, le-ltb, le-leb, eq-eqb, ne-eqb}
 use Rattle.relations.specs.Limits.{greatestNumber}
-use Rattle.lines.specs.Marks.{zeroDigit, digit, separator}
+use Rattle.lines.specs.Marks.{lineFeed, space, zeroDigit, digit, separator}
 use Rattle.lines.specs.Writing.{digits, decimal}
 use Rattle.lines.specs.Reading.{Number, value, noNumber, moreDigits, number, endedBy, numberThen}
 use Rattle.relations.proofs.BoolLaws.{and-both, and-left, and-right}
@@ -119,7 +119,7 @@ numberThen-of-decimal end n rest ends bound = rw (number-of-decimal n (end ∷ r
 pub separator-no-digit : (more : ℕ) → digit (separator more) ≡ false
 separator-no-digit more = go (eqb more 0)
   where
-    go : (last : Bool) → digit (cond last 10 32) ≡ false
+    go : (last : Bool) → digit (cond last lineFeed space) ≡ false
     go true = refl
     go false = refl
 

@@ -3,30 +3,29 @@ use Prim.Native.Nat.{ℕ, _*_, _≤_}
 use mathlib.Core.List.{List, [], _∷_, _++_}
 use lib.ListN.{length}
 use Rattle.relations.specs.Limits.{wordLimit}
-use Rattle.lines.specs.Marks.{rowKey}
+use Rattle.lines.specs.Marks.{bytesOf, rowKey}
 use Rattle.lines.specs.Writing.{lineText, linesText}
 
--- status=, place=, nodes=, heavy=, room=, width= and rows=
 abbrev pub statusKey : List ℕ
-statusKey = 115 ∷ 116 ∷ 97 ∷ 116 ∷ 117 ∷ 115 ∷ 61 ∷ []
+statusKey = bytesOf "status="
 
 abbrev pub placeKey : List ℕ
-placeKey = 112 ∷ 108 ∷ 97 ∷ 99 ∷ 101 ∷ 61 ∷ []
+placeKey = bytesOf "place="
 
 abbrev pub nodesKey : List ℕ
-nodesKey = 110 ∷ 111 ∷ 100 ∷ 101 ∷ 115 ∷ 61 ∷ []
+nodesKey = bytesOf "nodes="
 
 abbrev pub heavyKey : List ℕ
-heavyKey = 104 ∷ 101 ∷ 97 ∷ 118 ∷ 121 ∷ 61 ∷ []
+heavyKey = bytesOf "heavy="
 
 abbrev pub roomKey : List ℕ
-roomKey = 114 ∷ 111 ∷ 111 ∷ 109 ∷ 61 ∷ []
+roomKey = bytesOf "room="
 
 abbrev pub widthKey : List ℕ
-widthKey = 119 ∷ 105 ∷ 100 ∷ 116 ∷ 104 ∷ 61 ∷ []
+widthKey = bytesOf "width="
 
 abbrev pub rowsKey : List ℕ
-rowsKey = 114 ∷ 111 ∷ 119 ∷ 115 ∷ 61 ∷ []
+rowsKey = bytesOf "rows="
 
 -- a line of one number
 abbrev pub numberLine : (key : List ℕ) (number : ℕ) → List ℕ

@@ -9,27 +9,111 @@ use lib.Dec.{ltb, leb, eqb}
 use lib.ListN.{getD}
 use borrow.Author.Tests.{ltb-true, leb-true, eqb-true}
 use Rattle.relations.specs.Limits.{columnLimit, questionNodeWords, variableCount, operatorCount}
-use Rattle.relations.proofs.BoolLaws.{and-left, and-right, or-cases, true-or-false}
-use Rattle.nodes.specs.Nodes.{isTarget, isBinding, isRange, isCondition, kindNamed, operandFits, fits, unusedZero, spelled, nodeAt, wordOf, OperandVariableFits, VariableFits}
+use Rattle.relations.proofs.BoolLaws.{and-left, and-right, and-both, or-cases, true-or-false}
+use Rattle.nodes.specs.Kinds.{isTarget, isBinding, isRange, isCondition, fieldsOf, wordsFit}
+use Rattle.nodes.specs.Nodes.{kindNamed, spelled, nodeAt, wordOf, OperandVariableFits, VariableFits}
 use Rattle.nodes.specs.References.{references}
 use Rattle.nodes.proofs.Tests.{named-below}
 use Rattle.nodes.specs.declared.node.Operand.{Operand}
 use Rattle.nodes.specs.declared.node.Operand.the-variants.{Of, Fixed}
+use Rattle.nodes.specs.declared.node.Atom.{Atom}
 use Rattle.nodes.specs.declared.node.Node.{Node}
 use Rattle.nodes.specs.declared.node.Node.the-variants.{Table, Alpha, Target, Binding, RangeOr, RangeAnd, RangeAndNot, Atom as AtomNode, And, Or, Not, Some, Every, IllFormed}
 use Rattle.nodes.specs.declared.references.References.{References}
 
-kept : (test : Node → Bool) (b : Bool) (node : Node) → test IllFormed ≡ true → test (cond (b && test node) node IllFormed) ≡ true
-kept test true node h = ⊎-elim (λ (e : test node ≡ true). rw (e, e)) (λ (e : test node ≡ false). rw (e, h)) (true-or-false (test node))
-kept test false node h = h
+-- the table of kinds, said of a decoded node
+abbrev pub operandFits : Operand → Bool
+operandFits (Of variable attribute) = ltb variable variableCount && leb 1 (attribute .0) && leb (attribute .0) columnLimit
+operandFits (Fixed constant) = true
+
+abbrev pub atomFits : Atom → Bool
+atomFits atom =
+    ltb (atom .variable) variableCount && leb 1 (atom .attribute .0) && leb (atom .attribute .0) columnLimit && leb 1 (atom .operator) && leb (atom .operator) operatorCount && operandFits (atom .operand)
+
+module _ (kind : ℕ → ℕ) where
+  abbrev pub quantifierFits : (variable range condition : ℕ) → Bool
+  quantifierFits variable range condition = ltb variable variableCount && isRange (kind range) && isCondition (kind condition)
+
+  abbrev pub fits : Node → Bool
+  fits (Table relation) = true
+  fits (Alpha target binding condition) = isTarget (kind target) && isBinding (kind binding) && (eqb condition 0 || isCondition (kind condition))
+  fits (Target variable attribute next) = ltb variable variableCount && leb attribute columnLimit && (eqb next 0 || isTarget (kind next))
+  fits (Binding variable range next) = ltb variable variableCount && isRange (kind range) && (eqb next 0 || isBinding (kind next))
+  fits (RangeOr left right) = isRange (kind left) && isRange (kind right)
+  fits (RangeAnd left right) = isRange (kind left) && isRange (kind right)
+  fits (RangeAndNot left right) = isRange (kind left) && isRange (kind right)
+  fits (AtomNode atom) = atomFits atom
+  fits (And left right) = isCondition (kind left) && isCondition (kind right)
+  fits (Or left right) = isCondition (kind left) && isCondition (kind right)
+  fits (Not inner) = isCondition (kind inner)
+  fits (Some variable range condition) = quantifierFits variable range condition
+  fits (Every variable range condition) = quantifierFits variable range condition
+  fits IllFormed = true
+
+-- the five tests of an atom, in the order of its words
+atom-tests : (v a b p q o : Bool) → (v && (a && b) && (p && q) && o) ≡ true → (v && a && b && p && q && o) ≡ true
+atom-tests v a b p q o h =
+    let left : (v && (a && b) && (p && q)) ≡ true = and-left (v && (a && b) && (p && q)) o h in
+    let x : (v && (a && b)) ≡ true = and-left (v && (a && b)) (p && q) left in
+    let y : (p && q) ≡ true = and-right (v && (a && b)) (p && q) left in
+    let z : (a && b) ≡ true = and-right v (a && b) x in
+    and-both (v && a && b && p && q) o
+    (and-both (v && a && b && p) q (and-both (v && a && b) p (and-both (v && a) b (and-both v a (and-left v (a && b) x) (and-left a b z)) (and-right a b z)) (and-left p q y)) (and-right p q y))
+    (and-right (v && (a && b) && (p && q)) o h)
+
+operand-tests : (l v a b : Bool) → (l && v && (a && b)) ≡ true → (l && (v && a && b)) ≡ true
+operand-tests l v a b h =
+    let x : (l && v) ≡ true = and-left (l && v) (a && b) h in
+    let z : (a && b) ≡ true = and-right (l && v) (a && b) h in
+    and-both l (v && a && b) (and-left l v x) (and-both (v && a) b (and-both v a (and-right l v x) (and-left a b z)) (and-right a b z))
+
+module _ (kind : ℕ → ℕ) (a b c d e : ℕ) where
+  -- words that the table lets stand spell a node that fits
+  FitsAt : ℕ → Type 0
+  FitsAt k = wordsFit kind (fieldsOf k) a b c d e ≡ true → fits kind (spelled k a b c d e) ≡ true
+
+  fits-if : (k n : ℕ) → FitsAt n → (eqb k n ≡ false → FitsAt k) → FitsAt k
+  fits-if k n here else = ⊎-elim (λ (t : eqb k n ≡ true). rw (eqb-true k n t) here) else (true-or-false (eqb k n))
+
+  three-words : (x y z : Bool) → (x && y && z && eqb d 0 && eqb e 0) ≡ true → (x && y && z) ≡ true
+  three-words x y z h = and-left (x && y && z) (eqb d 0) (and-left (x && y && z && eqb d 0) (eqb e 0) h)
+
+  two-words : (x y : Bool) → (x && y && eqb c 0 && eqb d 0 && eqb e 0) ≡ true → (x && y) ≡ true
+  two-words x y h = and-left (x && y) (eqb c 0) (three-words x y (eqb c 0) h)
+
+  one-word : (x : Bool) → (x && eqb b 0 && eqb c 0 && eqb d 0 && eqb e 0) ≡ true → x ≡ true
+  one-word x h = and-left x (eqb b 0) (two-words x (eqb b 0) h)
+
+  fits-spelled : (k : ℕ) → FitsAt k
+  unfolding FitsAt fieldsOf spelled
+  fits-spelled k =
+      fits-if k 1 (λ h. refl) λ n1.
+      fits-if k 2 (λ h. three-words (isTarget (kind a)) (isBinding (kind b)) (eqb c 0 || isCondition (kind c)) h) λ n2.
+      fits-if k 3 (λ h. three-words (ltb a variableCount) (leb b columnLimit) (eqb c 0 || isTarget (kind c)) h) λ n3.
+      fits-if k 4 (λ h. three-words (ltb a variableCount) (isRange (kind b)) (eqb c 0 || isBinding (kind c)) h) λ n4.
+      fits-if k 5 (λ h. two-words (isRange (kind a)) (isRange (kind b)) h) λ n5.
+      fits-if k 6 (λ h. two-words (isRange (kind a)) (isRange (kind b)) h) λ n6.
+      fits-if k 7 (λ h. two-words (isRange (kind a)) (isRange (kind b)) h) λ n7.
+      fits-if k 8 (λ h. atom-tests (ltb a variableCount) (leb 1 b) (leb b columnLimit) (leb 1 c) (leb c operatorCount) true (and-left (ltb a variableCount && (leb 1 b && leb b columnLimit) && (leb 1 c && leb c operatorCount) && true) (eqb e 0) h)) λ n8.
+      fits-if k 9 (λ h. atom-tests (ltb a variableCount) (leb 1 b) (leb b columnLimit) (leb 1 c) (leb c operatorCount) (ltb d variableCount && leb 1 e && leb e columnLimit) (operand-tests (ltb a variableCount && (leb 1 b && leb b columnLimit) && (leb 1 c && leb c operatorCount)) (ltb d variableCount) (leb 1 e) (leb e columnLimit) h)) λ n9.
+      fits-if k 10 (λ h. two-words (isCondition (kind a)) (isCondition (kind b)) h) λ n10.
+      fits-if k 11 (λ h. two-words (isCondition (kind a)) (isCondition (kind b)) h) λ n11.
+      fits-if k 12 (λ h. one-word (isCondition (kind a)) h) λ n12.
+      fits-if k 13 (λ h. three-words (ltb a variableCount) (isRange (kind b)) (isCondition (kind c)) h) λ n13.
+      fits-if k 14 (λ h. three-words (ltb a variableCount) (isRange (kind b)) (isCondition (kind c)) h) λ n14 h.
+      rw (n1, n2, n3, n4, n5, n6, n7, n8, n9, n10, n11, n12, n13, n14)
+
+kept : (test : Bool) (kind : ℕ → ℕ) (node : Node) → (test ≡ true → fits kind node ≡ true) → fits kind (cond test node IllFormed) ≡ true
+kept true kind node h = h refl
+kept false kind node h = refl
 
 -- every node of a table fits
 pub node-fits : (words : List ℕ) (i : ℕ) → fits (kindNamed words i) (nodeAt words i) ≡ true
-unfolding nodeAt
+unfolding nodeAt FitsAt
 node-fits words i =
-    let kind : ℕ = getD words (i * questionNodeWords) 0 in
+    let k : ℕ = getD words (i * questionNodeWords) 0 in
     let w : ℕ → ℕ = wordOf words i in
-    kept (fits (kindNamed words i)) (unusedZero kind (w 2) (w 3) (w 4) (w 5)) (spelled kind (w 1) (w 2) (w 3) (w 4) (w 5)) refl
+    kept (wordsFit (kindNamed words i) (fieldsOf k) (w 1) (w 2) (w 3) (w 4) (w 5)) (kindNamed words i) (spelled k (w 1) (w 2) (w 3) (w 4) (w 5)) (fits-spelled (kindNamed words i) (w 1) (w 2) (w 3) (w 4) (w 5) k)
 
 -- a reference that names a sort is of a lower node
 pub lower : (words : List ℕ) (i reference : ℕ) (sort : ℕ → Bool) → sort 0 ≡ false → sort (kindNamed words i reference) ≡ true → (1 ≤ reference) × (reference ≤ i)

@@ -1,16 +1,16 @@
 -- Document 01, "The question": the node that six words spell, and its form (refusal 2). Assumes nothing.
 use Prim.Native.Nat.{ℕ, _+_, _*_, _-_, _/_, _<_}
 use mathlib.Core.List.{List}
-use mathlib.Core.Bool.{Bool, true, false, cond, _&&_, _||_}
+use mathlib.Core.Bool.{Bool, true, false, cond, _&&_}
 use lib.ListN.{getD, length}
-use lib.Dec.{ltb, leb, eqb}
-use Rattle.relations.specs.Limits.{columnLimit, questionNodeWords, variableCount, operatorCount}
+use lib.Dec.{leb, eqb}
+use Rattle.relations.specs.Limits.{questionNodeWords, variableCount}
+use Rattle.nodes.specs.Kinds.{fieldsOf, wordsFit}
 use Rattle.nodes.specs.Roles.{roleOf}
 use Rattle.nodes.specs.declared.roles.Role.{Role}
 use Rattle.nodes.specs.declared.roles.Role.the-variants.{Stored, Opens, Takes, Binds, Sides, Compares, Joins}
 use Rattle.nodes.specs.declared.node.Operand.{Operand}
 use Rattle.nodes.specs.declared.node.Operand.the-variants.{Of, Fixed}
-use Rattle.nodes.specs.declared.node.Atom.{Atom}
 use Rattle.nodes.specs.declared.node.Node.{Node}
 use Rattle.nodes.specs.declared.node.Node.the-variants.{Table, Alpha, Target, Binding, RangeOr, RangeAnd, RangeAndNot, Atom as AtomNode, And, Or, Not, Some, Every, IllFormed}
 
@@ -18,38 +18,12 @@ use Rattle.nodes.specs.declared.node.Node.the-variants.{Table, Alpha, Ta
 abbrev pub nodeCount : List ℕ → ℕ
 nodeCount words = length words / questionNodeWords
 
--- the sorts of nodes, by their kinds: "A range is kind 1, 2, 5, 6 or 7; a condition 8 to 14."
-abbrev pub isTarget : ℕ → Bool
-isTarget kind = eqb kind 3
-
-abbrev pub isBinding : ℕ → Bool
-isBinding kind = eqb kind 4
-
-abbrev pub isRange : ℕ → Bool
-isRange kind = eqb kind 1 || eqb kind 2 || (leb 5 kind && leb kind 7)
-
-abbrev pub isCondition : ℕ → Bool
-isCondition kind = leb 8 kind && leb kind 14
-
 -- "A reference is node number plus one and points to a lower node": the kind of the node that a reference of node i names, or 0, which is no kind
 unfoldable pub kindNamed : List ℕ → ℕ → ℕ → ℕ
 kindNamed words i reference =
     cond (leb 1 reference && leb reference i) (getD words ((reference - 1) * questionNodeWords) 0) 0
 
--- the table of kinds: how many of the words a to e have a meaning
-unfoldable pub usedWords : ℕ → ℕ
-usedWords kind =
-    cond (eqb kind 1 || eqb kind 12) 1
-    (cond (leb 5 kind && leb kind 7 || eqb kind 10 || eqb kind 11) 2
-    (cond (eqb kind 8) 4
-    (cond (eqb kind 9) 5 3)))
-
--- "Unused words are 0."
-abbrev pub unusedZero : (kind b c d e : ℕ) → Bool
-unusedZero kind b c d e =
-    (leb 2 (usedWords kind) || eqb b 0) && (leb 3 (usedWords kind) || eqb c 0) && (leb 4 (usedWords kind) || eqb d 0) && (leb 5 (usedWords kind) || eqb e 0)
-
--- the table of kinds: which field each word is
+-- the table of kinds: the node that the words of a kind spell
 unfoldable pub spelled : (kind a b c d e : ℕ) → Node
 spelled kind a b c d e =
     cond (eqb kind 1) (Table a)
@@ -68,37 +42,6 @@ spelled kind a b c d e =
     (cond (eqb kind 14) (Every a b c)
     IllFormed)))))))))))))
 
--- "Variables are 0 to 25, attributes 1 to 32. Operators: 1 .. 6"
-abbrev pub operandFits : Operand → Bool
-operandFits (Of variable attribute) = ltb variable variableCount && leb 1 (attribute .0) && leb (attribute .0) columnLimit
-operandFits (Fixed constant) = true
-
-abbrev pub atomFits : Atom → Bool
-atomFits atom =
-    ltb (atom .variable) variableCount && leb 1 (atom .attribute .0) && leb (atom .attribute .0) columnLimit && leb 1 (atom .operator) && leb (atom .operator) operatorCount && operandFits (atom .operand)
-
--- a node's fields are within their bounds, where `kind` says what each reference names: "Each reference names a node of its field's sort",
--- and "0 means none, only where marked ?"
-module _ (kind : ℕ → ℕ) where
-  abbrev pub quantifierFits : (variable range condition : ℕ) → Bool
-  quantifierFits variable range condition = ltb variable variableCount && isRange (kind range) && isCondition (kind condition)
-
-  abbrev pub fits : Node → Bool
-  fits (Table relation) = true
-  fits (Alpha target binding condition) = isTarget (kind target) && isBinding (kind binding) && (eqb condition 0 || isCondition (kind condition))
-  fits (Target variable attribute next) = ltb variable variableCount && leb attribute columnLimit && (eqb next 0 || isTarget (kind next))
-  fits (Binding variable range next) = ltb variable variableCount && isRange (kind range) && (eqb next 0 || isBinding (kind next))
-  fits (RangeOr left right) = isRange (kind left) && isRange (kind right)
-  fits (RangeAnd left right) = isRange (kind left) && isRange (kind right)
-  fits (RangeAndNot left right) = isRange (kind left) && isRange (kind right)
-  fits (AtomNode atom) = atomFits atom
-  fits (And left right) = isCondition (kind left) && isCondition (kind right)
-  fits (Or left right) = isCondition (kind left) && isCondition (kind right)
-  fits (Not inner) = isCondition (kind inner)
-  fits (Some variable range condition) = quantifierFits variable range condition
-  fits (Every variable range condition) = quantifierFits variable range condition
-  fits IllFormed = true
-
 -- word j of node i
 abbrev pub wordOf : List ℕ → ℕ → ℕ → ℕ
 wordOf words i j = getD words (i * questionNodeWords + j) 0
@@ -106,7 +49,7 @@ wordOf words i j = getD words (i * questionNodeWords + j) 0
 -- the node that six words spell, at node i
 abbrev pub formed : List ℕ → ℕ → (kind a b c d e : ℕ) → Node
 formed words i kind a b c d e =
-    cond (unusedZero kind b c d e && fits (kindNamed words i) (spelled kind a b c d e)) (spelled kind a b c d e) IllFormed
+    cond (wordsFit (kindNamed words i) (fieldsOf kind) a b c d e) (spelled kind a b c d e) IllFormed
 
 -- node i of the table
 unfoldable pub nodeAt : List ℕ → ℕ → Node

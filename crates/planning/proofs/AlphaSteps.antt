@@ -4,35 +4,31 @@ use mathlib.Core.Path.{_≡_, sym, ap, subst, _∙_}
 use mathlib.Core.Bool.{Bool}
 use mathlib.Core.List.{List, [], _∷_}
 use native.Mathlib.Omega.{arith}
-use lib.ListN.{length, length-map}
+use lib.ListN.{length}
 use Rattle.relations.specs.Columns.{Attribute}
-use Rattle.relations.specs.Limits.{columnLimit, listWords}
+use Rattle.relations.specs.Limits.{columnLimit}
 use Rattle.relations.specs.Lists.{All, flat}
 use Rattle.calculus.specs.Question.{Target, Range, table, alpha, Bindings, noMore, MaybeCondition, rangeNodes, bindingNodes, maybeNodes}
 use Rattle.calculus.specs.Scope as scopes
-use Rattle.calculus.specs.Scope.{entry, columnsIn, extend, targetColumns}
+use Rattle.calculus.specs.Scope.{entry, columnsIn, targetColumns}
 use Rattle.calculus.specs.Form.{GoodTarget, targetsWidth, widthOfRange, scopeOfBindings, alphaScope, GoodRange, GoodBindings, GoodMaybe}
 use Rattle.calculus.specs.ShortRules.{projectNodes}
-use Rattle.calculus.specs.Translation.{translateRange, translateBindings, translateMaybe}
+use Rattle.calculus.specs.Translation.{itself, translateRange, translateBindings, translateMaybe}
 use Rattle.calculus.proofs.ScopeLaws.{targets-width}
 use Rattle.calculus.proofs.SizeTheorem.{range-size, bindings-size, maybe-size}
 use Rattle.catalogue.specs.Stored.{relationsOf, columnsOf}
 use Rattle.nodes.specs.Nodes.{nodeAt}
 use Rattle.question.specs.Trees.{alphaOf}
 use Rattle.nodes.specs.declared.node.Node.the-variants.{Binding}
-use Rattle.emission.specs.NodeLists.{nodeList, grownBy, numbersOf, attributesIn, ListsAttributes}
 use Rattle.conditions.specs.Readings.{Inside, Names, rangeAt, targetsAt, bindingsAt, restrictionAt}
 use Rattle.conditions.specs.Scopes.{noVariables, scopeOf, ScopeFits, Extended}
-use Rattle.planning.specs.Translating.{RangeReady, RangeDone, BindingsReady, BindingsDone, ConditionReady}
+use Rattle.planning.specs.Translating.{translateWanted, RangeReady, RangeDone, BindingsReady, BindingsDone, ConditionReady, TargetsReady, TargetsDone}
 use Rattle.emission.specs.Written.{Room, Written}
-use Rattle.emission.specs.declared.node_list.NodeList.{NodeList}
-use Rattle.conditions.specs.declared.scope.CarriedScope.{CarriedScope}
-use Rattle.planning.specs.declared.translate.Bound.{Bound}
 use Rattle.planning.specs.declared.translate.MadeRange.{MadeRange}
 use Rattle.planning.proofs.BindingSteps.{Chain, chain}
 use Rattle.planning.proofs.RangeSteps.{lower-call, range-wide}
+use Rattle.planning.proofs.ConditionSteps.{wanted-maybe}
 use Rattle.conditions.proofs.ScopeLaws.{empty-fits}
-use Rattle.emission.proofs.NodeListLaws.{grown-used, grown-list, names-attributes, lists-attributes}
 use Rattle.emission.proofs.WrittenLaws.{room-after, room-less, written-as, going-on}
 
 -- what an alpha was asked with, read by its first binding
@@ -91,17 +87,16 @@ module _ {catalogue words plan : List ℕ} {t n target binding condition variabl
   call-first =
       lower-call words (omega (arith, asked .measure)) (asked .link .named, asked .binding-inside) (asked .link .range-below) (record { good = good .0; stored = asked .ready .stored; room = room-less _ (asked .ready .room) (omega (arith, size)) })
 
-  module _ {short : Bool} {middle : List ℕ} {made : MadeRange} (r : RangeDone catalogue short plan first n middle made) {none : CarriedScope} (empty : none ≡ noVariables) where
-    pub scope-starts : ScopeFits none × (1 ≤ made .width) × (none .columns + made .width ≤ columnLimit)
-    scope-starts =
-        (subst ScopeFits (sym empty) empty-fits, omega (arith, r .width, range-wide catalogue (asked .ready .stored) first (good .0)), omega (arith, ap (λ (scope : CarriedScope). scope .columns) empty, r .width, good .4))
+  module _ {short : Bool} {middle : List ℕ} {made : MadeRange} (r : RangeDone catalogue short plan first n middle made) where
+    pub scope-starts : ScopeFits noVariables × (1 ≤ made .width) × (columnsIn (scopeOf noVariables) + made .width ≤ columnLimit)
+    scope-starts = (empty-fits, omega (arith, r .width, range-wide catalogue (asked .ready .stored) first (good .0)), omega (arith, r .width, good .4))
 
     room-first : Room middle (made .count) (4 * bindingNodes rest + 4 * maybeNodes restriction + 1)
     room-first = room-after _ (asked .ready .room) (r .written) (omega (arith, size, range-size columns short first n))
 
-    module _ {own : CarriedScope} (grown : Extended none variable (made .width) own) where
+    module _ {own : List ℕ} (grown : Extended noVariables variable (made .width) own) where
       own-stands : scopeOf own ≡ entry variable (widthOfRange columns first) ∷ []
-      own-stands = grown .stands ∙ ap (λ (scope : CarriedScope). extend (scopeOf scope) variable (made .width)) empty ∙ ap (λ (width : ℕ). entry variable width ∷ []) (r .width)
+      own-stands = grown .stands ∙ ap (λ (width : ℕ). entry variable width ∷ []) (r .width)
 
       pub call-rest : (2 * next < t) × (Inside words next × BindingsReady catalogue middle rest own (made .count))
       call-rest = (
@@ -118,17 +113,17 @@ module _ {catalogue words plan : List ℕ} {t n target binding condition variabl
         ),
       )
 
-      module _ {later : List ℕ} {bound : Bound} (d : BindingsDone catalogue short middle rest own (made .count - 1) (made .count) later bound) where
-        stands : scopeOf (bound .scope) ≡ inner
+      module _ {later scope : List ℕ} {joined : ℕ} (d : BindingsDone catalogue short middle rest own (made .count - 1) (made .count) later scope joined) where
+        stands : scopeOf scope ≡ inner
         stands = d .stands ∙ ap (scopeOfBindings columns rest) own-stands
 
-        pub some-joined : 1 ≤ bound .count
+        pub some-joined : 1 ≤ joined
         some-joined = omega (arith, r .more, d .written .counted)
 
-        room-joined : Room later (bound .count) (4 * maybeNodes restriction + 1)
+        room-joined : Room later joined (4 * maybeNodes restriction + 1)
         room-joined = room-after _ room-first (d .written) (omega (arith, bindings-size columns short rest (made .count - 1) (made .count)))
 
-        pub call-condition : (2 * condition < t) × (Inside words condition × ConditionReady catalogue later restriction (bound .scope) (bound .count))
+        pub call-condition : (2 * condition < t) × (Inside words condition × ConditionReady catalogue later itself restriction scope joined)
         call-condition = (
           omega (arith, asked .measure),
           (
@@ -143,44 +138,35 @@ module _ {catalogue words plan : List ℕ} {t n target binding condition variabl
           ),
         )
 
-        module _ {last : List ℕ} {kept : ℕ} (k : Written later (bound .count) (translateMaybe columns short restriction (scopeOf (bound .scope)) (bound .count - 1) (bound .count)) last kept) where
-          pub some-kept : 1 ≤ kept
-          some-kept = omega (arith, some-joined, k .counted)
+        abbrev listed : List Attribute
+        listed = flat (targetColumns (scopeOf scope)) targets
 
-          module _ {nothing : NodeList} (unused : nothing ≡ nodeList []) where
-            abbrev listed : List Attribute
-            listed = flat (targetColumns (scopeOf (bound .scope))) targets
+        listed-size : length listed ≡ targetsWidth inner targets
+        listed-size = targets-width (scopeOf scope) targets ∙ ap (λ (s : scopes.Scope). targetsWidth s targets) stands
 
-            listed-size : length listed ≡ targetsWidth inner targets
-            listed-size = targets-width (scopeOf (bound .scope)) targets ∙ ap (λ (s : scopes.Scope). targetsWidth s targets) stands
+        module _ {last : List ℕ} {kept : ℕ} (k : Written later joined (translateWanted columns short itself restriction (scopeOf scope) (joined - 1) joined) last kept) where
+          met : Written later joined (translateMaybe columns short restriction (scopeOf scope) (joined - 1) joined) last kept
+          met = written-as (wanted-maybe columns short restriction (scopeOf scope) (joined - 1) joined) k
 
-            pub list-targets : Inside words target × ScopeFits (bound .scope) × All (GoodTarget (scopeOf (bound .scope))) targets × (nothing .used + length listed ≤ listWords)
-            list-targets =
-                (asked .target-inside, d .fits, subst (λ (s : scopes.Scope). All (GoodTarget s) targets) (sym stands) (good .3), omega (arith, ap (λ (list : NodeList). list .used) unused, listed-size, good .6))
+          pub call-targets : TargetsReady words target scope × (1 ≤ kept) × Room last kept 1
+          call-targets = (
+            record { inside = asked .target-inside; fits = d .fits; good = subst (λ (s : scopes.Scope). All (GoodTarget s) targets) (sym stands) (good .3); few = omega (arith, listed-size, good .6) },
+            omega (arith, some-joined, k .counted),
+            room-after 1 room-joined met (omega (arith, maybe-size columns short restriction (scopeOf scope) (joined - 1) joined)),
+          )
 
-            module _ {list : NodeList} (grows : list ≡ grownBy nothing (numbersOf listed)) where
-              list-size : list .used ≡ targetsWidth inner targets
-              list-size = omega (arith, grown-used _ _ grows, ap (λ (l : NodeList). l .used) unused, length-map listed (λ (a : Attribute). a .number), listed-size)
-
-              listed-is : list ≡ nodeList (numbersOf listed)
-              listed-is = grown-list (numbersOf listed) unused grows (omega (arith, length-map listed (λ (a : Attribute). a .number), listed-size, good .6))
-
-              pub room-project : ListsAttributes list × Room last kept 1
-              room-project =
-                  (lists-attributes listed listed-is, room-after 1 room-joined k (omega (arith, maybe-size columns short restriction (scopeOf (bound .scope)) (bound .count - 1) (bound .count))))
-
-              pub alpha-done : {after : List ℕ} {count : ℕ} → Written last kept (projectNodes short (bound .scope .columns) (kept - 1) (attributesIn list)) after count → RangeDone catalogue short plan (alphaOf targets (bindingsAt words binding) restriction) n after (record { count = count; width = list .used })
-              unfolding translateRange widthOfRange
-              alpha-done {after} {count} w =
-                  let e : projectNodes short (columnsIn inner) (kept - 1) (flat (targetColumns inner) targets) ≡ projectNodes short (bound .scope .columns) (kept - 1) (attributesIn list) =
-                  ap (λ (s : scopes.Scope). projectNodes short (columnsIn s) (kept - 1) (flat (targetColumns s) targets)) (sym stands) ∙ ap (λ (width : ℕ). projectNodes short width (kept - 1) listed) (sym (d .fits .counted)) ∙ ap (projectNodes short (bound .scope .columns) (kept - 1)) (sym (names-attributes listed listed-is)) in
-                  let joined = going-on (λ p m. translateBindings columns short rest p m) (r .written) (d .written) in
-                  let met = going-on (λ p m. translateMaybe columns short restriction inner p m) joined (written-as (ap (λ (s : scopes.Scope). translateMaybe columns short restriction s (bound .count - 1) (bound .count)) (sym stands)) k) in
-                  subst (λ bindings. RangeDone catalogue short plan (alphaOf targets bindings restriction) n after (record { count = count; width = list .used })) (sym (asked .link .reads)) (record {
-                    written = going-on (λ p m. projectNodes short (columnsIn inner) p (flat (targetColumns inner) targets)) met (written-as e w);
-                    width = list-size;
-                    more = omega (arith, r .more, d .written .counted, k .counted, w .counted);
-                  })
+          pub alpha-done : {after : List ℕ} {done : MadeRange} → TargetsDone short words target scope last kept after done → RangeDone catalogue short plan (alphaOf targets (bindingsAt words binding) restriction) n after done
+          unfolding translateRange widthOfRange
+          alpha-done {after} {done} w =
+              let e : projectNodes short (columnsIn inner) (kept - 1) (flat (targetColumns inner) targets) ≡ projectNodes short (columnsIn (scopeOf scope)) (kept - 1) listed =
+              ap (λ (s : scopes.Scope). projectNodes short (columnsIn s) (kept - 1) (flat (targetColumns s) targets)) (sym stands) in
+              let products = going-on (λ p m. translateBindings columns short rest p m) (r .written) (d .written) in
+              let restricted = going-on (λ p m. translateMaybe columns short restriction inner p m) products (written-as (ap (λ (s : scopes.Scope). translateMaybe columns short restriction s (joined - 1) joined) (sym stands)) met) in
+              subst (λ bindings. RangeDone catalogue short plan (alphaOf targets bindings restriction) n after done) (sym (asked .link .reads)) (record {
+                written = going-on (λ p m. projectNodes short (columnsIn inner) p (flat (targetColumns inner) targets)) restricted (written-as e (w .written));
+                width = w .width ∙ listed-size;
+                more = omega (arith, r .more, d .written .counted, k .counted, w .written .counted);
+              })
 
 -- an alpha without a binding, which refusal 2 shuts out, reads as relation 0
 pub no-alpha : (words : List ℕ) (target binding condition : ℕ) → bindingsAt words binding ≡ noMore → alphaOf (targetsAt words target) (bindingsAt words binding) (restrictionAt words condition) ≡ table 0

@@ -13,15 +13,14 @@ use Rattle.calculus.specs.Form.{widthOfRange, scopeOfBindings, GoodRange, GoodB
 use Rattle.calculus.specs.Translation.{translateBindings}
 use Rattle.calculus.proofs.SizeTheorem.{range-size}
 use Rattle.catalogue.specs.Stored.{relationsOf, columnsOf}
-use Rattle.nodes.specs.Nodes.{isBinding, isRange, kindNamed, nodeAt}
+use Rattle.nodes.specs.Kinds.{isBinding, isRange}
+use Rattle.nodes.specs.Nodes.{kindNamed, nodeAt}
 use Rattle.nodes.specs.declared.node.Node.the-variants.{Binding}
 use Rattle.nodes.proofs.Forms.{lower, second-of, references-lower}
 use Rattle.conditions.specs.Readings.{Inside, Names, rangeAt, bindingsAt}
 use Rattle.conditions.specs.Scopes.{withVariable, scopeOf, ScopeFits, Extended}
 use Rattle.planning.specs.Translating.{withBindings, RangeReady, RangeDone, BindingsReady, BindingsDone}
 use Rattle.emission.specs.Written.{Room, Written}
-use Rattle.conditions.specs.declared.scope.CarriedScope.{CarriedScope}
-use Rattle.planning.specs.declared.translate.Bound.{Bound}
 use Rattle.planning.specs.declared.translate.MadeRange.{MadeRange}
 use Rattle.conditions.proofs.Readings.{Below, fits-in, bindings-is}
 use Rattle.planning.proofs.RangeSteps.{lower-call, range-wide}
@@ -46,12 +45,12 @@ chain words {reference} {variable} {range} {next} named e =
     }
 
 -- the parts of a good chain
-record Parts (catalogue : List ℕ) (scope : CarriedScope) (variable : ℕ) (range : Range) (rest : Bindings) : Type 0 where
+record Parts (catalogue : List ℕ) (scope : List ℕ) (variable : ℕ) (range : Range) (rest : Bindings) : Type 0 where
   range-good : GoodRange (columnsOf catalogue) (relationsOf catalogue) range
   rest-good : GoodBindings (columnsOf catalogue) (relationsOf catalogue) rest (extend (scopeOf scope) variable (widthOfRange (columnsOf catalogue) range))
   few-columns : columnsIn (scopeOf scope) + widthOfRange (columnsOf catalogue) range ≤ columnLimit
 
-parts : {catalogue plan : List ℕ} {scope : CarriedScope} {n : ℕ} {variable : ℕ} {range : Range} {rest : Bindings} → BindingsReady catalogue plan (bind variable range rest) scope n → Parts catalogue scope variable range rest
+parts : {catalogue plan : List ℕ} {scope : List ℕ} {n : ℕ} {variable : ℕ} {range : Range} {rest : Bindings} → BindingsReady catalogue plan (bind variable range rest) scope n → Parts catalogue scope variable range rest
 unfolding GoodBindings
 parts ready = record { range-good = ready .good .1; rest-good = ready .good .2; few-columns = ready .good .3 }
 
@@ -60,7 +59,7 @@ unfolding bindingNodes
 bind-size variable range rest = refl
 
 -- from what the chain was asked with: the call on its range, room for the product, the longer scope, the call on the next bindings, and what is left
-module _ {words : List ℕ} {reference variable range next : ℕ} (link : Chain words reference variable range next) {catalogue plan : List ℕ} {t n : ℕ} {scope : CarriedScope} (asked : (2 * reference ≡ t) × (Inside words reference × BindingsReady catalogue plan (bindingsAt words reference) scope n)) where
+module _ {words : List ℕ} {reference variable range next : ℕ} (link : Chain words reference variable range next) {catalogue plan : List ℕ} {t n : ℕ} {scope : List ℕ} (asked : (2 * reference ≡ t) × (Inside words reference × BindingsReady catalogue plan (bindingsAt words reference) scope n)) where
   abbrev first : Range
   first = rangeAt words range
 
@@ -81,12 +80,12 @@ module _ {words : List ℕ} {reference variable range next : ℕ} (link : Chain 
     pub room-product : Room middle (made .count) 1
     room-product = room-less 1 room-bound (omega arith)
 
-    pub scope-grows : ScopeFits scope × (1 ≤ made .width) × (scope .columns + made .width ≤ columnLimit)
-    scope-grows = (ready .fits, omega (arith, r .width, range-wide catalogue (ready .stored) first (parts ready .range-good)), omega (arith, r .width, ready .fits .counted, parts ready .few-columns))
+    pub scope-grows : ScopeFits scope × (1 ≤ made .width) × (columnsIn (scopeOf scope) + made .width ≤ columnLimit)
+    scope-grows = (ready .fits, omega (arith, r .width, range-wide catalogue (ready .stored) first (parts ready .range-good)), omega (arith, r .width, parts ready .few-columns))
 
-    module _ {p : ℕ} {later : List ℕ} {count : ℕ} {longer : CarriedScope} (w : Written middle (made .count) (join p (made .count - 1) [] ∷ []) later count) (grown : Extended scope variable (made .width) longer) where
+    module _ {p : ℕ} {later : List ℕ} {count : ℕ} {longer : List ℕ} (w : Written middle (made .count) (join p (made .count - 1) [] ∷ []) later count) (extended : Extended scope variable (made .width) longer) where
       stands : scopeOf longer ≡ extend (scopeOf scope) variable (widthOfRange (columnsOf catalogue) first)
-      stands = grown .stands ∙ ap (extend (scopeOf scope) variable) (r .width)
+      stands = extended .stands ∙ ap (extend (scopeOf scope) variable) (r .width)
 
       pub call-next : (2 * next < t) × (Inside words next × BindingsReady catalogue later rest longer count)
       call-next = (
@@ -95,7 +94,7 @@ module _ {words : List ℕ} {reference variable range next : ℕ} (link : Chain 
           omega (arith, asked .1 .0, link .next-below),
           record {
             good = subst (GoodBindings (columnsOf catalogue) (relationsOf catalogue) rest) (sym stands) (parts ready .rest-good);
-            fits = grown .fits;
+            fits = extended .fits;
             stored = ready .stored;
             some-nodes = omega (arith, w .counted);
             room = room-after _ room-bound w (omega arith);
@@ -103,14 +102,14 @@ module _ {words : List ℕ} {reference variable range next : ℕ} (link : Chain 
         ),
       )
 
-      pub bindings-done : {after : List ℕ} {bound : Bound} → BindingsDone catalogue short later rest longer (made .count) count after bound → BindingsDone catalogue short plan (bindingsAt words reference) scope p n after bound
+      pub bindings-done : {after grown : List ℕ} {total : ℕ} → BindingsDone catalogue short later rest longer (made .count) count after grown total → BindingsDone catalogue short plan (bindingsAt words reference) scope p n after grown total
       unfolding translateBindings scopeOfBindings withBindings
-      bindings-done {after} {bound} d =
-          let written : Written plan n (translateBindings (columnsOf catalogue) short (bind variable first rest) p n) after (bound .count) =
+      bindings-done {after} {grown} {total} d =
+          let written : Written plan n (translateBindings (columnsOf catalogue) short (bind variable first rest) p n) after total =
           written-then (going-on (λ k m. join p k [] ∷ []) (r .written) w) (written-as (ap₂ (λ q m. translateBindings (columnsOf catalogue) short rest q m) (sym (r .written .counted)) (omega (arith, r .written .counted, w .counted))) (d .written)) in
-          subst (λ bindings. BindingsDone catalogue short plan bindings scope p n after bound) (sym (link .reads)) (record { written = written; is = d .is ∙ ap (withBindings catalogue rest) (grown .is ∙ ap (withVariable scope variable) (r .width)); fits = d .fits; stands = d .stands ∙ ap (scopeOfBindings (columnsOf catalogue) rest) stands })
+          subst (λ bindings. BindingsDone catalogue short plan bindings scope p n after grown total) (sym (link .reads)) (record { written = written; is = d .is ∙ ap (withBindings catalogue rest) (extended .is ∙ ap (withVariable scope variable) (r .width)); fits = d .fits; stands = d .stands ∙ ap (scopeOfBindings (columnsOf catalogue) rest) stands })
 
-pub no-more-done : {catalogue : List ℕ} {short : Bool} {plan : List ℕ} {bindings : Bindings} {scope : CarriedScope} {p n : ℕ} → bindings ≡ noMore → ScopeFits scope → BindingsDone catalogue short plan bindings scope p n plan (record { count = n; scope = scope })
+pub no-more-done : {catalogue : List ℕ} {short : Bool} {plan : List ℕ} {bindings : Bindings} {scope : List ℕ} {p n : ℕ} → bindings ≡ noMore → ScopeFits scope → BindingsDone catalogue short plan bindings scope p n plan scope n
 unfolding translateBindings scopeOfBindings withBindings
 no-more-done {catalogue} {short} {plan} {bindings} {scope} {p} {n} e fits =
-    subst (λ bindings. BindingsDone catalogue short plan bindings scope p n plan (record { count = n; scope = scope })) (sym e) (record { written = written-nothing plan n; is = refl; fits = fits; stands = refl })
+    subst (λ bindings. BindingsDone catalogue short plan bindings scope p n plan scope n) (sym e) (record { written = written-nothing plan n; is = refl; fits = fits; stands = refl })

@@ -3,9 +3,8 @@ pub mod TargetLaws
 -- The steps of translating
 pub mod RangeSteps
 pub mod BindingSteps
-pub mod AlphaSteps
 pub mod ConditionSteps
+pub mod AlphaSteps
 pub mod QuantifierSteps
-pub mod DivisionSteps
 -- One outcome
 pub mod Outcomes

@@ -4,11 +4,9 @@ use mathlib.Core.Path.{_≡_, sym, ap₂, _∙_}
 use mathlib.Core.Bool.{Bool}
 use mathlib.Core.List.{List}
 use Rattle.calculus.specs.Question.{Range, Bindings}
-use Rattle.conditions.specs.declared.scope.CarriedScope.{CarriedScope}
 use Rattle.emission.proofs.WrittenLaws.{written-unique}
 use Rattle.planning.specs.Translating.{RangeDone, BindingsDone}
 use Rattle.planning.specs.declared.translate.MadeRange.{MadeRange}
-use Rattle.planning.specs.declared.translate.Bound.{Bound}
 
 module _ {catalogue : List ℕ} {short : Bool} {before after other : List ℕ} {n : ℕ} where
   pub range-unique : {range : Range} {made as-well : MadeRange} → RangeDone catalogue short before range n after made → RangeDone catalogue short before range n other as-well → (after ≡ other) × (made ≡ as-well)
@@ -16,7 +14,7 @@ module _ {catalogue : List ℕ} {short : Bool} {before after other : List ℕ} {
       let one = written-unique (d .written) (e .written) in
       (one .0, ap₂ (λ (count width : ℕ). record { count = count; width = width }) (one .1) (d .width ∙ sym (e .width)))
 
-  pub bindings-unique : {bindings : Bindings} {scope : CarriedScope} {p : ℕ} {bound as-well : Bound} → BindingsDone catalogue short before bindings scope p n after bound → BindingsDone catalogue short before bindings scope p n other as-well → (after ≡ other) × (bound ≡ as-well)
+  pub bindings-unique : {bindings : Bindings} {scope grown as-well : List ℕ} {p count total : ℕ} → BindingsDone catalogue short before bindings scope p n after grown count → BindingsDone catalogue short before bindings scope p n other as-well total → (after ≡ other) × (grown ≡ as-well) × (count ≡ total)
   bindings-unique d e =
       let one = written-unique (d .written) (e .written) in
-      (one .0, ap₂ (λ (count : ℕ) (scope : CarriedScope). record { count = count; scope = scope }) (one .1) (d .is ∙ sym (e .is)))
+      (one .0, d .is ∙ sym (e .is), one .1)

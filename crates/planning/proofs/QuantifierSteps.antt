@@ -1,212 +1,289 @@
--- "Some" and "every": what their calls ask for, from what they are given, and what their returns leave. Assumes nothing.
+-- "Some" and "every": what their calls ask for, from what they are given, and what each way of making their nodes leaves. Assumes nothing.
 use Prim.Native.Nat.{ℕ, suc, pred, _+_, _*_, _-_, _≤_}
 use mathlib.Core.Path.{_≡_, refl, sym, ap, subst, _∙_}
-use mathlib.Core.Bool.{Bool, true, false, _&&_}
+use mathlib.Core.Bool.{Bool, true, false, cond, _&&_, _||_, false≢true}
 use mathlib.Core.List.{List, [], _∷_, _++_, map}
 use native.Mathlib.Omega.{arith}
-use lib.ListN.{length, length-append, length-map}
-use Rattle.relations.specs.Limits.{columnLimit, tripleLimit, questionNodeLimit, listWords}
+use lib.ListN.{length, length-append}
+use Rattle.relations.specs.Limits.{columnLimit, questionNodeLimit}
 use Rattle.relations.specs.Lists.{filter}
-use Rattle.relations.specs.Nodes.{Node, project, join, subtract, semijoin, antijoin}
-use Rattle.calculus.specs.Question.{Atom, Range, MaybeCondition, onCondition, Condition, forSome, forEvery, rangeNodes, maybeNodes, conditionNodes}
-use Rattle.calculus.specs.Scope.{columnsIn, allColumns, columnsFrom}
+use Rattle.relations.specs.Nodes.{Node, project, join, subtract, semijoin, antijoin, divide, unite}
+use Rattle.relations.proofs.BoolLaws.{and-right}
+use Rattle.calculus.specs.Question.{Atom, Range, MaybeCondition, onCondition, Condition, atom, conditionAnd, conditionOr, conditionNot, forSome, forEvery, rangeNodes, maybeNodes, conditionNodes}
+use Rattle.calculus.specs.Scope.{columnsIn, allColumns}
 use Rattle.calculus.specs.Scope as calculus
 use Rattle.calculus.specs.Form.{widthOfRange, GoodRange, GoodMaybe, GoodCondition}
-use Rattle.calculus.specs.Leaves.{isAndTree, isOrTree, leaves, oppositeAtom, aloneOn, comparesWithOther}
-use Rattle.calculus.specs.ShortRules.{lastNumber, shortRule2Atoms, shortRule2Fits, triplesOf, shortRule2Nodes, shortRule3Nodes, shortRule4Nodes, shortRule4Fits, shortRule5Fits}
-use Rattle.calculus.specs.Translation.{itself, itsOpposite, divisionBy, translateRange, translateMaybe, translateCondition}
-use Rattle.calculus.proofs.LegalColumns.{few}
-use Rattle.calculus.proofs.SizeTheorem.{filter-size, leaves-size, range-size, condition-size}
+use Rattle.calculus.specs.Leaves.{isAndTree, isOrTree, leaves, oppositeAtom, equatesWith, equatesOutside}
+use Rattle.calculus.specs.ShortRules.{lastNumber, projectNodes, shortRule2Atoms, shortRule2Fits, triplesOf, shortRule4Fits, shortRule5Atoms, shortRule5Fits, shortRule5Columns, shortRule5Nodes, outsideTriples, divisionPairs}
+use Rattle.calculus.specs.Translation.{itself, divisionBy, translateRange, translateCondition}
+use Rattle.calculus.proofs.ScopeLaws.{columns-extend}
+use Rattle.calculus.proofs.SizeTheorem.{range-size, condition-size}
 use Rattle.catalogue.specs.Stored.{relationsOf, columnsOf}
 use Rattle.judgements.specs.Accepted.{HasColumns}
-use Rattle.conditions.specs.Leaves.{atomsOf, LeavesFit, LeavesOf}
-use Rattle.emission.specs.NodeLists.{nodeList, grownBy, numbersOf, attributesIn, ListsAttributes}
-use Rattle.conditions.specs.Readings.{conditionAt, restrictionAt}
-use Rattle.short_rules.specs.Rules.{RuleFits}
-use Rattle.short_rules.proofs.RuleLaws.{rule-behind}
+use Rattle.conditions.specs.Readings.{Names, conditionAt, restrictionAt}
 use Rattle.conditions.specs.Scopes.{scopeOf, ScopeFits, Extended}
-use Rattle.planning.specs.Translating.{RangeReady, RangeDone, ConditionReady, DivisionReady}
+use Rattle.short_rules.specs.Rules.{ruleAtoms, ruleNodes, dividendNodes, RuleReady}
+use Rattle.short_rules.specs.declared.fits.ShortRule.{ShortRule}
+use Rattle.short_rules.specs.declared.fits.ShortRule.the-variants.{S2, S3, S4, S5}
+use Rattle.short_rules.proofs.RuleLaws.{behind-range, rule-behind}
 use Rattle.emission.specs.Written.{Room, Written}
-use Rattle.emission.specs.declared.node_list.NodeList.{NodeList}
-use Rattle.conditions.specs.declared.leaves.Leaves.{Leaves}
-use Rattle.conditions.specs.declared.scope.CarriedScope.{CarriedScope}
+use Rattle.planning.specs.Quantifying.{wantedIn, quantified, wayOf, keptNodes}
+use Rattle.planning.specs.Translating.{RangeReady, RangeDone, GoodAs, ConditionReady, translateWanted}
 use Rattle.planning.specs.declared.translate.MadeRange.{MadeRange}
+use Rattle.planning.specs.declared.quantifying.Wanted.{Wanted}
+use Rattle.planning.specs.declared.quantifying.Wanted.the-variants.{Itself, Opposite, Division}
+use Rattle.planning.specs.declared.quantifying.Quantifier.{Quantifier}
+use Rattle.planning.specs.declared.quantifying.Quantifier.the-variants.{Some, Every}
+use Rattle.planning.specs.declared.quantifying.Way.{Way}
+use Rattle.planning.specs.declared.quantifying.Way.the-variants.{ByRule, AsDivisor, ByDivision, Plain}
 use Rattle.conditions.proofs.OtherNodes.{restriction-good}
-use Rattle.emission.proofs.NodeListLaws.{grown-list, names-attributes, lists-attributes}
-use Rattle.relations.specs.Columns.{Attribute}
-use Rattle.calculus.proofs.ScopeLaws.{columns-length}
 use Rattle.emission.proofs.WrittenLaws.{written-then, room-after, room-less, pred-is, written-as}
 use Rattle.planning.proofs.RangeSteps.{range-wide}
 use Rattle.planning.proofs.ConditionSteps.{chosen, passed-over}
 
+-- What the quantifier stands in: P's scope, and y behind it where it is divided.
 module _ (catalogue : List ℕ) where
-  -- a condition on the product of P with a range of x, which stands before node n
-  pub record InsideReady (plan : List ℕ) (x width : ℕ) (f : Condition) (scope : CarriedScope) (n : ℕ) : Type 0 where
-    pub good : GoodCondition (columnsOf catalogue) (relationsOf catalogue) f (calculus.extend (scopeOf scope) x width)
-    pub fits : ScopeFits scope
-    pub some-columns : 1 ≤ width
-    pub few-columns : scope .columns + width ≤ columnLimit
-    pub stored : HasColumns catalogue
-    pub some-nodes : 1 ≤ n
-    pub room : Room plan n (4 * conditionNodes f + 1)
+  abbrev Good : Condition → calculus.Scope → Type 0
+  Good f s = GoodCondition (columnsOf catalogue) (relationsOf catalogue) f s
 
-pub inside-restricts : (words : List ℕ) (reference : ℕ) {catalogue plan : List ℕ} {x width : ℕ} {scope : CarriedScope} {n : ℕ} → InsideReady catalogue plan x width (conditionAt words reference) scope n → restrictionAt words reference ≡ onCondition (conditionAt words reference)
-inside-restricts words reference {catalogue} {x = x} {width = width} {scope = scope} r = restriction-good (columnsOf catalogue) (relationsOf catalogue) (calculus.extend (scopeOf scope) x width) words reference (r .good)
+  record Seen (f : Condition) (s : calculus.Scope) : Type 0 where
+    seen : calculus.Scope
+    good : Good f seen
+    wide : columnsIn s ≤ columnsIn seen
 
--- P's columns, which are those of the scope, listed for a project
-module _ {scope : CarriedScope} (fits : ScopeFits scope) {list : NodeList} (empty : list ≡ nodeList []) where
-  pub columns-room : (list .used + scope .columns ≤ listWords) × (1 ≤ columnLimit + columnLimit)
-  columns-room = (omega (arith, ap (λ (l : NodeList). l .used) empty, fits .narrow), omega arith)
+  seen-as : (wanted : Wanted) {f : Condition} {s : calculus.Scope} → GoodAs catalogue (wantedIn wanted) (onCondition f) s → Seen f s
+  unfolding GoodCondition
+  seen-as Itself {s = s} g = record { seen = s; good = g; wide = omega arith }
+  seen-as Opposite {s = s} g = record { seen = s; good = g .0; wide = omega arith }
+  seen-as (Division y k) {s = s} g = record { seen = calculus.extend s y (g .width); good = g .good; wide = omega (arith, columns-extend s y (g .width)) }
 
-  module _ {columns : NodeList} (grows : columns ≡ grownBy list (numbersOf (columnsFrom (scope .columns) 1))) where
-    columns-listed : columns ≡ nodeList (numbersOf (allColumns (columnsIn (scopeOf scope))))
-    columns-listed =
-        grown-list _ empty grows (omega (arith, length-map (columnsFrom (scope .columns) 1) (λ (a : Attribute). a .number), columns-length (scope .columns) 1, fits .narrow))
-        ∙ ap (λ (k : ℕ). nodeList (numbersOf (columnsFrom k 1))) (fits .counted)
+  record Parts (x : ℕ) (range : Range) (f : Condition) (s : calculus.Scope) : Type 0 where
+    range-good : GoodRange (columnsOf catalogue) (relationsOf catalogue) range
+    inside-good : Good f (calculus.extend s x (widthOfRange (columnsOf catalogue) range))
+    narrow : columnsIn s + widthOfRange (columnsOf catalogue) range ≤ columnLimit
 
-    pub columns-lists : ListsAttributes columns
-    columns-lists = lists-attributes (allColumns (columnsIn (scopeOf scope))) columns-listed
+  parts : (quantifier : Quantifier) {x : ℕ} {range : Range} {f : Condition} {s : calculus.Scope} → Good (quantified quantifier x range f) s → Parts x range f s
+  unfolding GoodCondition
+  parts Some g = record { range-good = g .1; inside-good = g .2; narrow = g .3 }
+  parts Every g = record { range-good = g .1; inside-good = g .2; narrow = g .3 }
 
-    pub columns-project : {before after : List ℕ} {n p count : ℕ} → Written before n (project p (attributesIn columns) ∷ []) after count → Written before n (project p (allColumns (columnsIn (scopeOf scope))) ∷ []) after count
-    columns-project {p = p} w = written-as (ap (λ (l : List Attribute). project p l ∷ []) (sym (names-attributes (allColumns (columnsIn (scopeOf scope))) columns-listed))) w
+quantified-size : (quantifier : Quantifier) (x : ℕ) (range : Range) (f : Condition) → maybeNodes (onCondition (quantified quantifier x range f)) ≡ rangeNodes range + conditionNodes f + 1
+unfolding conditionNodes
+quantified-size Some x range f = omega arith
+quantified-size Every x range f = omega arith
 
-module _ (catalogue : List ℕ) where
-  -- "some x" and "every x" ask for the same of a range and a condition on x; `s` is the scope that they stand in, which has P's columns and, for S5, y's
-  pub record QuantifierReady (plan : List ℕ) (x : ℕ) (range : Range) (f : Condition) (scope : CarriedScope) (s : calculus.Scope) (n extra : ℕ) : Type 0 where
-    pub good-range : GoodRange (columnsOf catalogue) (relationsOf catalogue) range
-    pub good-condition : GoodCondition (columnsOf catalogue) (relationsOf catalogue) f (calculus.extend s x (widthOfRange (columnsOf catalogue) range))
-    pub narrow : scope .columns + widthOfRange (columnsOf catalogue) range ≤ columnLimit
-    pub fits : ScopeFits scope
-    pub stored : HasColumns catalogue
-    pub some-nodes : 1 ≤ n
-    pub room : Room plan n (4 * rangeNodes range + (4 * conditionNodes f + 4 + extra))
+some-condition : (f : Condition) → 1 ≤ conditionNodes f
+unfolding conditionNodes
+some-condition (atom a) = omega arith
+some-condition (conditionAnd f g) = omega arith
+some-condition (conditionOr f g) = omega arith
+some-condition (conditionNot f) = omega arith
+some-condition (forSome x range f) = omega arith
+some-condition (forEvery x range f) = omega arith
 
-module _ {catalogue plan : List ℕ} {x : ℕ} {range : Range} {f : Condition} {scope : CarriedScope} {n extra : ℕ} where
-  pub quantifier-ready : {s : calculus.Scope} → GoodCondition (columnsOf catalogue) (relationsOf catalogue) (forSome x range f) s → columnsIn (scopeOf scope) ≤ columnsIn s → ScopeFits scope → HasColumns catalogue → 1 ≤ n → Room plan n (4 * conditionNodes (forSome x range f) + extra)
-      → QuantifierReady catalogue plan x range f scope s n extra
-  unfolding GoodCondition conditionNodes
-  quantifier-ready good less fits stored some room =
-      record {
-        good-range = good .1;
-        good-condition = good .2;
-        narrow = omega (arith, good .3, fits .counted);
-        fits = fits;
-        stored = stored;
-        some-nodes = some;
-        room = room-less _ room (omega arith);
-      }
+-- What every way asks for: a range that is ready, and room behind it.
+module _ (quantifier : Quantifier) (wanted : Wanted) (x : ℕ) (range : Range) (f : Condition) {catalogue plan scope : List ℕ} {n : ℕ} (r : ConditionReady catalogue plan (wantedIn wanted) (onCondition (quantified quantifier x range f)) scope n) where
+  abbrev columns : ℕ → ℕ
+  columns = columnsOf catalogue
 
-module _ {catalogue plan : List ℕ} {x : ℕ} {range : Range} {f : Condition} {scope : CarriedScope} {n : ℕ} where
-  pub some-ready : ConditionReady catalogue plan (onCondition (forSome x range f)) scope n → QuantifierReady catalogue plan x range f scope (scopeOf scope) n 0
-  unfolding GoodCondition conditionNodes
-  some-ready r = quantifier-ready (r .good) (omega arith) (r .fits) (r .stored) (r .some-nodes) (room-less _ (r .room) (omega arith))
+  stands : Seen catalogue (quantified quantifier x range f) (scopeOf scope)
+  stands = seen-as catalogue wanted (r .good)
 
-  pub every-ready : ConditionReady catalogue plan (onCondition (forEvery x range f)) scope n → QuantifierReady catalogue plan x range f scope (scopeOf scope) n 0
-  unfolding GoodCondition conditionNodes
-  every-ready r = quantifier-ready (r .good) (omega arith) (r .fits) (r .stored) (r .some-nodes) (room-less _ (r .room) (omega arith))
-
-module _ {catalogue plan : List ℕ} {x : ℕ} {range : Range} {f : Condition} {scope : CarriedScope} {s : calculus.Scope} {n extra : ℕ} (r : QuantifierReady catalogue plan x range f scope s n extra) where
   pub range-ready : RangeReady catalogue plan range n
-  range-ready = record { good = r .good-range; stored = r .stored; room = room-less _ (r .room) (omega arith) }
+  range-ready = record { good = parts catalogue quantifier (stands .good) .range-good; stored = r .stored; room = room-less _ (r .room) (omega (arith, quantified-size quantifier x range f)) }
 
   pub few-nodes : conditionNodes f ≤ questionNodeLimit
-  few-nodes = omega (arith, r .room .nodes)
+  few-nodes = omega (arith, r .room .nodes, quantified-size quantifier x range f)
 
-  -- behind the range
   module _ {short : Bool} {after : List ℕ} {made : MadeRange} (done : RangeDone catalogue short plan range n after made) where
-    pub some-columns : 1 ≤ made .width
-    some-columns = omega (arith, done .width, range-wide catalogue (r .stored) range (r .good-range))
+    pub some-made : 1 ≤ made .count
+    some-made = omega (arith, done .more)
 
-    pub few-columns : scope .columns + made .width ≤ columnLimit
-    few-columns = omega (arith, done .width, r .narrow)
+    some-columns : 1 ≤ made .width
+    some-columns = omega (arith, done .width, range-wide catalogue (r .stored) range (range-ready .good))
 
-    pub room-behind : (rest : ℕ) → rest ≤ 4 * conditionNodes f + 4 + extra → Room after (made .count) rest
-    room-behind rest h = room-after rest (r .room) (done .written) (omega (arith, range-size (columnsOf catalogue) short range n))
+    few-columns : columnsIn (scopeOf scope) + made .width ≤ columnLimit
+    few-columns = omega (arith, done .width, parts catalogue quantifier (stands .good) .narrow, stands .wide)
 
-    -- behind the condition inside there is room for the nodes that make P's columns of it
-    pub room-plain : (p : ℕ) {middle : List ℕ} {meeting : ℕ}
-        → Written after (made .count) (join p (pred (made .count)) [] ∷ translateCondition (columnsOf catalogue) short f itself (calculus.extend (scopeOf scope) x (made .width)) (made .count) (suc (made .count))) middle meeting → Room middle meeting 3
-    room-plain p inside =
-        room-after 3 (room-behind (4 * conditionNodes f + 4) (omega arith)) inside (omega (arith, condition-size (columnsOf catalogue) short f itself (calculus.extend (scopeOf scope) x (made .width)) (made .count) (suc (made .count))))
+    room-behind : Room after (made .count) (4 * conditionNodes f + 4)
+    room-behind = room-after _ (r .room) (done .written) (omega (arith, quantified-size quantifier x range f, range-size columns short range n))
 
-    -- a short rule on atoms that are no more than the condition's nodes
-    pub rule-fits : (words : List ℕ) (collected : Leaves) → LeavesFit words collected → length (atomsOf words collected) ≤ conditionNodes f → RuleFits words after scope collected x (made .width) (made .count) 1
-    rule-fits words collected fits few =
+    pub inner-grows : ScopeFits scope × (1 ≤ made .width) × (columnsIn (scopeOf scope) + made .width ≤ columnLimit)
+    inner-grows = (r .fits, some-columns, few-columns)
+
+    pub room-inner : Room after (made .count) 1
+    room-inner = room-less 1 room-behind (omega arith)
+
+    -- a short rule above the condition that a reference names
+    pub rule-ready : (words : List ℕ) (condition : ℕ) → f ≡ conditionAt words condition → Names words condition → (rule : ShortRule) (y : ℕ) → ruleAtoms rule x y (leaves f) ≡ true → RuleReady words after scope rule x (made .width) condition y (made .count)
+    rule-ready words condition e named rule y atoms =
         record {
+          named = named;
+          small = omega (arith, few-nodes, ap conditionNodes e);
+          atoms = subst (λ (g : Condition). ruleAtoms rule x y (leaves g) ≡ true) e atoms;
           scope-fits = r .fits;
-          leaves-fit = fits;
           some-columns = some-columns;
           few-columns = omega (arith, few-columns);
-          some-nodes = omega (arith, done .more);
-          room = room-behind _ (omega (arith, filter-size (aloneOn x) (atomsOf words collected)));
+          some-nodes = some-made;
+          room = room-less _ room-behind (omega (arith, some-condition f, ap conditionNodes e));
         }
 
--- below a "some" or an "every" in P's own scope
-module _ {catalogue plan : List ℕ} {x : ℕ} {range : Range} {f : Condition} {scope : CarriedScope} {n extra : ℕ} (r : QuantifierReady catalogue plan x range f scope (scopeOf scope) n extra) {short : Bool} {after : List ℕ} {made : MadeRange} (done : RangeDone catalogue short plan range n after made) where
-  pub inside-ready : InsideReady catalogue after x (made .width) f scope (made .count)
-  inside-ready =
+-- The ways.
+
+-- a rule writes its nodes behind those of the range; y and k are those of S5
+pub record RuleWay (columns : ℕ → ℕ) (short : Bool) (quantifier : Quantifier) (wanted : Wanted) (x : ℕ) (range : Range) (f : Condition) (y k : ℕ) (rule : ShortRule) : Type 0 where
+  pub atoms : ruleAtoms rule x y (leaves f) ≡ true
+  pub nodes : (s : calculus.Scope) (p n : ℕ) → translateCondition columns short (quantified quantifier x range f) (wantedIn wanted) s p n ≡ translateRange columns short range n ++ ruleNodes rule s y k x (widthOfRange columns range) (leaves f) p (n + length (translateRange columns short range n))
+
+or-neither : (b : Bool) → (b || false) ≡ true → b ≡ true
+or-neither true h = refl
+or-neither false h = h
+
+-- S5's nodes are those behind the range of z
+division-behind : (first : List Node) (s : calculus.Scope) (y k z width : ℕ) (atoms : List Atom) (p n : ℕ) → shortRule5Nodes s y k z width atoms first p n ≡ first ++ shortRule5Nodes s y k z width atoms [] p (n + length first)
+division-behind first s y k z width atoms p n =
+    let outsiders : List Atom = filter (equatesOutside z y) atoms in
+    let nodes : ℕ → List Node = λ q. divide (pred q) k (divisionPairs z (filter (equatesWith z y) atoms) (suc (length outsiders))) ∷ semijoin p q (outsideTriples s z outsiders 1) ∷ antijoin p k [] ∷ unite (suc q) (suc (suc q)) ∷ [] in
+    ap (λ dividend. dividend ++ nodes (n + length dividend)) (rule-behind first z width atoms n (λ m. projectNodes true width (pred m) (shortRule5Columns z y atoms)))
+    ∙ behind-range first (dividendNodes y z width atoms (n + length first)) n nodes
+
+module _ (catalogue : List ℕ) (s₀ : calculus.Scope) {short : Bool} {x : ℕ} {range : Range} {f : Condition} where
+  pub rule-way : (quantifier : Quantifier) (wanted : Wanted) (rule : ShortRule) → GoodAs catalogue (wantedIn wanted) (onCondition (quantified quantifier x range f)) s₀ → wayOf short quantifier wanted x f ≡ ByRule rule → RuleWay (columnsOf catalogue) short quantifier wanted x range f 0 0 rule
+  unfolding translateCondition
+  rule-way Some Itself rule g e = go (short && shortRule2Fits x f) refl e
+    where
+      go : (b : Bool) → (short && shortRule2Fits x f) ≡ b → cond b (ByRule S2) Plain ≡ ByRule rule → RuleWay (columnsOf catalogue) short Some Itself x range f 0 0 rule
+      go true h e = let same : S2 ≡ rule = cc in
+          subst (RuleWay (columnsOf catalogue) short Some Itself x range f 0 0) same (record {
+            atoms = and-right (isAndTree f) (shortRule2Atoms x (leaves f)) (and-right short (shortRule2Fits x f) h);
+            nodes = λ s p n. chosen _ _ (short && shortRule2Fits x f) h ∙ rule-behind (translateRange (columnsOf catalogue) short range n) x (widthOfRange (columnsOf catalogue) range) (leaves f) n (λ m. semijoin p (pred m) (triplesOf s x (leaves f)) ∷ []);
+          })
+      go false h e = let z : _≡_ {A = ℕ} 0 1 = cc in absurd (omega arith)
+  rule-way Some Opposite rule g e = let same : S3 ≡ rule = cc in
+      subst (RuleWay (columnsOf catalogue) short Some Opposite x range f 0 0) same (record {
+        atoms = and-right (isAndTree f) (shortRule2Atoms x (leaves f)) (or-neither (shortRule2Fits x f) (g .1));
+        nodes = λ s p n. rule-behind (translateRange (columnsOf catalogue) short range n) x (widthOfRange (columnsOf catalogue) range) (leaves f) n (λ m. antijoin p (pred m) (triplesOf s x (leaves f)) ∷ []);
+      })
+  rule-way Some (Division y k) rule g e = let z : _≡_ {A = ℕ} 0 1 = cc in absurd (omega arith)
+  rule-way Every wanted rule g e = go (short && shortRule4Fits x f) refl (short && shortRule5Fits x f) e
+    where
+      go : (b : Bool) → (short && shortRule4Fits x f) ≡ b → (d : Bool) → cond b (ByRule S4) (cond d ByDivision Plain) ≡ ByRule rule → RuleWay (columnsOf catalogue) short Every wanted x range f 0 0 rule
+      go true h d e = let same : S4 ≡ rule = cc in
+          subst (RuleWay (columnsOf catalogue) short Every wanted x range f 0 0) same (record {
+            atoms = and-right (isOrTree f) (shortRule2Atoms x (leaves f)) (and-right short (shortRule4Fits x f) h);
+            nodes = λ s p n. chosen _ _ (short && shortRule4Fits x f) h ∙ rule-behind (translateRange (columnsOf catalogue) short range n) x (widthOfRange (columnsOf catalogue) range) (map oppositeAtom (leaves f)) n (λ m. antijoin p (pred m) (triplesOf s x (map oppositeAtom (leaves f))) ∷ []);
+          })
+      go false h true e = let z : _≡_ {A = ℕ} 0 1 = cc in absurd (omega arith)
+      go false h false e = let z : _≡_ {A = ℕ} 0 1 = cc in absurd (omega arith)
+
+  -- only a "some" below an "every y" is divided
+  pub divisor-way : (quantifier : Quantifier) (wanted : Wanted) (y k : ℕ) → GoodAs catalogue (wantedIn wanted) (onCondition (quantified quantifier x range f)) s₀ → wayOf short quantifier wanted x f ≡ AsDivisor y k → RuleWay (columnsOf catalogue) short quantifier wanted x range f y k S5
+  unfolding translateCondition
+  divisor-way Some Itself y k g e = never (short && shortRule2Fits x f) e
+    where
+      never : (b : Bool) → cond b (ByRule S2) Plain ≡ AsDivisor y k → RuleWay (columnsOf catalogue) short Some Itself x range f y k S5
+      never true e = let z : _≡_ {A = ℕ} 0 1 = cc in absurd (omega arith)
+      never false e = let z : _≡_ {A = ℕ} 0 1 = cc in absurd (omega arith)
+  divisor-way Some Opposite y k g e = let z : _≡_ {A = ℕ} 0 1 = cc in absurd (omega arith)
+  divisor-way Some (Division v j) y k g e =
+      let same : v ≡ y = cc in
+      let node : j ≡ k = cc in
       record {
-        good = subst (λ w. GoodCondition (columnsOf catalogue) (relationsOf catalogue) f (calculus.extend (scopeOf scope) x w)) (sym (done .width)) (r .good-condition);
-        fits = r .fits;
-        some-columns = some-columns r done;
-        few-columns = few-columns r done;
-        stored = r .stored;
-        some-nodes = omega (arith, done .more);
-        room = room-behind r done (4 * conditionNodes f + 1) (omega arith);
+        atoms = subst (λ (u : ℕ). shortRule5Atoms x u (leaves f) ≡ true) same (and-right (isAndTree f) (shortRule5Atoms x v (leaves f)) (g .fits));
+        nodes = λ s p n. ap (λ (u : ℕ). shortRule5Nodes s u j x (widthOfRange (columnsOf catalogue) range) (leaves f) (translateRange (columnsOf catalogue) short range n) p n) same ∙ ap (λ (i : ℕ). shortRule5Nodes s y i x (widthOfRange (columnsOf catalogue) range) (leaves f) (translateRange (columnsOf catalogue) short range n) p n) node ∙ division-behind (translateRange (columnsOf catalogue) short range n) s y k x (widthOfRange (columnsOf catalogue) range) (leaves f) p n;
       }
+  divisor-way Every wanted y k g e = never (short && shortRule4Fits x f) (short && shortRule5Fits x f) e
+    where
+      never : (b d : Bool) → cond b (ByRule S4) (cond d ByDivision Plain) ≡ AsDivisor y k → RuleWay (columnsOf catalogue) short Every wanted x range f y k S5
+      never true d e = let z : _≡_ {A = ℕ} 0 1 = cc in absurd (omega arith)
+      never false true e = let z : _≡_ {A = ℕ} 0 1 = cc in absurd (omega arith)
+      never false false e = let z : _≡_ {A = ℕ} 0 1 = cc in absurd (omega arith)
 
-  pub division-ready : DivisionReady catalogue after x f scope (made .count)
-  division-ready =
-      record {
-        width = widthOfRange (columnsOf catalogue) range;
-        good = r .good-condition;
-        fits = r .fits;
-        stored = r .stored;
-        some-nodes = omega (arith, done .more);
-        room = room-behind r done (4 * conditionNodes f + 2) (omega arith);
-      }
+-- the ways that translate the condition itself: the scope behind them is P's and x
+abbrev Inner : Way → Type 0
+Inner (ByRule rule) = ⊥
+Inner (AsDivisor y k) = ⊥
+Inner ByDivision = Unit {0}
+Inner Plain = Unit {0}
 
--- the product of P with the range of x, and the condition on it
-module _ {catalogue plan : List ℕ} {x width : ℕ} {f : Condition} {scope : CarriedScope} {n : ℕ} (r : InsideReady catalogue plan x width f scope n) {restriction : MaybeCondition} (e : restriction ≡ onCondition f) {inner : CarriedScope} (extended : Extended scope x width inner) {p : ℕ} {after : List ℕ} {count : ℕ} (product : Written plan n (join p (n - 1) [] ∷ []) after count) where
-  pub inside-condition-ready : ConditionReady catalogue after restriction inner count
-  unfolding GoodMaybe maybeNodes
-  inside-condition-ready =
-      record {
-        good = subst (λ m. GoodMaybe (columnsOf catalogue) (relationsOf catalogue) m (scopeOf inner)) (sym e) (subst (GoodCondition (columnsOf catalogue) (relationsOf catalogue) f) (sym (extended .stands)) (r .good));
-        fits = extended .fits;
-        stored = r .stored;
-        some-nodes = omega (arith, product .counted);
-        room = room-after _ (r .room) product (omega (arith, ap maybeNodes e));
-      }
+inner-good : (quantifier : Quantifier) (wanted : Wanted) (catalogue : List ℕ) (short : Bool) (x : ℕ) (range : Range) (f : Condition) (s : calculus.Scope) {way : Way} → GoodAs catalogue (wantedIn wanted) (onCondition (quantified quantifier x range f)) s → wayOf short quantifier wanted x f ≡ way → Inner way → Good catalogue f (calculus.extend s x (widthOfRange (columnsOf catalogue) range))
+unfolding GoodCondition
+inner-good Some Itself catalogue short x range f s g e i = g .2
+inner-good Some Opposite catalogue short x range f s g e i = absurd (subst Inner (sym e) i)
+inner-good Some (Division y k) catalogue short x range f s g e i = absurd (subst Inner (sym e) i)
+inner-good Every Itself catalogue short x range f s g e i = g .2
+inner-good Every Opposite catalogue short x range f s g e i = g .0 .2
+inner-good Every (Division y k) catalogue short x range f s g e i = absurd (false≢true (g .fits))
 
-  pub inside-written : (short : Bool) {end : List ℕ} {total : ℕ} → Written after count (translateMaybe (columnsOf catalogue) short restriction (scopeOf inner) n count) end total
-      → Written plan n (join p (pred n) [] ∷ translateCondition (columnsOf catalogue) short f itself (calculus.extend (scopeOf scope) x width) n (suc n)) end total
-  unfolding translateMaybe
-  inside-written short w =
-      let next : suc n ≡ count = omega (arith, product .counted) in
-      let same : translateCondition (columnsOf catalogue) short f itself (calculus.extend (scopeOf scope) x width) n (suc n) ≡ translateMaybe (columnsOf catalogue) short restriction (scopeOf inner) n count = rw (e, extended .stands, next) in
-      written-as (ap (λ (m : ℕ). join p m [] ∷ translateCondition (columnsOf catalogue) short f itself (calculus.extend (scopeOf scope) x width) n (suc n)) (pred-is n) ∙ ap (λ (rest : List Node). join p (n - 1) [] ∷ rest) same) (written-then product w)
+module _ (columns : ℕ → ℕ) (short : Bool) (x : ℕ) (range : Range) (f : Condition) where
+  pub record DivisionWay (quantifier : Quantifier) (wanted : Wanted) : Type 0 where
+    pub fits : shortRule5Fits x f ≡ true
+    pub nodes : (s : calculus.Scope) (p n : ℕ) → translateCondition columns short (quantified quantifier x range f) (wantedIn wanted) s p n ≡ translateRange columns short range n ++ translateCondition columns short f (divisionBy x (pred (n + length (translateRange columns short range n)))) s p (n + length (translateRange columns short range n))
 
--- the leaves that were collected
-module _ {words : List ℕ} {f : Condition} {collected : Leaves} (found : LeavesOf words f collected) where
-  pub leaves-few : length (atomsOf words collected) ≤ conditionNodes f
-  leaves-few = omega (arith, ap length (found .atoms), leaves-size f)
+  pub division-way : (quantifier : Quantifier) (wanted : Wanted) → wayOf short quantifier wanted x f ≡ ByDivision → DivisionWay quantifier wanted
+  unfolding translateCondition
+  division-way Some Itself e = never (short && shortRule2Fits x f) e
+    where
+      never : (b : Bool) → cond b (ByRule S2) Plain ≡ ByDivision → DivisionWay Some Itself
+      never true e = let z : _≡_ {A = ℕ} 0 1 = cc in absurd (omega arith)
+      never false e = let z : _≡_ {A = ℕ} 0 1 = cc in absurd (omega arith)
+  division-way Some Opposite e = let z : _≡_ {A = ℕ} 0 1 = cc in absurd (omega arith)
+  division-way Some (Division y k) e = let z : _≡_ {A = ℕ} 0 1 = cc in absurd (omega arith)
+  division-way Every wanted e = go (short && shortRule4Fits x f) refl (short && shortRule5Fits x f) refl e
+    where
+      go : (b : Bool) → (short && shortRule4Fits x f) ≡ b → (d : Bool) → (short && shortRule5Fits x f) ≡ d → cond b (ByRule S4) (cond d ByDivision Plain) ≡ ByDivision → DivisionWay Every wanted
+      go true h d i e = let z : _≡_ {A = ℕ} 0 1 = cc in absurd (omega arith)
+      go false h false i e = let z : _≡_ {A = ℕ} 0 1 = cc in absurd (omega arith)
+      go false h true i e =
+          record {
+            fits = and-right short (shortRule5Fits x f) i;
+            nodes = λ s p n. passed-over _ _ (short && shortRule4Fits x f) h ∙ chosen _ _ (short && shortRule5Fits x f) i;
+          }
 
-  -- S2 and S4 by the kind of tree that the code has met and by its atoms
-  pub rule-test : (x : ℕ) (short : Bool) {tree kind fits answer : Bool} → kind ≡ tree → fits ≡ (kind && shortRule2Atoms x (atomsOf words collected)) → (short && fits) ≡ answer → (short && (tree && shortRule2Atoms x (leaves f))) ≡ answer
-  rule-test x short {tree} {kind} e d h =
-      ap (λ b. short && (b && shortRule2Atoms x (leaves f))) (sym e) ∙ ap (λ atoms. short && (kind && shortRule2Atoms x atoms)) (sym (found .atoms)) ∙ ap (λ b. short && b) (sym d) ∙ h
+  -- behind the range, P's product with it and T of the condition, so many nodes in all
+  abbrev pub insideNodes : calculus.Scope → (p q : ℕ) → List Node
+  insideNodes s p q = join p (pred q) [] ∷ translateCondition columns short f itself (calculus.extend s x (widthOfRange columns range)) q (suc q)
 
--- what S2, S3 and S4 ask for behind the range
-module _ {catalogue plan : List ℕ} {x : ℕ} {range : Range} {f : Condition} {scope : CarriedScope} {n extra : ℕ} {s : calculus.Scope} (r : QuantifierReady catalogue plan x range f scope s n extra) {short : Bool} {after : List ℕ} {made : MadeRange} (done : RangeDone catalogue short plan range n after made) {words : List ℕ} {collected : Leaves} (found : LeavesOf words f collected) where
-  pub rule-2-ready : shortRule2Fits x f ≡ true → RuleFits words after scope collected x (made .width) (made .count) 1 × (length (filter (comparesWithOther x) (atomsOf words collected)) ≤ tripleLimit)
-  rule-2-ready h =
-      (rule-fits r done words collected (found .fits) (leaves-few found), omega (arith, few (isAndTree f) x (leaves f) h, ap (λ atoms. length (filter (comparesWithOther x) atoms)) (found .atoms)))
+  abbrev pub PlainWay : Quantifier → Wanted → Type 0
+  PlainWay quantifier wanted = (s : calculus.Scope) (p n : ℕ) → translateCondition columns short (quantified quantifier x range f) (wantedIn wanted) s p n
+      ≡ (translateRange columns short range n ++ insideNodes s p (n + length (translateRange columns short range n))) ++ keptNodes quantifier (columnsIn s) p (n + length (translateRange columns short range n)) (n + length (translateRange columns short range n) + length (insideNodes s p (n + length (translateRange columns short range n))))
 
-  pub rule-4-ready : shortRule4Fits x f ≡ true → RuleFits words after scope collected x (made .width) (made .count) 1 × (length (filter (comparesWithOther x) (atomsOf words collected)) ≤ tripleLimit) × (collected .opposite ≡ false)
-  rule-4-ready h =
-      (rule-fits r done words collected (found .fits) (leaves-few found), omega (arith, few (isOrTree f) x (leaves f) h, ap (λ atoms. length (filter (comparesWithOther x) atoms)) (found .atoms)), found .straight)
+  -- the last nodes, by the number of the last one before them
+  kept-some : (columns′ p q last m : ℕ) → suc last ≡ m → project last (allColumns columns′) ∷ [] ≡ keptNodes Some columns′ p q m
+  kept-some columns′ p q last m e =
+      let d : last ≡ m - 1 = omega arith in
+      ap (λ (k : ℕ). project k (allColumns columns′) ∷ []) d
 
+  kept-every : (columns′ p q last m : ℕ) → suc last ≡ m → subtract q last ∷ project (suc last) (allColumns columns′) ∷ subtract p (suc (suc last)) ∷ [] ≡ keptNodes Every columns′ p q m
+  kept-every columns′ p q last m e =
+      let d : last ≡ m - 1 = omega arith in
+      let b : suc (suc last) ≡ m + 1 = omega arith in
+      rw (b, e, d)
+
+  last-inside : (s : calculus.Scope) (p q : ℕ) → suc (lastNumber (suc q) (translateCondition columns short f itself (calculus.extend s x (widthOfRange columns range)) q (suc q))) ≡ q + length (insideNodes s p q)
+  last-inside s p q = omega (arith, pred-is (suc q + length (translateCondition columns short f itself (calculus.extend s x (widthOfRange columns range)) q (suc q))))
+
+  pub plain-way : (quantifier : Quantifier) (wanted : Wanted) → wayOf short quantifier wanted x f ≡ Plain → PlainWay quantifier wanted
+  unfolding translateCondition
+  plain-way Some Itself e = go (short && shortRule2Fits x f) refl e
+    where
+      go : (b : Bool) → (short && shortRule2Fits x f) ≡ b → cond b (ByRule S2) Plain ≡ Plain → PlainWay Some Itself
+      go true h e = let z : _≡_ {A = ℕ} 0 1 = cc in absurd (omega arith)
+      go false h e = λ s p n.
+          let q : ℕ = n + length (translateRange columns short range n) in
+          passed-over _ _ (short && shortRule2Fits x f) h ∙ ap (λ (nodes : List Node). (translateRange columns short range n ++ insideNodes s p q) ++ nodes) (kept-some (columnsIn s) p q _ _ (last-inside s p q))
+  plain-way Some Opposite e = let z : _≡_ {A = ℕ} 0 1 = cc in absurd (omega arith)
+  plain-way Some (Division y k) e = let z : _≡_ {A = ℕ} 0 1 = cc in absurd (omega arith)
+  plain-way Every wanted e = go (short && shortRule4Fits x f) refl (short && shortRule5Fits x f) refl e
+    where
+      go : (b : Bool) → (short && shortRule4Fits x f) ≡ b → (d : Bool) → (short && shortRule5Fits x f) ≡ d → cond b (ByRule S4) (cond d ByDivision Plain) ≡ Plain → PlainWay Every wanted
+      go true h d i e = let z : _≡_ {A = ℕ} 0 1 = cc in absurd (omega arith)
+      go false h true i e = let z : _≡_ {A = ℕ} 0 1 = cc in absurd (omega arith)
+      go false h false i e = λ s p n.
+          let q : ℕ = n + length (translateRange columns short range n) in
+          passed-over _ _ (short && shortRule4Fits x f) h ∙ passed-over _ _ (short && shortRule5Fits x f) i ∙ ap (λ (nodes : List Node). (translateRange columns short range n ++ insideNodes s p q) ++ nodes) (kept-every (columnsIn s) p q _ _ (last-inside s p q))
+
+-- What a way leaves, behind the range.
 module _ {catalogue : List ℕ} {short : Bool} {plan : List ℕ} {range : Range} {n : ℕ} {after : List ℕ} {made : MadeRange} (done : RangeDone catalogue short plan range n after made) where
   abbrev first : List Node
   first = translateRange (columnsOf catalogue) short range n
@@ -214,80 +291,80 @@ module _ {catalogue : List ℕ} {short : Bool} {plan : List ℕ} {range : Range}
   abbrev width : ℕ
   width = widthOfRange (columnsOf catalogue) range
 
-  -- what stands behind the range, by the width, the atoms and the count that the code has
-  pub written-behind : (nodes : ℕ → List Atom → ℕ → List Node) {end : List ℕ} {count : ℕ} {atoms others : List Atom} → atoms ≡ others → Written after (made .count) (nodes (made .width) atoms (made .count)) end count → Written plan n (first ++ nodes width others (n + length first)) end count
-  written-behind nodes {end} {count} {atoms} {others} e w =
-      written-then (done .written) (written-as (ap (λ (k : ℕ). nodes width others k) (sym (done .written .counted)) ∙ ap (λ (a : List Atom). nodes width a (made .count)) (sym e) ∙ ap (λ (k : ℕ). nodes k atoms (made .count)) (sym (done .width))) w)
+  -- what stands behind the range, by the width and the count that the code has
+  written-behind : (nodes : ℕ → ℕ → List Node) {end : List ℕ} {count : ℕ} → Written after (made .count) (nodes (made .width) (made .count)) end count → Written plan n (first ++ nodes width (n + length first)) end count
+  written-behind nodes w = written-then (done .written) (written-as (ap (λ (k : ℕ). nodes width k) (sym (done .written .counted)) ∙ ap (λ (k : ℕ). nodes k (made .count)) (sym (done .width))) w)
 
-  module _ {words : List ℕ} {f : Condition} {collected : Leaves} (found : LeavesOf words f collected) (x : ℕ) (s : calculus.Scope) (p : ℕ) {end : List ℕ} {count : ℕ} where
-    pub some-by-rule-2 : (short && shortRule2Fits x f) ≡ true → Written after (made .count) (shortRule2Nodes s x (made .width) (atomsOf words collected) [] p (made .count)) end count
-        → Written plan n (translateCondition (columnsOf catalogue) short (forSome x range f) itself s p n) end count
-    unfolding translateCondition
-    some-by-rule-2 h w =
-        written-as
-        (chosen _ _ (short && shortRule2Fits x f) h ∙ rule-behind first x width (leaves f) n (λ m. semijoin p (pred m) (triplesOf s x (leaves f)) ∷ []))
-        (written-behind (λ k atoms q. shortRule2Nodes s x k atoms [] p q) (found .atoms) w)
+  module _ (quantifier : Quantifier) (wanted : Wanted) (x : ℕ) (f : Condition) (s : calculus.Scope) (p : ℕ) where
+    pub rule-done : {y k : ℕ} {rule : ShortRule} → RuleWay (columnsOf catalogue) short quantifier wanted x range f y k rule → {end : List ℕ} {count : ℕ} → Written after (made .count) (ruleNodes rule s y k x (made .width) (leaves f) p (made .count)) end count
+        → Written plan n (translateCondition (columnsOf catalogue) short (quantified quantifier x range f) (wantedIn wanted) s p n) end count
+    rule-done {y} {k} {rule} way w = written-as (way .nodes s p n) (written-behind (λ v m. ruleNodes rule s y k x v (leaves f) p m) w)
 
-    pub some-by-rule-3 : {g : Condition} → g ≡ forSome x range f → Written after (made .count) (shortRule3Nodes s x (made .width) (atomsOf words collected) [] p (made .count)) end count
-        → Written plan n (translateCondition (columnsOf catalogue) short g itsOpposite s p n) end count
-    unfolding translateCondition
-    some-by-rule-3 e w =
-        written-as
-        (ap (λ (g : Condition). translateCondition (columnsOf catalogue) short g itsOpposite s p n) e ∙ rule-behind first x width (leaves f) n (λ m. antijoin p (pred m) (triplesOf s x (leaves f)) ∷ []))
-        (written-behind (λ k atoms q. shortRule3Nodes s x k atoms [] p q) (found .atoms) w)
+    pub division-done : DivisionWay (columnsOf catalogue) short x range f quantifier wanted → {end : List ℕ} {count : ℕ} → Written after (made .count) (translateCondition (columnsOf catalogue) short f (divisionBy x (made .count - 1)) s p (made .count)) end count
+        → Written plan n (translateCondition (columnsOf catalogue) short (quantified quantifier x range f) (wantedIn wanted) s p n) end count
+    division-done way w =
+        written-as (way .nodes s p n) (written-behind (λ v m. translateCondition (columnsOf catalogue) short f (divisionBy x (pred m)) s p m) (written-as (ap (λ (j : ℕ). translateCondition (columnsOf catalogue) short f (divisionBy x j) s p (made .count)) (pred-is (made .count))) w))
 
-    pub every-by-rule-4 : (short && shortRule4Fits x f) ≡ true → Written after (made .count) (shortRule4Nodes s x (made .width) (atomsOf words collected) [] p (made .count)) end count
-        → Written plan n (translateCondition (columnsOf catalogue) short (forEvery x range f) itself s p n) end count
-    unfolding translateCondition
-    every-by-rule-4 h w =
-        written-as
-        (chosen _ _ (short && shortRule4Fits x f) h ∙ rule-behind first x width (map oppositeAtom (leaves f)) n (λ m. antijoin p (pred m) (triplesOf s x (map oppositeAtom (leaves f))) ∷ []))
-        (written-behind (λ k atoms q. shortRule4Nodes s x k atoms [] p q) (found .atoms) w)
+    pub plain-done : PlainWay (columnsOf catalogue) short x range f quantifier wanted → {middle end : List ℕ} {meeting count columns : ℕ} → Written after (made .count) (join p (pred (made .count)) [] ∷ translateCondition (columnsOf catalogue) short f itself (calculus.extend s x (made .width)) (made .count) (suc (made .count))) middle meeting
+        → columns ≡ columnsIn s → Written middle meeting (keptNodes quantifier columns p (made .count) meeting) end count → Written plan n (translateCondition (columnsOf catalogue) short (quantified quantifier x range f) (wantedIn wanted) s p n) end count
+    plain-done way {meeting = meeting} {columns = columns} inside e w =
+        let q : ℕ = n + length first in
+        let nodes : List Node = insideNodes (columnsOf catalogue) short x range f s p q in
+        let behind : Written plan n (first ++ nodes) _ meeting = written-behind (λ v m. join p (pred m) [] ∷ translateCondition (columnsOf catalogue) short f itself (calculus.extend s x v) m (suc m)) inside in
+        let total : q + length nodes ≡ meeting = omega (arith, behind .counted, length-append first nodes) in
+        written-as (way s p n) (written-then behind (written-as (ap (λ (m : ℕ). keptNodes quantifier (columnsIn s) p q m) total ∙ ap (λ (k : ℕ). keptNodes quantifier (columnsIn s) p k meeting) (sym (done .written .counted)) ∙ ap (λ (c : ℕ). keptNodes quantifier c p (made .count) meeting) (sym e)) w))
 
-  -- the division by the range
-  pub every-by-rule-5 : (f : Condition) (x : ℕ) (s : calculus.Scope) (p : ℕ) {end : List ℕ} {count : ℕ} → (short && shortRule4Fits x f) ≡ false → (short && shortRule5Fits x f) ≡ true
-      → Written after (made .count) (translateCondition (columnsOf catalogue) short f (divisionBy x (made .count - 1)) s p (made .count)) end count → Written plan n (translateCondition (columnsOf catalogue) short (forEvery x range f) itself s p n) end count
-  unfolding translateCondition
-  every-by-rule-5 f x s p h k w =
-      written-as
-      (passed-over _ _ (short && shortRule4Fits x f) h ∙ chosen _ _ (short && shortRule5Fits x f) k)
-      (written-behind (λ v atoms m. translateCondition (columnsOf catalogue) short f (divisionBy x (pred m)) s p m) {atoms = []} refl (written-as (ap (λ (j : ℕ). translateCondition (columnsOf catalogue) short f (divisionBy x j) s p (made .count)) (pred-is (made .count))) w))
+-- The condition inside: below the division of S5, or on the product of P with the range.
+module _ (quantifier : Quantifier) (wanted : Wanted) (x : ℕ) (range : Range) (words : List ℕ) (condition : ℕ) {catalogue plan scope : List ℕ} {n : ℕ} (r : ConditionReady catalogue plan (wantedIn wanted) (onCondition (quantified quantifier x range (conditionAt words condition))) scope n) {short : Bool} {after : List ℕ} {made : MadeRange} (done : RangeDone catalogue short plan range n after made) where
+  abbrev inner : Condition
+  inner = conditionAt words condition
 
-  -- the plain ways: the product Q with the range and the condition on it, then P's columns of what meets or fails it
-  module _ (f : Condition) (x : ℕ) (s : calculus.Scope) (p : ℕ) {middle : List ℕ} {meeting : ℕ} (inside : Written after (made .count) (join p (pred (made .count)) [] ∷ translateCondition (columnsOf catalogue) short f itself (calculus.extend s x (made .width)) (made .count) (suc (made .count))) middle meeting) where
-    abbrev q : ℕ
-    q = n + length first
+  module _ {way : Way} (e : wayOf short quantifier wanted x inner ≡ way) (i : Inner way) where
+    good-inside : Good catalogue inner (calculus.extend (scopeOf scope) x (widthOfRange (columnsOf catalogue) range))
+    good-inside = inner-good quantifier wanted catalogue short x range inner (scopeOf scope) (r .good) e i
 
-    abbrev meetingNodes : List Node
-    meetingNodes = translateCondition (columnsOf catalogue) short f itself (calculus.extend s x width) q (suc q)
+    pub restricts : restrictionAt words condition ≡ onCondition inner
+    restricts = restriction-good (columnsOf catalogue) (relationsOf catalogue) (calculus.extend (scopeOf scope) x (widthOfRange (columnsOf catalogue) range)) words condition good-inside
 
-    inside-behind : Written plan n (first ++ (join p (pred q) [] ∷ meetingNodes)) middle meeting
-    inside-behind = written-behind (λ k atoms m. join p (pred m) [] ∷ translateCondition (columnsOf catalogue) short f itself (calculus.extend s x k) m (suc m)) {atoms = []} refl inside
+    room-inside : Room after (made .count) (4 * conditionNodes inner + 4)
+    room-inside = room-behind quantifier wanted x range inner r done
 
-    meeting-is : suc q + length meetingNodes ≡ meeting
-    meeting-is = omega (arith, inside-behind .counted, length-append first (join p (pred q) [] ∷ meetingNodes))
+    pub divided-ready : (k : ℕ) → shortRule5Fits x inner ≡ true → ConditionReady catalogue after (divisionBy x k) (restrictionAt words condition) scope (made .count)
+    unfolding GoodMaybe maybeNodes
+    divided-ready k fits =
+        subst (λ (m : MaybeCondition). ConditionReady catalogue after (divisionBy x k) m scope (made .count)) (sym restricts) (record {
+          good = record { width = widthOfRange (columnsOf catalogue) range; good = good-inside; fits = fits };
+          fits = r .fits;
+          stored = r .stored;
+          some-nodes = omega (arith, done .more);
+          room = room-less _ room-inside (omega arith);
+        })
 
-    last-meeting : lastNumber (suc q) meetingNodes ≡ meeting - 1
-    last-meeting = ap pred meeting-is ∙ pred-is meeting
+    module _ {longer : List ℕ} (extended : Extended scope x (made .width) longer) {p : ℕ} {middle : List ℕ} {count : ℕ} (product : Written after (made .count) (join p (made .count - 1) [] ∷ []) middle count) where
+      pub inside-ready : ConditionReady catalogue middle itself (restrictionAt words condition) longer count
+      unfolding GoodMaybe maybeNodes
+      inside-ready =
+          let scopes : scopeOf longer ≡ calculus.extend (scopeOf scope) x (widthOfRange (columnsOf catalogue) range) = extended .stands ∙ ap (calculus.extend (scopeOf scope) x) (done .width) in
+          subst (λ (m : MaybeCondition). ConditionReady catalogue middle itself m longer count) (sym restricts) (record {
+            good = subst (Good catalogue inner) (sym scopes) good-inside;
+            fits = extended .fits;
+            stored = r .stored;
+            some-nodes = omega (arith, product .counted);
+            room = room-after _ room-inside product (omega arith);
+          })
 
-    pub some-plain : {end : List ℕ} {count : ℕ} → (short && shortRule2Fits x f) ≡ false → Written middle meeting (project (meeting - 1) (allColumns (columnsIn s)) ∷ []) end count → Written plan n (translateCondition (columnsOf catalogue) short (forSome x range f) itself s p n) end count
-    unfolding translateCondition
-    some-plain h w =
-        written-as
-        (passed-over _ _ (short && shortRule2Fits x f) h ∙ ap (λ (m : ℕ). (first ++ (join p (pred q) [] ∷ meetingNodes)) ++ (project m (allColumns (columnsIn s)) ∷ [])) last-meeting)
-        (written-then inside-behind w)
+      module _ {later : List ℕ} {meeting : ℕ} (w : Written middle count (translateWanted (columnsOf catalogue) short itself (restrictionAt words condition) (scopeOf longer) (made .count) count) later meeting) where
+        pub inside-written : Written after (made .count) (join p (pred (made .count)) [] ∷ translateCondition (columnsOf catalogue) short inner itself (calculus.extend (scopeOf scope) x (made .width)) (made .count) (suc (made .count))) later meeting
+        inside-written =
+            let next : suc (made .count) ≡ count = omega (arith, product .counted) in
+            let same : translateCondition (columnsOf catalogue) short inner itself (calculus.extend (scopeOf scope) x (made .width)) (made .count) (suc (made .count)) ≡ translateWanted (columnsOf catalogue) short itself (restrictionAt words condition) (scopeOf longer) (made .count) count =
+            ap (λ (k : ℕ). translateCondition (columnsOf catalogue) short inner itself (calculus.extend (scopeOf scope) x (made .width)) (made .count) k) next
+            ∙ ap (λ (s : calculus.Scope). translateCondition (columnsOf catalogue) short inner itself s (made .count) count) (sym (extended .stands))
+            ∙ ap (λ (m : MaybeCondition). translateWanted (columnsOf catalogue) short itself m (scopeOf longer) (made .count) count) (sym restricts) in
+            written-as (ap (λ (m : ℕ). join p m [] ∷ translateCondition (columnsOf catalogue) short inner itself (calculus.extend (scopeOf scope) x (made .width)) (made .count) (suc (made .count))) (pred-is (made .count)) ∙ ap (λ (rest : List Node). join p (made .count - 1) [] ∷ rest) same) (written-then product w)
 
-    pub every-plain : {b₁ b₂ end : List ℕ} {failing failed count : ℕ} → (short && shortRule4Fits x f) ≡ false → (short && shortRule5Fits x f) ≡ false
-        → Written middle meeting (subtract (made .count) (meeting - 1) ∷ []) b₁ failing → Written b₁ failing (project meeting (allColumns (columnsIn s)) ∷ []) b₂ failed → Written b₂ failed (subtract p failing ∷ []) end count
-        → Written plan n (translateCondition (columnsOf catalogue) short (forEvery x range f) itself s p n) end count
-    unfolding translateCondition
-    every-plain {failing = failing} h k fails columns differs =
-        let last : ℕ = lastNumber (suc q) meetingNodes in
-        let next : suc last ≡ meeting = omega (arith, last-meeting, meeting-is) in
-        let next-but-one : suc (suc last) ≡ failing = omega (arith, next, fails .counted) in
-        written-as
-        (passed-over _ _ (short && shortRule4Fits x f) h ∙ passed-over _ _ (short && shortRule5Fits x f) k ∙ ap (λ (nodes : List Node). (first ++ (join p (pred q) [] ∷ meetingNodes)) ++ nodes) (three-nodes (sym (done .written .counted)) last-meeting next next-but-one))
-        (written-then inside-behind (written-then (written-then fails columns) differs))
-      where
-        three-nodes : {q q′ l l′ m m′ o o′ : ℕ} → q ≡ q′ → l ≡ l′ → m ≡ m′ → o ≡ o′ → subtract q l ∷ project m (allColumns (columnsIn s)) ∷ subtract p o ∷ [] ≡ subtract q′ l′ ∷ project m′ (allColumns (columnsIn s)) ∷ subtract p o′ ∷ []
-        three-nodes a b c d = rw (a, b, c, d)
+        pub some-met : 1 ≤ meeting
+        some-met = omega (arith, product .counted, w .counted)
+
+        pub room-kept : Room later meeting 3
+        room-kept = room-after 3 room-inside inside-written (omega (arith, condition-size (columnsOf catalogue) short inner itself (calculus.extend (scopeOf scope) x (made .width)) (made .count) (suc (made .count))))

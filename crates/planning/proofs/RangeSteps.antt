@@ -6,7 +6,7 @@ use mathlib.Core.List.{List, [], _∷_, _++_}
 use native.Mathlib.Omega.{arith}
 use lib.Dec.{eqb}
 use lib.ListN.{length}
-use Rattle.relations.specs.Nodes.{Node, unite, intersect, subtract}
+use Rattle.relations.specs.Nodes.{Node}
 use Rattle.calculus.specs.Question.{Range, table, alpha, rangeOr, rangeAnd, rangeAndNot, rangeNodes}
 use Rattle.calculus.specs.Form.{widthOfRange, alphaScope, GoodRange}
 use Rattle.calculus.specs.ShortRules.{lastNumber}
@@ -17,13 +17,17 @@ use Rattle.calculus.proofs.ScopeLaws.{targets-width}
 use Rattle.calculus.proofs.SizeTheorem.{range-size}
 use Rattle.judgements.specs.Accepted.{HasColumns}
 use Rattle.catalogue.specs.Stored.{relationsOf, columnsOf}
-use Rattle.nodes.specs.Nodes.{isTarget, isBinding, isRange, isCondition, kindNamed, nodeAt}
+use Rattle.nodes.specs.Kinds.{isTarget, isBinding, isRange, isCondition}
+use Rattle.nodes.specs.Nodes.{kindNamed, nodeAt}
 use Rattle.question.specs.Trees.{alphaOf}
-use Rattle.nodes.specs.declared.node.Node.the-variants.{Alpha, RangeOr, RangeAnd, RangeAndNot}
+use Rattle.nodes.specs.declared.node.Node.the-variants.{Alpha}
 use Rattle.nodes.proofs.Forms.{lower, second-of, references-lower}
 use Rattle.conditions.specs.Readings.{Inside, Names, rangeAt, targetsAt, bindingsAt, restrictionAt}
-use Rattle.planning.specs.Translating.{RangeReady, RangeDone}
+use Rattle.planning.specs.Translating.{rangesBy, RangeReady, RangeDone}
+use Rattle.emission.specs.Joins.{paired}
 use Rattle.emission.specs.Written.{Room, Written}
+use Rattle.emission.specs.declared.emit.Pairing.{Pairing}
+use Rattle.emission.specs.declared.emit.Pairing.the-variants.{Unite, Intersect, Subtract}
 use Rattle.planning.specs.declared.translate.MadeRange.{MadeRange}
 use Rattle.conditions.proofs.Readings.{Below, fits-in, two-lower, range-is}
 use Rattle.emission.proofs.WrittenLaws.{room-after, room-less, last-is, written-as, going-on}
@@ -51,77 +55,83 @@ range-wide catalogue stored (rangeAndNot a b) good = range-wide catalogue stored
 pub lower-call : (words : List ℕ) {t reference lower : ℕ} {Ready : Type 0} → 2 * reference ≤ t → Names words reference → Below reference lower → Ready → (2 * lower < t) × (Names words lower × Ready)
 lower-call words h names below ready = (omega (arith, names .0, below .1), ((below .0, omega (arith, names .1, below .1)), ready))
 
--- a range of two ranges, whose node in a plan is `node`
-module _ (catalogue words : List ℕ) where
+-- a range of two ranges: its size, width, good form and nodes, by those of its sides
+module _ (columns : ℕ → ℕ) where
+  sides-size : (how : Pairing) (a b : Range) → rangeNodes (rangesBy how a b) ≡ rangeNodes a + rangeNodes b + 1
+  unfolding rangeNodes
+  sides-size Unite a b = refl
+  sides-size Intersect a b = refl
+  sides-size Subtract a b = refl
+
+  sides-wide : (how : Pairing) (a b : Range) → widthOfRange columns (rangesBy how a b) ≡ widthOfRange columns a
+  unfolding widthOfRange
+  sides-wide Unite a b = refl
+  sides-wide Intersect a b = refl
+  sides-wide Subtract a b = refl
+
+  sides-good : (how : Pairing) (relations : ℕ) (a b : Range) → GoodRange columns relations (rangesBy how a b) → GoodRange columns relations a × GoodRange columns relations b
+  unfolding GoodRange
+  sides-good Unite relations a b g = (g .0, g .1)
+  sides-good Intersect relations a b g = (g .0, g .1)
+  sides-good Subtract relations a b g = (g .0, g .1)
+
+  sides-nodes : (how : Pairing) (short : Bool) (a b : Range) (n : ℕ) → translateRange columns short (rangesBy how a b) n ≡ plainSides (paired how) (λ m. translateRange columns short a m) (λ m. translateRange columns short b m) n
+  unfolding translateRange
+  sides-nodes Unite short a b n = refl
+  sides-nodes Intersect short a b n = refl
+  sides-nodes Subtract short a b n = refl
+
+-- from what the whole was asked with: the calls on the two sides, room for the node behind them, and what is left
+module _ (how : Pairing) (words : List ℕ) (left right : ℕ) {catalogue plan : List ℕ} {t n : ℕ} (asked : (2 * max left right + 1 ≡ t) × (Names words left × Names words right × RangeReady catalogue plan (rangesBy how (rangeAt words left) (rangeAt words right)) n)) where
   abbrev columns : ℕ → ℕ
   columns = columnsOf catalogue
 
-  pub record Sides (node : ℕ → ℕ → Node) (reference left right : ℕ) : Type 0 where
-    pub left-below : Below reference left
-    pub right-below : Below reference right
-    pub size : rangeNodes (rangeAt words reference) ≡ rangeNodes (rangeAt words left) + rangeNodes (rangeAt words right) + 1
-    pub wide : widthOfRange columns (rangeAt words reference) ≡ widthOfRange columns (rangeAt words left)
-    pub good : GoodRange columns (relationsOf catalogue) (rangeAt words reference) → GoodRange columns (relationsOf catalogue) (rangeAt words left) × GoodRange columns (relationsOf catalogue) (rangeAt words right)
-    pub nodes : (short : Bool) (n : ℕ) → translateRange columns short (rangeAt words reference) n ≡ plainSides node (λ m. translateRange columns short (rangeAt words left) m) (λ m. translateRange columns short (rangeAt words right) m) n
+  abbrev a : Range
+  a = rangeAt words left
 
-  module _ {reference left right : ℕ} (named : 1 ≤ reference) where
-    -- the whole reads as a range that is made of the two
-    sides-as : {node : ℕ → ℕ → Node} {whole : Range} → rangeAt words reference ≡ whole → (isRange (kindNamed words (reference - 1) left) && isRange (kindNamed words (reference - 1) right)) ≡ true → rangeNodes whole ≡ rangeNodes (rangeAt words left) + rangeNodes (rangeAt words right) + 1 → widthOfRange columns whole ≡ widthOfRange columns (rangeAt words left)
-        → (GoodRange columns (relationsOf catalogue) whole → GoodRange columns (relationsOf catalogue) (rangeAt words left) × GoodRange columns (relationsOf catalogue) (rangeAt words right))
-        → ((short : Bool) (n : ℕ) → translateRange columns short whole n ≡ plainSides node (λ m. translateRange columns short (rangeAt words left) m) (λ m. translateRange columns short (rangeAt words right) m) n) → Sides node reference left right
-    sides-as e fit size wide good nodes =
-        record {
-          left-below = two-lower words isRange refl (reference - 1) left right fit .0;
-          right-below = two-lower words isRange refl (reference - 1) left right fit .1;
-          size = ap rangeNodes e ∙ size;
-          wide = ap (widthOfRange columns) e ∙ wide;
-          good = λ g. good (subst (GoodRange columns (relationsOf catalogue)) e g);
-          nodes = λ short n. ap (λ (range : Range). translateRange columns short range n) e ∙ nodes short n;
-        }
+  abbrev b : Range
+  b = rangeAt words right
 
-    pub or-sides : RangeOr left right ≡ nodeAt words (reference - 1) → Sides unite reference left right
-    unfolding rangeNodes widthOfRange GoodRange translateRange
-    or-sides e = sides-as (range-is words reference (RangeOr left right) named e) (fits-in words (reference - 1) e) refl refl (λ g. (g .0, g .1)) (λ short n. refl)
+  ready : RangeReady catalogue plan (rangesBy how a b) n
+  ready = asked .1 .2
 
-    pub and-sides : RangeAnd left right ≡ nodeAt words (reference - 1) → Sides intersect reference left right
-    unfolding rangeNodes widthOfRange GoodRange translateRange
-    and-sides e = sides-as (range-is words reference (RangeAnd left right) named e) (fits-in words (reference - 1) e) refl refl (λ g. (g .0, g .1)) (λ short n. refl)
+  good : GoodRange columns (relationsOf catalogue) a × GoodRange columns (relationsOf catalogue) b
+  good = sides-good columns how (relationsOf catalogue) a b (ready .good)
 
-    pub and-not-sides : RangeAndNot left right ≡ nodeAt words (reference - 1) → Sides subtract reference left right
-    unfolding rangeNodes widthOfRange GoodRange translateRange
-    and-not-sides e = sides-as (range-is words reference (RangeAndNot left right) named e) (fits-in words (reference - 1) e) refl refl (λ g. (g .0, g .1)) (λ short n. refl)
+  pub call-left : (2 * left < t) × (Names words left × RangeReady catalogue plan a n)
+  call-left = (omega (arith, asked .0), (asked .1 .0, record { good = good .0; stored = ready .stored; room = room-less _ (ready .room) (omega (arith, sides-size columns how a b)) }))
 
--- from what the whole was asked with: the calls on the two sides, room for the node behind them, and what is left
-module _ {catalogue words : List ℕ} {t reference n left right : ℕ} {plan : List ℕ} {node : ℕ → ℕ → Node} (sides : Sides catalogue words node reference left right) (asked : (2 * reference ≡ t) × (Names words reference × RangeReady catalogue plan (rangeAt words reference) n)) where
-  abbrev ready : RangeReady catalogue plan (rangeAt words reference) n
-  ready = asked .1 .1
+  module _ {short : Bool} {middle : List ℕ} {first : MadeRange} (l : RangeDone catalogue short plan a n middle first) where
+    room-right : Room middle (first .count) (4 * rangeNodes b + 1)
+    room-right = room-after _ (ready .room) (l .written) (omega (arith, sides-size columns how a b, range-size columns short a n))
 
-  pub call-left : (2 * left < t) × (Names words left × RangeReady catalogue plan (rangeAt words left) n)
-  call-left =
-      lower-call words (omega (arith, asked .0)) (asked .1 .0) (sides .left-below) (record { good = sides .good (ready .good) .0; stored = ready .stored; room = room-less _ (ready .room) (omega (arith, sides .size)) })
+    pub call-right : (2 * right < t) × (Names words right × RangeReady catalogue middle b (first .count))
+    call-right = (omega (arith, asked .0), (asked .1 .1, record { good = good .1; stored = ready .stored; room = room-less _ room-right (omega arith) }))
 
-  module _ {short : Bool} {middle : List ℕ} {first : MadeRange} (l : RangeDone catalogue short plan (rangeAt words left) n middle first) where
-    room-right : Room middle (first .count) (4 * rangeNodes (rangeAt words right) + 1)
-    room-right = room-after _ (ready .room) (l .written) (omega (arith, sides .size, range-size (columnsOf catalogue) short (rangeAt words left) n))
-
-    pub call-right : (2 * right < t) × (Names words right × RangeReady catalogue middle (rangeAt words right) (first .count))
-    call-right =
-        lower-call words (omega (arith, asked .0)) (asked .1 .0) (sides .right-below) (record { good = sides .good (ready .good) .1; stored = ready .stored; room = room-less _ room-right (omega arith) })
-
-    module _ {later : List ℕ} {second : MadeRange} (r : RangeDone catalogue short middle (rangeAt words right) (first .count) later second) where
+    module _ {later : List ℕ} {second : MadeRange} (r : RangeDone catalogue short middle b (first .count) later second) where
       pub room-last : Room later (second .count) 1
-      room-last = room-after 1 room-right (r .written) (omega (arith, range-size (columnsOf catalogue) short (rangeAt words right) (first .count)))
+      room-last = room-after 1 room-right (r .written) (omega (arith, range-size columns short b (first .count)))
 
-      pub sides-done : {after : List ℕ} {count : ℕ} → Written later (second .count) (node (first .count - 1) (second .count - 1) ∷ []) after count → RangeDone catalogue short plan (rangeAt words reference) n after (record { count = count; width = first .width })
+      pub sides-done : {after : List ℕ} {count : ℕ} → Written later (second .count) (paired how (first .count - 1) (second .count - 1) ∷ []) after count → RangeDone catalogue short plan (rangesBy how a b) n after (record { count = count; width = first .width })
       sides-done w =
-          let T : ℕ → List Node = λ m. translateRange (columnsOf catalogue) short (rangeAt words left) m in
-          let U : ℕ → List Node = λ m. translateRange (columnsOf catalogue) short (rangeAt words right) m in
+          let T : ℕ → List Node = λ m. translateRange columns short a m in
+          let U : ℕ → List Node = λ m. translateRange columns short b m in
           let both : Written plan n (T n ++ U (n + length (T n))) later (second .count) = going-on (λ p m. U m) (l .written) (r .written) in
           record {
-            written = written-as (sides .nodes short n ∙ ap (λ (p : ℕ). (T n ++ U (n + length (T n))) ++ (node p (lastNumber n (T n ++ U (n + length (T n)))) ∷ [])) (last-is (l .written))) (going-on (λ p m. node (first .count - 1) p ∷ []) both w);
-            width = l .width ∙ sym (sides .wide);
+            written = written-as (sides-nodes columns how short a b n ∙ ap (λ (p : ℕ). (T n ++ U (n + length (T n))) ++ (paired how p (lastNumber n (T n ++ U (n + length (T n)))) ∷ [])) (last-is (l .written))) (going-on (λ p m. paired how (first .count - 1) p ∷ []) both w);
+            width = l .width ∙ sym (sides-wide columns how a b);
             more = omega (arith, l .more, r .more, w .counted);
           }
+
+-- a node that reads as a range of two
+pub call-sides : (how : Pairing) (catalogue words : List ℕ) {t reference n left right : ℕ} {plan : List ℕ} → rangeAt words reference ≡ rangesBy how (rangeAt words left) (rangeAt words right) → (isRange (kindNamed words (reference - 1) left) && isRange (kindNamed words (reference - 1) right)) ≡ true
+    → (2 * reference ≡ t) × (Names words reference × RangeReady catalogue plan (rangeAt words reference) n) → (2 * max left right + 1 < t) × (Names words left × Names words right × RangeReady catalogue plan (rangesBy how (rangeAt words left) (rangeAt words right)) n)
+call-sides how catalogue words {reference = reference} {n} {left} {right} {plan} e fit asked =
+    let below = two-lower words isRange refl (reference - 1) left right fit in
+    let names = asked .1 .0 in (
+      omega (arith, asked .0, names .0, below .0 .1, below .1 .1),
+      ((below .0 .0, omega (arith, names .1, below .0 .1)), (below .1 .0, omega (arith, names .1, below .1 .1)), subst (λ range. RangeReady catalogue plan range n) e (asked .1 .1)),
+    )
 
 -- the other ranges: what they read as, and their calls
 

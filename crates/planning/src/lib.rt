@@ -1,3 +1,4 @@
 // Planning: the plan of a question, range by range and condition by condition, as the rules name it.
+pub mod quantifying;
 pub mod targets;
 pub mod translate;

@@ -1,54 +1,43 @@
 // Translation: a range, the parts of an alpha and a condition call each other. Each function has a number of its own that falls at each call:
-// twice the reference of the node that it is handed, or one more than twice the greatest of the references of a node's parts.
+// twice the reference of the node that it is handed, or one more than twice the greatest of the references of a node's parts. Nothing that is
+// long stands in these functions' frames but a scope that grows, so that the deepest question takes little stack.
 ghost use mathlib.Core.Path.{_≡_};
-ghost use mathlib.Core.Bool.{true, _||_};
 ghost use Rattle.calculus.specs.Question as calculus;
-ghost use Rattle.calculus.specs.ShortRules.{shortRule3Fits, shortRule5Fits, shortRule6Fits};
-ghost use Rattle.calculus.specs.Translation.{itself, itsOpposite, divisionBy, translateMaybe, translateCondition};
+ghost use Rattle.calculus.specs.Translation.{itself, translateCondition};
 ghost use Rattle.catalogue.specs.Stored.{columnsOf};
 ghost use Rattle.question.specs.Trees.{alphaOf};
 ghost use Rattle.conditions.specs.Readings.{Inside, Names, rangeAt, targetsAt, bindingsAt, restrictionAt, conditionAt};
 ghost use Rattle.conditions.specs.Scopes.{scopeOf};
 ghost use Rattle.emission.specs.Written.{Room, Written};
-ghost use Rattle.planning.specs.Translating.{RangeReady, RangeDone, BindingsReady, BindingsDone, ConditionReady, DivisionReady};
-use crate::targets::with_targets;
+ghost use Rattle.planning.specs.Quantifying.{wantedIn, quantified};
+ghost use Rattle.planning.specs.Translating.{rangesBy, RangeReady, RangeDone, BindingsReady, BindingsDone, ConditionReady, translateWanted};
+use crate::quantifying::Quantifier;
+use crate::quantifying::Wanted;
+use crate::quantifying::Way;
+use crate::quantifying::is_opposite;
+use crate::quantifying::opposite_if;
+use crate::quantifying::way_of;
+use crate::quantifying::write_kept;
+use crate::targets::write_targets;
 use catalogue::stored::columns_of;
-use conditions::leaves::leaves_of;
-use conditions::scope::CarriedScope;
-use conditions::scope::empty;
+use conditions::scope::SCOPE_WORDS;
+use conditions::scope::columns_in;
 use conditions::scope::extend;
-use emission::emit::intersect;
+use emission::emit::Pairing;
 use emission::emit::load;
+use emission::emit::pair;
 use emission::emit::product;
-use emission::emit::project;
-use emission::emit::subtract;
-use emission::emit::unite;
-use emission::node_list::no_list;
-use emission::node_list::with_columns;
 use nodes::node::Node;
 use nodes::node::decode;
-use short_rules::fits::division_fits;
-use short_rules::fits::opposite_fits;
-use short_rules::fits::short_rule_2_fits;
-use short_rules::fits::short_rule_4_fits;
-use short_rules::rules::write_project;
-use short_rules::rules::write_select;
-use short_rules::rules::write_short_rule_2;
-use short_rules::rules::write_short_rule_3;
-use short_rules::rules::write_short_rule_4;
-use short_rules::rules::write_short_rule_5;
-use short_rules::rules::write_short_rule_6;
+use short_rules::fits::ShortRule;
+use short_rules::fits::rule_fits;
+use short_rules::rules::write_atom;
+use short_rules::rules::write_rule;
 
 // How many nodes the plan has behind a range, and the range's width.
 pub struct MadeRange {
     pub count: u32,
     pub width: u32,
-}
-
-// How many nodes the plan has behind the products of bindings, and the scope that they make.
-pub struct Bound {
-    pub count: u32,
-    pub scope: CarriedScope,
 }
 
 // Table: load.
@@ -89,34 +78,60 @@ pub fn translate_range(
             binding,
             condition,
         } => translate_alpha(catalogue, words, short, target, binding, condition, plan, n),
-        Node::RangeOr { left, right } => {
-            let first = translate_range(catalogue, words, short, left, plan, n);
-            let second = translate_range(catalogue, words, short, right, plan, first.count);
-            let count = unite(plan, second.count, first.count - 1, second.count - 1);
-            MadeRange {
-                count,
-                width: first.width,
-            }
-        }
-        Node::RangeAnd { left, right } => {
-            let first = translate_range(catalogue, words, short, left, plan, n);
-            let second = translate_range(catalogue, words, short, right, plan, first.count);
-            let count = intersect(plan, second.count, first.count - 1, second.count - 1);
-            MadeRange {
-                count,
-                width: first.width,
-            }
-        }
-        Node::RangeAndNot { left, right } => {
-            let first = translate_range(catalogue, words, short, left, plan, n);
-            let second = translate_range(catalogue, words, short, right, plan, first.count);
-            let count = subtract(plan, second.count, first.count - 1, second.count - 1);
-            MadeRange {
-                count,
-                width: first.width,
-            }
-        }
+        Node::RangeOr { left, right } => translate_ranges(
+            catalogue,
+            words,
+            short,
+            Pairing::Unite,
+            left,
+            right,
+            plan,
+            n,
+        ),
+        Node::RangeAnd { left, right } => translate_ranges(
+            catalogue,
+            words,
+            short,
+            Pairing::Intersect,
+            left,
+            right,
+            plan,
+            n,
+        ),
+        Node::RangeAndNot { left, right } => translate_ranges(
+            catalogue,
+            words,
+            short,
+            Pairing::Subtract,
+            left,
+            right,
+            plan,
+            n,
+        ),
         _ => translate_table(catalogue, short, 0, plan, n),
+    }
+}
+
+// Range operation: left, right, then 9, 10 or 11.
+fn translate_ranges(
+    catalogue: &[u32],
+    words: &[u32],
+    short: bool,
+    how: Pairing,
+    left: u32,
+    right: u32,
+    plan: &mut [u32],
+    n: u32,
+) -> MadeRange
+    requires { ⌜ Names (now words) left × Names (now words) right × RangeReady (now catalogue) (now plan) (rangesBy how (rangeAt (now words) left) (rangeAt (now words) right)) n ⌝ }
+    ensures { λ r. ⌜ RangeDone (now (catalogue .entry)) short (now (plan .entry)) (rangesBy how (rangeAt (now (words .entry)) left) (rangeAt (now (words .entry)) right)) n (now (plan .exit)) r ⌝ }
+{
+    let first = translate_range(catalogue, words, short, left, plan, n);
+    let second = translate_range(catalogue, words, short, right, plan, first.count);
+    let count = pair(plan, second.count, how, first.count - 1, second.count - 1);
+    MadeRange {
+        count,
+        width: first.width,
     }
 }
 
@@ -142,57 +157,52 @@ fn translate_alpha(
             next,
         } => {
             let first = translate_range(catalogue, words, short, range, plan, n);
-            let own = extend(empty(), variable, first.width);
+            let mut scope = [0u32; SCOPE_WORDS];
+            extend(&mut scope, variable, first.width);
             let p = first.count - 1;
-            let bound = translate_bindings(
+            let joined = translate_bindings(
                 catalogue,
                 words,
                 short,
                 next,
-                own,
+                &mut scope,
                 p,
                 plan,
                 first.count,
             );
-            let scope = bound.scope;
-            let joined = bound.count;
             let kept = translate_condition(
                 catalogue,
                 words,
                 short,
                 condition,
-                scope,
+                Wanted::Itself,
+                &scope,
                 joined - 1,
                 plan,
                 joined,
             );
-            let columns = with_targets(words, target, scope, no_list());
-            let count = write_project(short, scope.columns, kept - 1, columns, plan, kept);
-            MadeRange {
-                count,
-                width: columns.used,
-            }
+            write_targets(words, short, target, &scope, plan, kept)
         }
         _ => translate_table(catalogue, short, 0, plan, n),
     }
 }
 
-// The next bindings: each range, and its product with the value p.
+// The next bindings: each range, and its product with the value p. The scope gets their variables.
 fn translate_bindings(
     catalogue: &[u32],
     words: &[u32],
     short: bool,
     reference: u32,
-    scope: CarriedScope,
+    scope: &mut [u32; SCOPE_WORDS],
     p: u32,
     plan: &mut [u32],
     n: u32,
-) -> Bound
-    requires { ⌜ Inside (now words) reference × BindingsReady (now catalogue) (now plan) (bindingsAt (now words) reference) scope n ⌝ }
-    ensures { λ r. ⌜ BindingsDone (now (catalogue .entry)) short (now (plan .entry)) (bindingsAt (now (words .entry)) reference) scope p n (now (plan .exit)) r ⌝ }
+) -> u32
+    requires { ⌜ Inside (now words) reference × BindingsReady (now catalogue) (now plan) (bindingsAt (now words) reference) (now scope) n ⌝ }
+    ensures { λ r. ⌜ BindingsDone (now (catalogue .entry)) short (now (plan .entry)) (bindingsAt (now (words .entry)) reference) (now (scope .entry)) p n (now (plan .exit)) (now (scope .exit)) r ⌝ }
 {
     if reference == 0 {
-        return Bound { count: n, scope };
+        return n;
     }
     let node = decode(words, (reference - 1) as usize);
     match node {
@@ -204,36 +214,37 @@ fn translate_bindings(
             let made = translate_range(catalogue, words, short, range, plan, n);
             let q = made.count;
             let count = product(plan, q, p, q - 1);
-            let longer = extend(scope, variable, made.width);
-            translate_bindings(catalogue, words, short, next, longer, q, plan, count)
+            extend(scope, variable, made.width);
+            translate_bindings(catalogue, words, short, next, scope, q, plan, count)
         }
-        _ => Bound { count: n, scope },
+        _ => n,
     }
 }
 
-// T(f, P): the nodes for the rows of P, node p, that meet the condition that a reference names; none are P itself.
+// T(f, P): the nodes for the rows of P, node p, that meet the condition that a reference names, or for what else is wanted of it; none are P itself.
 fn translate_condition(
     catalogue: &[u32],
     words: &[u32],
     short: bool,
     reference: u32,
-    scope: CarriedScope,
+    wanted: Wanted,
+    scope: &[u32; SCOPE_WORDS],
     p: u32,
     plan: &mut [u32],
     n: u32,
 ) -> u32
-    requires { ⌜ Inside (now words) reference × ConditionReady (now catalogue) (now plan) (restrictionAt (now words) reference) scope n ⌝ }
-    ensures { λ r. ⌜ Written (now (plan .entry)) n (translateMaybe (columnsOf (now (catalogue .entry))) short (restrictionAt (now (words .entry)) reference) (scopeOf scope) p n) (now (plan .exit)) r ⌝ }
+    requires { ⌜ Inside (now words) reference × ConditionReady (now catalogue) (now plan) (wantedIn wanted) (restrictionAt (now words) reference) (now scope) n ⌝ }
+    ensures { λ r. ⌜ Written (now (plan .entry)) n (translateWanted (columnsOf (now (catalogue .entry))) short (wantedIn wanted) (restrictionAt (now (words .entry)) reference) (scopeOf (now (scope .entry))) p n) (now (plan .exit)) r ⌝ }
 {
     if reference == 0 {
         return n;
     }
     let node = decode(words, (reference - 1) as usize);
     match node {
-        Node::Atom(atom) => write_select(scope, atom, p, plan, n),
+        Node::Atom(atom) => write_atom(scope, is_opposite(wanted), atom, p, plan, n),
         Node::And { left, right } => {
-            let first = translate_condition(catalogue, words, short, left, scope, p, plan, n);
-            translate_condition(
+            let first = translate_part(catalogue, words, short, left, scope, p, plan, n);
+            translate_part(
                 catalogue,
                 words,
                 short,
@@ -245,25 +256,38 @@ fn translate_condition(
             )
         }
         Node::Or { left, right } => {
-            let first = translate_condition(catalogue, words, short, left, scope, p, plan, n);
-            let second = translate_condition(catalogue, words, short, right, scope, p, plan, first);
-            unite(plan, second, first - 1, second - 1)
+            let first = translate_part(catalogue, words, short, left, scope, p, plan, n);
+            let second = translate_part(catalogue, words, short, right, scope, p, plan, first);
+            pair(plan, second, Pairing::Unite, first - 1, second - 1)
         }
         Node::Not { inner } => {
-            if short & opposite_fits(words, inner) {
-                return translate_opposite(catalogue, words, short, inner, scope, p, plan, n);
+            let opposite = short & rule_fits(words, ShortRule::S3, 0, inner);
+            let met = translate_condition(
+                catalogue,
+                words,
+                short,
+                inner,
+                opposite_if(opposite),
+                scope,
+                p,
+                plan,
+                n,
+            );
+            if opposite {
+                return met;
             }
-            let meeting = translate_condition(catalogue, words, short, inner, scope, p, plan, n);
-            subtract(plan, meeting, p, meeting - 1)
+            pair(plan, met, Pairing::Subtract, p, met - 1)
         }
         Node::Some {
             variable,
             range,
             condition,
-        } => translate_some(
+        } => translate_quantifier(
             catalogue,
             words,
             short,
+            Quantifier::Some,
+            wanted,
             variable,
             range,
             condition,
@@ -276,10 +300,12 @@ fn translate_condition(
             variable,
             range,
             condition,
-        } => translate_every(
+        } => translate_quantifier(
             catalogue,
             words,
             short,
+            Quantifier::Every,
+            wanted,
             variable,
             range,
             condition,
@@ -292,157 +318,108 @@ fn translate_condition(
     }
 }
 
-// The rows of P that do not meet the condition, where S3 or S6 fits.
-fn translate_opposite(
+// A side of an "and" or an "or". This is only a call: what it lends stands in one place of the frame above it for all four sides.
+fn translate_part(
     catalogue: &[u32],
     words: &[u32],
     short: bool,
     reference: u32,
-    scope: CarriedScope,
+    scope: &[u32; SCOPE_WORDS],
     p: u32,
     plan: &mut [u32],
     n: u32,
 ) -> u32
-    requires { ⌜ Names (now words) reference × ConditionReady (now catalogue) (now plan) (calculus.onCondition (conditionAt (now words) reference)) scope n × ((shortRule3Fits (conditionAt (now words) reference) || shortRule6Fits (conditionAt (now words) reference)) ≡ true) ⌝ }
-    ensures { λ r. ⌜ Written (now (plan .entry)) n (translateCondition (columnsOf (now (catalogue .entry))) short (conditionAt (now (words .entry)) reference) itsOpposite (scopeOf scope) p n) (now (plan .exit)) r ⌝ }
+    requires { ⌜ Inside (now words) reference × ConditionReady (now catalogue) (now plan) itself (restrictionAt (now words) reference) (now scope) n ⌝ }
+    ensures { λ r. ⌜ Written (now (plan .entry)) n (translateWanted (columnsOf (now (catalogue .entry))) short itself (restrictionAt (now (words .entry)) reference) (scopeOf (now (scope .entry))) p n) (now (plan .exit)) r ⌝ }
 {
-    let node = decode(words, (reference - 1) as usize);
-    match node {
-        Node::Some {
-            variable,
-            range,
-            condition,
-        } => {
-            let made = translate_range(catalogue, words, short, range, plan, n);
-            let leaves = leaves_of(words, condition);
-            write_short_rule_3(
-                words,
-                scope,
-                variable,
-                made.width,
-                leaves,
-                p,
-                plan,
-                made.count,
-            )
-        }
-        Node::Atom(atom) => write_short_rule_6(scope, atom, p, plan, n),
-        _ => n,
-    }
+    translate_condition(
+        catalogue,
+        words,
+        short,
+        reference,
+        Wanted::Itself,
+        scope,
+        p,
+        plan,
+        n,
+    )
 }
 
-// Some: S2; else range, product with P, T, project to P's columns.
-fn translate_some(
+// Some, every: a short rule; the division of S5; else range, product Q with P, T(f, Q), and of Q's rows what the quantifier keeps of P.
+fn translate_quantifier(
     catalogue: &[u32],
     words: &[u32],
     short: bool,
+    quantifier: Quantifier,
+    wanted: Wanted,
     x: u32,
     range: u32,
     condition: u32,
-    scope: CarriedScope,
+    scope: &[u32; SCOPE_WORDS],
     p: u32,
     plan: &mut [u32],
     n: u32,
 ) -> u32
-    requires { ⌜ Names (now words) range × Names (now words) condition × ConditionReady (now catalogue) (now plan) (calculus.onCondition (calculus.forSome x (rangeAt (now words) range) (conditionAt (now words) condition))) scope n ⌝ }
-    ensures { λ r. ⌜ Written (now (plan .entry)) n (translateCondition (columnsOf (now (catalogue .entry))) short (calculus.forSome x (rangeAt (now (words .entry)) range) (conditionAt (now (words .entry)) condition)) itself (scopeOf scope) p n) (now (plan .exit)) r ⌝ }
+    requires { ⌜ Names (now words) range × Names (now words) condition × ConditionReady (now catalogue) (now plan) (wantedIn wanted) (calculus.onCondition (quantified quantifier x (rangeAt (now words) range) (conditionAt (now words) condition))) (now scope) n ⌝ }
+    ensures { λ r. ⌜ Written (now (plan .entry)) n (translateCondition (columnsOf (now (catalogue .entry))) short (quantified quantifier x (rangeAt (now (words .entry)) range) (conditionAt (now (words .entry)) condition)) (wantedIn wanted) (scopeOf (now (scope .entry))) p n) (now (plan .exit)) r ⌝ }
 {
     let made = translate_range(catalogue, words, short, range, plan, n);
     let q = made.count;
-    let leaves = leaves_of(words, condition);
-    if short & short_rule_2_fits(words, x, leaves) {
-        return write_short_rule_2(words, scope, x, made.width, leaves, p, plan, q);
-    }
-    let columns = with_columns(no_list(), 1, scope.columns);
-    let inner = extend(scope, x, made.width);
-    let count = product(plan, q, p, q - 1);
-    let meeting = translate_condition(catalogue, words, short, condition, inner, q, plan, count);
-    project(plan, meeting, meeting - 1, columns)
-}
-
-// The division of S5, by the range of y at node k.
-fn translate_division(
-    catalogue: &[u32],
-    words: &[u32],
-    short: bool,
-    y: u32,
-    k: u32,
-    reference: u32,
-    scope: CarriedScope,
-    p: u32,
-    plan: &mut [u32],
-    n: u32,
-) -> u32
-    requires { ⌜ Names (now words) reference × DivisionReady (now catalogue) (now plan) y (conditionAt (now words) reference) scope n × (shortRule5Fits y (conditionAt (now words) reference) ≡ true) ⌝ }
-    ensures { λ r. ⌜ Written (now (plan .entry)) n (translateCondition (columnsOf (now (catalogue .entry))) short (conditionAt (now (words .entry)) reference) (divisionBy y k) (scopeOf scope) p n) (now (plan .exit)) r ⌝ }
-{
-    let node = decode(words, (reference - 1) as usize);
-    match node {
-        Node::Some {
-            variable,
-            range,
+    let way = way_of(words, short, quantifier, wanted, x, condition);
+    match way {
+        Way::ByRule(rule) => write_rule(
+            words,
+            scope,
+            rule,
+            x,
+            made.width,
             condition,
-        } => {
-            let made = translate_range(catalogue, words, short, range, plan, n);
-            let leaves = leaves_of(words, condition);
-            write_short_rule_5(
-                words,
-                scope,
-                y,
-                k,
-                variable,
-                made.width,
-                leaves,
-                p,
-                plan,
-                made.count,
-            )
-        }
-        _ => n,
-    }
-}
-
-// Every: S4; S5; else range, product Q, T(f, Q), difference from Q, project to P's columns, difference from P.
-fn translate_every(
-    catalogue: &[u32],
-    words: &[u32],
-    short: bool,
-    x: u32,
-    range: u32,
-    condition: u32,
-    scope: CarriedScope,
-    p: u32,
-    plan: &mut [u32],
-    n: u32,
-) -> u32
-    requires { ⌜ Names (now words) range × Names (now words) condition × ConditionReady (now catalogue) (now plan) (calculus.onCondition (calculus.forEvery x (rangeAt (now words) range) (conditionAt (now words) condition))) scope n ⌝ }
-    ensures { λ r. ⌜ Written (now (plan .entry)) n (translateCondition (columnsOf (now (catalogue .entry))) short (calculus.forEvery x (rangeAt (now (words .entry)) range) (conditionAt (now (words .entry)) condition)) itself (scopeOf scope) p n) (now (plan .exit)) r ⌝ }
-{
-    let made = translate_range(catalogue, words, short, range, plan, n);
-    let q = made.count;
-    let leaves = leaves_of(words, condition);
-    if short & short_rule_4_fits(words, x, leaves) {
-        return write_short_rule_4(words, scope, x, made.width, leaves, p, plan, q);
-    }
-    if short & division_fits(words, x, condition) {
-        return translate_division(
+            0,
+            0,
+            p,
+            plan,
+            q,
+        ),
+        Way::AsDivisor { y, k } => write_rule(
+            words,
+            scope,
+            ShortRule::S5,
+            x,
+            made.width,
+            condition,
+            y,
+            k,
+            p,
+            plan,
+            q,
+        ),
+        Way::ByDivision => translate_condition(
             catalogue,
             words,
             short,
-            x,
-            q - 1,
             condition,
+            Wanted::Division { y: x, k: q - 1 },
             scope,
             p,
             plan,
             q,
-        );
+        ),
+        Way::Plain => {
+            let mut inner = *scope;
+            extend(&mut inner, x, made.width);
+            let count = product(plan, q, p, q - 1);
+            let meeting = translate_condition(
+                catalogue,
+                words,
+                short,
+                condition,
+                Wanted::Itself,
+                &inner,
+                q,
+                plan,
+                count,
+            );
+            write_kept(quantifier, columns_in(scope), p, q, plan, meeting)
+        }
     }
-    let columns = with_columns(no_list(), 1, scope.columns);
-    let inner = extend(scope, x, made.width);
-    let count = product(plan, q, p, q - 1);
-    let meeting = translate_condition(catalogue, words, short, condition, inner, q, plan, count);
-    let failing = subtract(plan, meeting, q, meeting - 1);
-    let failed = project(plan, failing, meeting, columns);
-    subtract(plan, failed, p, failing)
 }

@@ -4,7 +4,7 @@ ghost use mathlib.Core.Bool.{true};
 ghost use Prim.Native.Nat.{_+_, _*_, _≤_, _/_};
 ghost use lib.ListN.{length};
 ghost use Rattle.question.specs.declared.judgement.Judgement.the-variants.{Refused};
-ghost use Rattle.relations.specs.Limits.{questionNodeLimit};
+ghost use Rattle.relations.specs.Limits.{questionNodeLimit, questionNodeWords};
 ghost use Rattle.nodes.specs.Nodes.{nodeCount, nodeAt, isIllFormed};
 ghost use Rattle.nodes.specs.References.{lowest};
 ghost use Rattle.question.specs.Judgement.{countOk, judgeCount, isAlphaRole, isUnknownRole, isUnknown};
@@ -118,7 +118,7 @@ fn is_unknown(relations: usize, role: Role) -> bool
 
 // Refusal 2: the lowest node whose words break its form, or the number of nodes.
 fn lowest_ill_formed(words: &[u32], nodes: usize) -> usize
-    requires { ⌜ nodes * 6 ≤ length (now words) ⌝ }
+    requires { ⌜ nodes * questionNodeWords ≤ length (now words) ⌝ }
     ensures { λ r. ⌜ r ≡ lowest (λ i. isIllFormed (nodeAt (now (words .entry)) i)) nodes ⌝ }
 {
     let mut i = 0;
@@ -133,7 +133,7 @@ fn lowest_ill_formed(words: &[u32], nodes: usize) -> usize
 
 // Refusal 4: the lowest table node with an unknown relation, or the number of nodes.
 fn lowest_unknown(relations: usize, words: &[u32], nodes: usize) -> usize
-    requires { ⌜ nodes * 6 ≤ length (now words) ⌝ }
+    requires { ⌜ nodes * questionNodeWords ≤ length (now words) ⌝ }
     ensures { λ r. ⌜ r ≡ lowest (λ i. isUnknown relations (nodeAt (now (words .entry)) i)) nodes ⌝ }
 {
     let mut i = 0;

@@ -15,12 +15,13 @@ use Rattle.relations.specs.Comparison.{Operator, operatorOf, operatorNamed}
 use Rattle.relations.specs.Columns.{Triple, Pair, attribute, constant, leftNumbers}
 use Rattle.relations.specs.Operations.{loadCandidates, projectCandidates, selectConstantCandidates, selectAttributeCandidates, joinCandidates, semijoinCandidates, antijoinCandidates, divideCandidates, uniteCandidates, intersectCandidates, subtractCandidates}
 use Rattle.relations.specs.Nodes as nodes
-use Rattle.relations.specs.Nodes.{heavyOperation}
+use Rattle.relations.specs.Nodes.{heavyNumber, weightOf}
 use Rattle.relations.specs.Plan.{candidates, widthOfNode, widthAt, valueAt}
 use Rattle.relations.specs.Legality.{distinct}
 use Rattle.relations.specs.PlanWords.{shapeOf, readTriples, readPairs, readParts, readNode}
 use Rattle.relations.proofs.LegalityLaws.{Between, LegalFacts, legal-facts}
 use Rattle.relations.proofs.ListLaws.{all-mono, all-map}
+use Rattle.relations.proofs.PlanWordsOnly.{words-and-back}
 use Rattle.values.specs.Words.{rowsOf}
 use Rattle.values.specs.Building.{Makes}
 use Rattle.values.specs.declared.rows.Value.{Value}
@@ -29,7 +30,7 @@ use Rattle.operations.specs.Lists.{triplesIn}
 use Rattle.operations.proofs.ListLaws.{triples-read}
 use Rattle.terms.proofs.NumberLaws.{operator-named}
 use Rattle.catalogue.specs.Stored.{relationsOf, columnsOf, storedTables}
-use Rattle.plans.specs.Decoding.{operationIn, operationCode, decoded}
+use Rattle.plans.specs.Decoding.{operationIn, decoded}
 use Rattle.plans.specs.Judging.{legalRead}
 use Rattle.plans.specs.Steps.{widthOf}
 use Rattle.plans.specs.declared.nodes.Operation.{Operation}
@@ -41,7 +42,7 @@ use Rattle.plans.proofs.JudgeLaws.{width-planned}
 use Rattle.plans.proofs.LegalLaws.{count-within}
 use Rattle.plans.proofs.ListedLaws.{pairs-many}
 use Rattle.running.specs.Standing.{valuesIn, valueNamed, standing, StandsBefore, Stand}
-use Rattle.running.specs.NodeRun.{widthRead, candidatesRead, weightOf, weightRead}
+use Rattle.running.specs.NodeRun.{widthRead, candidatesRead, weightRead}
 use Rattle.running.proofs.StandLaws.{value-width, standing-at, value-stands}
 
 -- the node that an operation runs, by a decoded node's numbers and list
@@ -234,27 +235,14 @@ module _ (catalogue tables words : List ℕ) (plan : PlanNode) (size : length wo
 
 -- What `run_node` answers beside the value.
 
-heavy-planned : (operation : nodes.Operation) → heavyOperation (operationIn (operationCode operation)) ≡ heavyOperation operation
-heavy-planned nodes.loading = refl
-heavy-planned nodes.projecting = refl
-heavy-planned nodes.selectingConstant = refl
-heavy-planned nodes.selectingAttribute = refl
-heavy-planned nodes.joining = refl
-heavy-planned nodes.semijoining = refl
-heavy-planned nodes.antijoining = refl
-heavy-planned nodes.dividing = refl
-heavy-planned nodes.uniting = refl
-heavy-planned nodes.intersecting = refl
-heavy-planned nodes.subtracting = refl
-
 module _ (words : List ℕ) (plan : PlanNode) (stood : Stands words plan) where
   pub width-read : (columns : ℕ → ℕ) (widths : List ℕ) → widthOf columns widths plan ≡ widthRead columns widths (readNode words)
   width-read columns widths = ap (widthOf columns widths) (sym (stood .is)) ∙ width-planned columns widths (stood .node) ∙ ap (widthRead columns widths) (sym (stood .read))
 
-  pub weight-read : weightOf (heavyOperation (operationIn (plan .operation))) ≡ weightRead (readNode words)
-  weight-read =
-      ap (λ (p : PlanNode). weightOf (heavyOperation (operationIn (p .operation)))) (sym (stood .is))
-      ∙ ap weightOf (heavy-planned (nodes.operationOfNode (stood .node))) ∙ ap weightRead (sym (stood .read))
+  -- the first word is the operation's number
+  pub weight-read : length words ≡ planNodeWords → weightOf (heavyNumber (getD words 0 0)) ≡ weightRead (readNode words)
+  weight-read size =
+      ap (λ (l : List ℕ). weightOf (heavyNumber (getD l 0 0))) (sym (words-and-back .only words (stood .node) size (stood .read) .1)) ∙ ap weightRead (sym (stood .read))
 
 pub makes-told : {w out : ℕ} {cs : Rows} {before after : List ℕ} {r p : Placed} → r ≡ p → Makes w out cs before after r → Makes w out cs before after p
 makes-told e g = rw e at g

@@ -12,7 +12,7 @@ use lib.Seq.{take-suc-set, length-take-le, drop-drop, getD-take}
 use Rattle.relations.specs.Limits.{planNodeLimit, planNodeWords, columnLimit}
 use Rattle.relations.specs.Lists.{All, filter}
 use Rattle.relations.specs.Values.{Rows, Tables, Wide, Ascending, canonical}
-use Rattle.relations.specs.Nodes.{Node}
+use Rattle.relations.specs.Nodes.{Node, weightOf}
 use Rattle.relations.specs.Machine.{run, lastOr}
 use Rattle.relations.specs.Plan.{values, answer, widths, widthAt, valueAt, candidates, valueWords, widthOfNode, valueOfNode, heavyNode, room}
 use Rattle.relations.specs.Plan.{heavy as heavyOf}
@@ -36,7 +36,7 @@ use Rattle.plans.specs.Judging.{legalRead, judgePlanNodes, planJudgement, nodes
 use Rattle.plans.specs.declared.judging.PlanJudgement.the-variants.{Legal}
 use Rattle.plans.proofs.PlanTheorem.{judged-exactly}
 use Rattle.running.specs.Standing.{valuesIn, noValue, valueNamed, standing, StandsBefore, Stand}
-use Rattle.running.specs.NodeRun.{weightOf, placedOf, NodeRun}
+use Rattle.running.specs.NodeRun.{placedOf, NodeRun}
 use Rattle.running.specs.RunCall.{fits, passesAt, fitOf, lastPlace, planRoom, fitWithin}
 use Rattle.running.specs.PlanRun.{Answered}
 use Rattle.running.specs.declared.node.Made.{Made}

@@ -1,11 +1,10 @@
 -- What running one node leaves, given what its words read as. Words that read as no node make no value; a judged plan has none.
 use mathlib.Core.Path.{_≡_}
-use mathlib.Core.Bool.{Bool, cond}
 use mathlib.Core.List.{List, []}
 use mathlib.Core.Option.{Option, some, none}
 use Prim.Native.Nat.{ℕ}
 use Rattle.relations.specs.Values.{Rows, Tables}
-use Rattle.relations.specs.Nodes.{Node}
+use Rattle.relations.specs.Nodes.{Node, weightOf}
 use Rattle.relations.specs.Plan.{candidates, widthOfNode, heavyNode}
 use Rattle.values.specs.Building.{Makes}
 use Rattle.values.specs.declared.placing.Placed.{Placed}
@@ -21,10 +20,6 @@ widthRead columns made (some node) = widthOfNode columns made node
 abbrev pub candidatesRead : Tables → List Rows → Option Node → Rows
 candidatesRead tables made none = []
 candidatesRead tables made (some node) = candidates tables made node
-
--- what an operation adds to the number of heavy ones
-abbrev pub weightOf : Bool → ℕ
-weightOf isHeavy = cond isHeavy 1 0
 
 abbrev pub weightRead : Option Node → ℕ
 weightRead none = 0

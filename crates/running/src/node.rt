@@ -5,7 +5,6 @@ ghost use Prim.Native.Nat.{ℕ, _+_, _≤_, _<_};
 ghost use lib.ListN.{length, getD, drop};
 ghost use Rattle.relations.specs.Limits.{planNodeWords, headWords};
 ghost use Rattle.relations.specs.Columns as meaning;
-ghost use Rattle.relations.specs.Nodes.{heavyOperation};
 ghost use Rattle.relations.specs.Operations.{loadCandidates, selectConstantCandidates, selectAttributeCandidates};
 ghost use Rattle.relations.specs.PlanWords.{readNode};
 ghost use Rattle.catalogue.specs.Judging.{tablesOk};
@@ -14,10 +13,10 @@ ghost use Rattle.values.specs.Building.{Builds, Blank, Makes};
 ghost use Rattle.terms.specs.Terms.{attributeIn, constantIn};
 ghost use Rattle.relations.specs.Comparison.{operatorNamed};
 ghost use Rattle.catalogue.specs.Stored.{relationsOf, columnsOf, storedTables};
-ghost use Rattle.plans.specs.Decoding.{operationIn, decoded};
+ghost use Rattle.plans.specs.Decoding.{decoded};
 ghost use Rattle.plans.specs.Judging.{legalRead};
 ghost use Rattle.running.specs.Standing.{valuesIn, valueNamed, standing, Stand};
-ghost use Rattle.running.specs.NodeRun.{widthRead, candidatesRead, weightOf, NodeRun};
+ghost use Rattle.running.specs.NodeRun.{widthRead, candidatesRead, NodeRun};
 use catalogue::judging::wide;
 use catalogue::stored::columns_of;
 use catalogue::stored::rows_of;
@@ -39,6 +38,7 @@ use plans::nodes::Decoded;
 use plans::nodes::Operation;
 use plans::nodes::PlanNode;
 use plans::nodes::decode_node;
+use relations::heavy::weight;
 use relations::limits::HEAD_WORDS;
 use terms::attribute::Attribute;
 use terms::constant::Constant;
@@ -166,25 +166,6 @@ fn make_value(
     }
 }
 
-// 1 for a heavy operation, else 0.
-fn weight(operation: Operation) -> usize
-    ensures { λ r. ⌜ r ≡ weightOf (heavyOperation (operationIn operation)) ⌝ }
-{
-    match operation {
-        Operation::Load => 0,
-        Operation::Project => 0,
-        Operation::SelectConstant => 0,
-        Operation::SelectAttribute => 0,
-        Operation::Join => 1,
-        Operation::Semijoin => 0,
-        Operation::Antijoin => 0,
-        Operation::Divide => 1,
-        Operation::Unite => 1,
-        Operation::Intersect => 1,
-        Operation::Subtract => 1,
-    }
-}
-
 // A legal node, by its words. Words that are no node do not come up: the plan was judged.
 pub fn run_node(
     catalogue: &[u32],
@@ -201,7 +182,7 @@ pub fn run_node(
 {
     match decode_node(words) {
         Decoded::Node(node) => {
-            let operation = node.operation;
+            let heavy = wide(weight(words[0]));
             let width = width_of(catalogue, widths, node);
             match make_value(
                 catalogue,
@@ -214,11 +195,7 @@ pub fn run_node(
                 bases,
                 out,
             ) {
-                Placed::Rows(rows) => Made::Value {
-                    width,
-                    rows,
-                    heavy: weight(operation),
-                },
+                Placed::Rows(rows) => Made::Value { width, rows, heavy },
                 Placed::Full => Made::NoRoom,
             }
         }

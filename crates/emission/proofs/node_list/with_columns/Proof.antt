@@ -1,5 +1,6 @@
 use Rattle.emission.proofs.NodeListLaws.{grown-used, grown-step, grown-none, columns-step}
 use Rattle.emission.specs.NodeLists.{grownBy, numbersOf}
+use Rattle.relations.specs.Limits.{listWords}
 use Rattle.calculus.specs.Scope.{columnsFrom}
 use Prim.Native.Nat.{_+_, _≤_}
 use mathlib.Core.Path.{_≡_, refl, sym, ap, _∙_}
@@ -8,7 +9,7 @@ use Rattle.emission.proofs.node_list.with_columns.Statement.{statement}
 use Rattle.emission.proofs.node_list.with_columns.Tie as tie
 
 abbrev Inv-loop : tie.InvT-loop
-Inv-loop first count longer₀ column₀ left₀ longer column left = (longer .used + left ≤ 32)
+Inv-loop first count longer₀ column₀ left₀ longer column left = (longer .used + left ≤ listWords)
     × (column + left ≡ first + count)
     × (grownBy longer (numbersOf (columnsFrom left column)) ≡ grownBy longer₀ (numbersOf (columnsFrom count first)))
 

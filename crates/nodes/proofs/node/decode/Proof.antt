@@ -1,8 +1,13 @@
--- `nodes::node::decode` meets its contract. The six words spell the node, and the two tests decide whether it stands. Assumes nothing.
 use Rattle.nodes.specs.Nodes.{nodeAt}
+use native.Mathlib.Omega.{arith}
 use borrow.Author.Needs.{needs}
 use Rattle.nodes.proofs.node.decode.Statement.{statement}
 use Rattle.nodes.proofs.node.decode.Tie as tie
+use Rattle.nodes.proofs.node.decode.Reads as reads
+use Rattle.nodes.proofs.node.decode.Lts as lts
+use Rattle.nodes.proofs.kinds.fields_of.Reads as fields-of-reads
+use Rattle.nodes.proofs.node.field_fits.Reads as field-fits-reads
+use Rattle.nodes.proofs.node.spell.Reads as spell-reads
 
 mul-at : tie.Need-mul-at
 mul-at c = search needs
@@ -58,22 +63,34 @@ mul-e c = search needs
 shared-slice-read-e : tie.Need-shared-slice-read-e
 shared-slice-read-e c = search needs
 
+fields-of-requires : tie.Need-fields-of-requires
+fields-of-requires c κs = search needs
+
+field-fits-requires : tie.Need-field-fits-requires
+field-fits-requires c κs = search needs
+
+field-fits-requires-2 : tie.Need-field-fits-requires-2
+field-fits-requires-2 c κs = search needs
+
+field-fits-requires-3 : tie.Need-field-fits-requires-3
+field-fits-requires-3 c κs = search needs
+
+field-fits-requires-4 : tie.Need-field-fits-requires-4
+field-fits-requires-4 c κs = search needs
+
+field-fits-requires-5 : tie.Need-field-fits-requires-5
+field-fits-requires-5 c κs = search needs
+
 spell-requires : tie.Need-spell-requires
 spell-requires c κs = search needs
 
-unused-zero-requires : tie.Need-unused-zero-requires
-unused-zero-requires c κs = search needs
-
-fits-requires : tie.Need-fits-requires
-fits-requires c κs = search needs
-
 returns : tie.Need-returns
 unfolding nodeAt
-returns c = simp (c .before .before .before .spell .ensures, rw (c .before .before .unused-zero .ensures, c .before .fits2 .ensures, c .before .before .before .spell .ensures) at (c .if1 .taken))
+returns c = simp (c .spell .ensures, rw (c .before .before .before .before .before .before .field-fits .ensures, c .before .before .before .before .before .field-fits2 .ensures, c .before .before .before .before .field-fits3 .ensures, c .before .before .before .field-fits4 .ensures, c .before .before .field-fits5 .ensures, c .before .before .before .before .before .before .before .fields-of .ensures) at (c .before .if1 .taken))
 
 returns-2 : tie.Need-returns-2
 unfolding nodeAt
-returns-2 c = simp (rw (c .before .before .unused-zero .ensures, c .before .fits2 .ensures, c .before .before .before .spell .ensures) at (c .if1 .left))
+returns-2 c = simp (rw (c .before .before .before .before .before .field-fits .ensures, c .before .before .before .before .field-fits2 .ensures, c .before .before .before .field-fits3 .ensures, c .before .before .field-fits4 .ensures, c .before .field-fits5 .ensures, c .before .before .before .before .before .before .fields-of .ensures) at (c .if1 .left))
 
 pub decode-spec : {M : Type 1} → statement M
 decode-spec =
@@ -97,8 +114,12 @@ decode-spec =
     add-e
     mul-e
     shared-slice-read-e
+    fields-of-requires
+    field-fits-requires
+    field-fits-requires-2
+    field-fits-requires-3
+    field-fits-requires-4
+    field-fits-requires-5
     spell-requires
-    unused-zero-requires
-    fits-requires
     returns
     returns-2)
