@@ -16,7 +16,7 @@ use Rattle.nodes.specs.Roles.{roleOf}
 use Rattle.nodes.specs.References.{references}
 use Rattle.question.specs.Trees.{Tree, nothing, branch}
 use Rattle.question.specs.Judgement.{isAlphaRole}
-use Rattle.question.specs.Walk.{noWidths, addWidths, boundWidth, bind, boundBy, entered, Found, stepOf, placeOf, opening, inside, foundAt, walk, lowered, PlacesSoFar, BindingsWalked, bindingsWalked, Walked, walked}
+use Rattle.question.specs.Walk.{noWidths, addWidths, boundWidth, bind, boundBy, entered, Found, stepOf, placeOf, opening, inside, foundAt, walk, lowered, PlacesSoFar, JudgedAt, judgedAt, BindingsWalked, bindingsWalked, Walked, walked}
 use Rattle.nodes.specs.declared.node.Node.{Node}
 use Rattle.nodes.specs.declared.node.Node.the-variants.{Table, Alpha, Target, Binding, RangeOr, RangeAnd, RangeAndNot, Atom as AtomNode, And, Or, Not, Some, Every, IllFormed}
 use Rattle.nodes.specs.declared.roles.Role.{Role}
@@ -46,7 +46,7 @@ none-lowered l so-far =
     let b : min (getD l 1 0) questionNodeLimit ≡ getD l 1 0 = omega (arith, so-far .unfit-so-far) in
     rw (a, b) (sym (as-two l (so-far .two-places)))
 
-pub still-so-far : {l m : List ℕ} (a b : ℕ) → PlacesSoFar l → m ≡ lowered l a b → PlacesSoFar m
+still-so-far : {l m : List ℕ} (a b : ℕ) → PlacesSoFar l → m ≡ lowered l a b → PlacesSoFar m
 still-so-far {l} {m} a b so-far e = rw e (record { two-places = refl; unbound-so-far = omega (arith, so-far .unbound-so-far); unfit-so-far = omega (arith, so-far .unfit-so-far) })
 
 three-in-line : (x a b c : ℕ) → min (min (min x a) b) c ≡ min x (min a (min b c))
@@ -161,8 +161,8 @@ module _ (s : List ℕ) where
   opens-unfit : (role : Role) → role ≡ Opens → (first w : ℕ) → stepOf s role .unfit 0 w ≡ stepOf s role .unfit first w
   opens-unfit role h first w = ap (λ (r : Role). stepOf s r .unfit 0 w) h ∙ sym (ap (λ (r : Role). stepOf s r .unfit first w) h)
 
-  opens-width : (role : Role) → role ≡ Opens → (columns : ℕ → ℕ) (first w : ℕ) → w ≡ stepOf s role .width columns first w
-  opens-width role h columns first w = sym (ap (λ (r : Role). stepOf s r .width columns first w) h)
+  opens-width : (role : Role) → role ≡ Opens → (columns : ℕ → ℕ) (first w : ℕ) → stepOf s role .width columns 0 w ≡ stepOf s role .width columns first w
+  opens-width role h columns first w = ap (λ (r : Role). stepOf s r .width columns 0 w) h ∙ sym (ap (λ (r : Role). stepOf s r .width columns first w) h)
 
   binds-unfit : (role : Role) (v : ℕ) → role ≡ Binds v → (w second : ℕ) → stepOf s role .unfit w 0 ≡ stepOf s role .unfit w second
   binds-unfit role v h w second = ap (λ (r : Role). stepOf s r .unfit w 0) h ∙ sym (ap (λ (r : Role). stepOf s r .unfit w second) h)
@@ -225,13 +225,13 @@ module _ (columns : ℕ → ℕ) (s l : List ℕ) (so-far : PlacesSoFar l) where
 
   module _ (i : ℕ) (node : Node) (x y z : Tree) where
     -- an alpha: its parts in a scope of their own
-    pub alpha-walked : {own own' own″ : List ℕ} {a b c d : List ℕ} {width other : ℕ} → roleOf node ≡ Opens
+    pub alpha-walked : {own own' own″ : List ℕ} {a b c d : List ℕ} {width other result : ℕ} → roleOf node ≡ Opens
         → record { scope = own; lowest = a } ≡ bindingsWalked columns x noWidths l
         → record { width = width; scope = own'; lowest = b } ≡ walked columns y own a
         → record { width = other; scope = own″; lowest = c } ≡ walked columns z own' b
-        → d ≡ lowered c (placeOf (stepOf s (roleOf node) .unbound) i) (placeOf (stepOf s (roleOf node) .unfit 0 width) i)
-        → record { width = width; scope = s; lowest = d } ≡ walked columns (branch i node x y z) s l
-    alpha-walked {own} {own'} {own″} {a} {b} {c} {d} {width} {other} h bound targets condition own-faults =
+        → record { width = result; lowest = d } ≡ judgedAt columns (roleOf node) i s 0 width c
+        → record { width = result; scope = s; lowest = d } ≡ walked columns (branch i node x y z) s l
+    alpha-walked {own} {own'} {own″} {a} {b} {c} {d} {width} {other} {result} h bound targets condition judged =
         let F : Found = walk columns x noWidths in
         let S : Found = walk columns y (F .scope) in
         let T : Found = walk columns z (F .scope) in
@@ -243,19 +243,20 @@ module _ (columns : ℕ → ℕ) (s l : List ℕ) (so-far : PlacesSoFar l) where
         let C : c ≡ lowered b (T .unbound) (T .unfit) = ap (λ (w : Walked). w .lowest) condition ∙ rw e' in
         let p : ℕ = placeOf (stepOf s (roleOf node) .unbound) i in
         let q : ℕ = placeOf (stepOf s (roleOf node) .unfit (F .width) (S .width)) i in
-        let D : d ≡ lowered (lowered (lowered (lowered l (F .unbound) (F .unfit)) (S .unbound) (S .unfit)) (T .unbound) (T .unfit)) p q = own-faults ∙ rw (w, opens-unfit s (roleOf node) h (F .width) (S .width), C, B, A) in
-        let k : width ≡ stepOf s (roleOf node) .width columns (F .width) (S .width) = w ∙ opens-width s (roleOf node) h columns (F .width) (S .width) in
+        let D : d ≡ lowered (lowered (lowered (lowered l (F .unbound) (F .unfit)) (S .unbound) (S .unfit)) (T .unbound) (T .unfit)) p q = ap (λ (j : JudgedAt). j .lowest) judged ∙ rw (w, opens-unfit s (roleOf node) h (F .width) (S .width), C, B, A) in
+        let k : result ≡ stepOf s (roleOf node) .width columns (F .width) (S .width) = ap (λ (j : JudgedAt). j .width) judged ∙ rw w (opens-width s (roleOf node) h columns (F .width) (S .width)) in
         rw (D, k, all-lowered l p q (F .unbound) (F .unfit) (S .unbound) (S .unfit) (T .unbound) (T .unfit), alpha-is columns s i node x y z h)
 
     -- any other node: the parts behind the first see what it binds
-    pub node-walked : {after after' after″ inner : List ℕ} {a b c d : List ℕ} {first second third : ℕ} → isAlphaRole (roleOf node) ≡ false → RoleFits (roleOf node)
+    pub node-walked : {after after' after″ inner back : List ℕ} {a b c d : List ℕ} {first second third result : ℕ} → isAlphaRole (roleOf node) ≡ false → RoleFits (roleOf node)
         → record { width = first; scope = after; lowest = a } ≡ walked columns x s l
         → inner ≡ entered after (boundBy (roleOf node)) first
         → record { width = second; scope = after'; lowest = b } ≡ walked columns y inner a
         → record { width = third; scope = after″; lowest = c } ≡ walked columns z after' b
-        → d ≡ lowered c (placeOf (stepOf s (roleOf node) .unbound) i) (placeOf (stepOf s (roleOf node) .unfit first second) i)
-        → record { width = stepOf s (roleOf node) .width columns first second; scope = s; lowest = d } ≡ walked columns (branch i node x y z) s l
-    node-walked {after} {after'} {after″} {inner} {a} {b} {c} {d} {first} {second} {third} other fits one enters two three own-faults =
+        → back ≡ s
+        → record { width = result; lowest = d } ≡ judgedAt columns (roleOf node) i back first second c
+        → record { width = result; scope = back; lowest = d } ≡ walked columns (branch i node x y z) s l
+    node-walked {after} {after'} {after″} {inner} {back} {a} {b} {c} {d} {first} {second} {third} {result} other fits one enters two three same judged =
         let F : Found = walk columns x s in
         let S : Found = walk columns y inner in
         let T : Found = walk columns z inner in
@@ -267,17 +268,18 @@ module _ (columns : ℕ → ℕ) (s l : List ℕ) (so-far : PlacesSoFar l) where
         let C : c ≡ lowered b (T .unbound) (T .unfit) = ap (λ (w : Walked). w .lowest) three ∙ rw (ap (λ (w : Walked). w .scope) two) in
         let p : ℕ = placeOf (stepOf s (roleOf node) .unbound) i in
         let q : ℕ = placeOf (stepOf s (roleOf node) .unfit (F .width) (S .width)) i in
-        let D : d ≡ lowered (lowered (lowered (lowered l (F .unbound) (F .unfit)) (S .unbound) (S .unfit)) (T .unbound) (T .unfit)) p q = own-faults ∙ rw (f, g, C, B, A) in
-        rw (D, f, g, all-lowered l p q (F .unbound) (F .unfit) (S .unbound) (S .unfit) (T .unbound) (T .unfit), node-is columns s i node x y z other fits e)
+        let D : d ≡ lowered (lowered (lowered (lowered l (F .unbound) (F .unfit)) (S .unbound) (S .unfit)) (T .unbound) (T .unfit)) p q = ap (λ (j : JudgedAt). j .lowest) judged ∙ rw (same, f, g, C, B, A) in
+        let k : result ≡ stepOf s (roleOf node) .width columns (F .width) (S .width) = ap (λ (j : JudgedAt). j .width) judged ∙ rw (same, f, g) in
+        rw (D, k, same, all-lowered l p q (F .unbound) (F .unfit) (S .unbound) (S .unfit) (T .unbound) (T .unfit), node-is columns s i node x y z other fits e)
 
   -- a binding, and those behind it
-  pub binding-walked : (i : ℕ) (node : Node) (x y : Tree) {v first : ℕ} {after after' inner : List ℕ} {a b c : List ℕ} → roleOf node ≡ Binds v
+  pub binding-walked : (i : ℕ) (node : Node) (x y : Tree) {v first result : ℕ} {after after' inner : List ℕ} {a b c : List ℕ} → roleOf node ≡ Binds v
       → record { width = first; scope = after; lowest = a } ≡ walked columns x s l
-      → b ≡ lowered a (placeOf (stepOf after (roleOf node) .unbound) i) (placeOf (stepOf after (roleOf node) .unfit first 0) i)
+      → record { width = result; lowest = b } ≡ judgedAt columns (roleOf node) i after first 0 a
       → inner ≡ bind after v first
       → record { scope = after'; lowest = c } ≡ bindingsWalked columns y inner b
       → record { scope = after'; lowest = c } ≡ bindingsWalked columns (branch i node x y nothing) s l
-  binding-walked i node x y {v} {first} {after} {after'} {inner} {a} {b} {c} h one own-faults binds behind =
+  binding-walked i node x y {v} {first} {result} {after} {after'} {inner} {a} {b} {c} h one judged binds behind =
       let F : Found = walk columns x s in
       let S : Found = walk columns y inner in
       let f : first ≡ F .width = ap (λ (w : Walked). w .width) one in
@@ -287,7 +289,7 @@ module _ (columns : ℕ → ℕ) (s l : List ℕ) (so-far : PlacesSoFar l) where
       let p : ℕ = placeOf (stepOf s (roleOf node) .unbound) i in
       let q : ℕ = placeOf (stepOf s (roleOf node) .unfit (F .width) (S .width)) i in
       let A : a ≡ lowered l (F .unbound) (F .unfit) = ap (λ (w : Walked). w .lowest) one in
-      let B : b ≡ lowered a p q = own-faults ∙ rw (k, f, binds-unfit s (roleOf node) v h (F .width) (S .width)) in
+      let B : b ≡ lowered a p q = ap (λ (j : JudgedAt). j .lowest) judged ∙ rw (k, f, binds-unfit s (roleOf node) v h (F .width) (S .width)) in
       let C : c ≡ lowered b (S .unbound) (S .unfit) = ap (λ (w : BindingsWalked). w .lowest) behind in
       let D : c ≡ lowered (lowered (lowered l (F .unbound) (F .unfit)) p q) (S .unbound) (S .unfit) = C ∙ rw (B, A) in
       let g : after' ≡ stepOf s (roleOf node) .behind S = ap (λ (w : BindingsWalked). w .scope) behind ∙ binds-behind s (roleOf node) v h S in
@@ -305,6 +307,9 @@ module _ (columns : ℕ → ℕ) (s l : List ℕ) (so-far : PlacesSoFar l) where
   pub so-far-bound : (tree : Tree) {after a : List ℕ} → record { scope = after; lowest = a } ≡ bindingsWalked columns tree s l → PlacesSoFar a
   so-far-bound tree one = still-so-far _ _ so-far (ap (λ (w : BindingsWalked). w .lowest) one)
 
+  pub so-far-judged : (role : Role) (i first second : ℕ) {result : ℕ} {a : List ℕ} → record { width = result; lowest = a } ≡ judgedAt columns role i s first second l → PlacesSoFar a
+  so-far-judged role i first second one = still-so-far _ _ so-far (ap (λ (j : JudgedAt). j .lowest) one)
+
   -- what a binder set is set back behind its parts
   pub back-again : (x y z : Tree) (v : ℕ) {first second third : ℕ} {after inner after' after″ a b c : List ℕ}
       → record { width = first; scope = after; lowest = a } ≡ walked columns x s l
@@ -314,10 +319,6 @@ module _ (columns : ℕ → ℕ) (s l : List ℕ) (so-far : PlacesSoFar l) where
       → set (set after″ v (getD after v 0)) variableCount (getD after variableCount 0) ≡ s
   back-again x y z v {first = first} {after = after} one enters two three =
       rw (ap (λ (w : Walked). w .scope) three, ap (λ (w : Walked). w .scope) two, enters) (set-back after v first) ∙ ap (λ (w : Walked). w .scope) one
-
-pub node-done : (columns : ℕ → ℕ) (tree : Tree) (l : List ℕ) {s back d : List ℕ} {width width' : ℕ} → back ≡ s → width ≡ width' → record { width = width'; scope = s; lowest = d } ≡ walked columns tree s l
-    → record { width = width; scope = back; lowest = d } ≡ walked columns tree s l
-node-done columns tree l e f done = rw (e, f) done
 
 part-within : (p a b : ℕ) → a ≤ questionNodeLimit → min p (min a b) ≤ questionNodeLimit
 part-within p a b h = omega arith

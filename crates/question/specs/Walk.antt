@@ -164,6 +164,17 @@ pub record PlacesSoFar (lowest : List ℕ) : Type 0 where
   pub unbound-so-far : getD lowest 0 0 ≤ questionNodeLimit
   pub unfit-so-far : getD lowest 1 0 ≤ questionNodeLimit
 
+pub record JudgedAt : Type 0 where
+  pub width : ℕ
+  pub lowest : List ℕ
+
+abbrev pub judgedAt : (ℕ → ℕ) → Role → ℕ → (scope : List ℕ) (first second : ℕ) (lowest : List ℕ) → JudgedAt
+judgedAt columns role i scope first second lowest =
+    record {
+      width = stepOf scope role .width columns first second;
+      lowest = lowered lowest (placeOf (stepOf scope role .unbound) i) (placeOf (stepOf scope role .unfit first second) i);
+    }
+
 pub record BindingsWalked : Type 0 where
   pub scope : List ℕ
   pub lowest : List ℕ

@@ -8,7 +8,7 @@ ghost use Rattle.nodes.specs.Nodes.{nodeAt, RoleFits, OperandVariableFits};
 ghost use Rattle.nodes.specs.Roles.{roleOf};
 ghost use Rattle.catalogue.specs.Stored.{columnsOf};
 ghost use Rattle.question.specs.Trees.{treeOf};
-ghost use Rattle.question.specs.Walk.{widthKept, columnsKept, addWidths, boundWidth, bind, boundBy, entered, operandUnboundAt, operandUnfitAt, takenWidth, stepOf, placeOf, lowered, PlacesSoFar, walked, bindingsWalked};
+ghost use Rattle.question.specs.Walk.{widthKept, columnsKept, addWidths, boundWidth, bind, boundBy, entered, operandUnboundAt, operandUnfitAt, takenWidth, stepOf, placeOf, PlacesSoFar, judgedAt, walked, bindingsWalked};
 use crate::judgement::is_alpha;
 use catalogue::stored::columns_of;
 use nodes::node::Operand;
@@ -222,23 +222,25 @@ fn place_of(fault: bool, i: u32) -> u32
     QUESTION_NODES as u32
 }
 
-// Node `i`, judged where it stands: its faults go to the lowest places, of refusal 5 and of refusal 6.
-fn note_faults(
+// Node `i`, judged where it stands: its faults go to the lowest places, of refusal 5 and of refusal 6, and its width is the answer.
+fn judge_at(
+    catalogue: &[u32],
     words: &[u32],
     i: u32,
     scope: &[u8; SCOPE],
     first: u32,
     second: u32,
     lowest: &mut [u32; 2],
-)
+) -> u32
     requires { ⌜ (i * questionNodeWords + questionNodeWords ≤ length (now words)) × PlacesSoFar (now lowest) ⌝ }
-    ensures { λ r. ⌜ now (lowest .exit) ≡ lowered (now (lowest .entry)) (placeOf (stepOf (now (scope .entry)) (roleOf (nodeAt (now (words .entry)) i)) .unbound) i) (placeOf (stepOf (now (scope .entry)) (roleOf (nodeAt (now (words .entry)) i)) .unfit first second) i) ⌝ }
+    ensures { λ r. ⌜ record { width = r; lowest = now (lowest .exit) } ≡ judgedAt (columnsOf (now (catalogue .entry))) (roleOf (nodeAt (now (words .entry)) i)) i (now (scope .entry)) first second (now (lowest .entry)) ⌝ }
 {
     let role = role_of(decode(words, i as usize));
     let unbound = lower(lowest[0], place_of(unbound_at(role, scope), i));
     let unfit = lower(lowest[1], place_of(unfit_at(role, scope, first, second), i));
     lowest[0] = unbound;
     lowest[1] = unfit;
+    width_of(catalogue, role, scope, first, second)
 }
 
 // Bindings, each behind the one before it: the scope then has what all of them bind. Any other node is walked.
@@ -261,7 +263,7 @@ fn walk_bindings(
     let variable = bound_by(role_of(node));
     if variable < VARIABLES {
         let width = walk(catalogue, words, named.first, scope, lowest);
-        note_faults(words, i, scope, width, 0, lowest);
+        judge_at(catalogue, words, i, scope, width, 0, lowest);
         bind(scope, variable, width);
         walk_bindings(catalogue, words, named.second, scope, lowest);
         return;
@@ -292,8 +294,7 @@ pub fn walk(
         walk_bindings(catalogue, words, named.first, &mut own, lowest);
         let width = walk(catalogue, words, named.second, &mut own, lowest);
         walk(catalogue, words, named.third, &mut own, lowest);
-        note_faults(words, i, scope, 0, width, lowest);
-        return width;
+        return judge_at(catalogue, words, i, scope, 0, width, lowest);
     }
     let variable = bound_by(role);
     let first = walk(catalogue, words, named.first, scope, lowest);
@@ -304,12 +305,5 @@ pub fn walk(
     walk(catalogue, words, named.third, scope, lowest);
     scope[variable as usize] = width;
     scope[ALL_COLUMNS] = columns;
-    note_faults(words, i, scope, first, second, lowest);
-    width_of(
-        catalogue,
-        role_of(decode(words, i as usize)),
-        scope,
-        first,
-        second,
-    )
+    judge_at(catalogue, words, i, scope, first, second, lowest)
 }

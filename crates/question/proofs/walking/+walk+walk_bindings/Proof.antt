@@ -8,10 +8,10 @@ use Rattle.nodes.specs.References.{references}
 use Rattle.nodes.specs.declared.references.References.{References}
 use Rattle.nodes.specs.declared.roles.Role.the-variants.{Binds}
 use Rattle.nodes.proofs.Forms.{node-lower, node-variable}
-use Rattle.question.specs.Trees.{branch, treeOf}
+use Rattle.question.specs.Trees.{treeOf}
 use Rattle.question.specs.Walk.{noWidths, boundBy}
 use Rattle.question.proofs.TreeLaws.{tree-of-reference, tree-of-none}
-use Rattle.question.proofs.WalkLaws.{still-so-far, is-opens, bound-within, is-binder, binder-third, other-bound, none-walked, none-bound, alpha-walked, node-walked, binding-walked, other-walked, so-far-walked, so-far-bound, back-again, node-done}
+use Rattle.question.proofs.WalkLaws.{is-opens, bound-within, is-binder, binder-third, other-bound, none-walked, none-bound, alpha-walked, node-walked, binding-walked, other-walked, so-far-walked, so-far-bound, so-far-judged, back-again}
 use borrow.Author.Needs.{needs}
 use native.Mathlib.Omega.{arith}
 use Prim.Native.Nat.{ℕ, _+_, _*_, _-_, _<_}
@@ -30,8 +30,7 @@ use Rattle.question.proofs.judgement.is_alpha.Reads as is-alpha-reads
 use Rattle.question.proofs.walking.bind.Reads as bind-reads
 use Rattle.question.proofs.walking.bound_by.Reads as bound-by-reads
 use Rattle.question.proofs.walking.enter.Reads as enter-reads
-use Rattle.question.proofs.walking.note_faults.Reads as note-faults-reads
-use Rattle.question.proofs.walking.width_of.Reads as width-of-reads
+use Rattle.question.proofs.walking.judge_at.Reads as judge-at-reads
 use Rattle.question.proofs.walking.+walk+walk_bindings.{statement}
 use Rattle.question.proofs.walking.+walk+walk_bindings.Tie.{close}
 
@@ -55,10 +54,10 @@ walk-bindings-below t = and 4 walk-bindings-kinds.ps (falls 4 walk-bindings-kind
 
 -- what the calls ask and give
 abbrev walk-calls : ℕ → walk-lts.Claims
-walk-calls t = (decode-reads.Asked, decode-reads.Learnt, references-of-reads.Asked, references-of-reads.Learnt, role-of-reads.Asked, role-of-reads.Learnt, is-alpha-reads.Asked, is-alpha-reads.Learnt, walk-bindings-below t, walk-bindings.Post, walk-below t, walk.Post, note-faults-reads.Asked, note-faults-reads.Learnt, bound-by-reads.Asked, bound-by-reads.Learnt, enter-reads.Asked, enter-reads.Learnt, width-of-reads.Asked, width-of-reads.Learnt)
+walk-calls t = (decode-reads.Asked, decode-reads.Learnt, references-of-reads.Asked, references-of-reads.Learnt, role-of-reads.Asked, role-of-reads.Learnt, is-alpha-reads.Asked, is-alpha-reads.Learnt, walk-bindings-below t, walk-bindings.Post, walk-below t, walk.Post, judge-at-reads.Asked, judge-at-reads.Learnt, bound-by-reads.Asked, bound-by-reads.Learnt, enter-reads.Asked, enter-reads.Learnt)
 
 abbrev walk-bindings-calls : ℕ → walk-bindings-lts.Claims
-walk-bindings-calls t = (decode-reads.Asked, decode-reads.Learnt, references-of-reads.Asked, references-of-reads.Learnt, role-of-reads.Asked, role-of-reads.Learnt, bound-by-reads.Asked, bound-by-reads.Learnt, walk-below t, walk.Post, note-faults-reads.Asked, note-faults-reads.Learnt, bind-reads.Asked, bind-reads.Learnt, walk-bindings-below t, walk-bindings.Post)
+walk-bindings-calls t = (decode-reads.Asked, decode-reads.Learnt, references-of-reads.Asked, references-of-reads.Learnt, role-of-reads.Asked, role-of-reads.Learnt, bound-by-reads.Asked, bound-by-reads.Learnt, walk-below t, walk.Post, judge-at-reads.Asked, judge-at-reads.Learnt, bind-reads.Asked, bind-reads.Learnt, walk-bindings-below t, walk-bindings.Post)
 
 walk-returns : (t : ℕ) → walk-lts.Need-returns (walk-calls t) (walk-at t) walk.Post
 walk-returns t c = rw (c .if1 .taken, tree-of-none (c .before .before .before .args .words .now)) (none-walked (columnsOf (c .before .before .before .args .catalogue .now)) (c .before .before .before .args .scope .now) (c .before .before .before .args .lowest .now) (c .before .before .before .pre .1 .1))
@@ -90,11 +89,11 @@ walk-walk-requires t c κs = (omega (arith, c .before .before .before .before .b
 walk-walk-requires-2 : (t : ℕ) → walk-lts.Need-walk-requires-2 (walk-calls t) (walk-at t) walk.Post
 walk-walk-requires-2 t c κs = (omega (arith, c .before .before .before .before .before .before .before .before .before .before .before .before .before .before .before .before .pre .0, c .before .before .before .before .before .before .before .before .before .before .before .before .before .before .before .before .pre .1 .0, c .before .before .before .before .before .before .before .before .before .before .before .before .before .if1 .left, node-lower (c .before .before .before .before .before .before .before .before .before .before .before .before .before .before .before .before .args .words .now) (c .before .before .before .before .before .before .before .before .before .before .before .before .before .before .before .before .args .reference - 1) .third-lower, ap (λ (r : References). r .third) (rw (c .before .before .before .before .before .before .before .before .before .before .before .before .decode .ensures) at (c .before .before .before .before .before .before .before .before .before .before .before .references-of .ensures))), (omega (arith, c .before .before .before .before .before .before .before .before .before .before .before .before .before .before .before .before .pre .0, c .before .before .before .before .before .before .before .before .before .before .before .before .before .before .before .before .pre .1 .0, c .before .before .before .before .before .before .before .before .before .before .before .before .before .if1 .left, node-lower (c .before .before .before .before .before .before .before .before .before .before .before .before .before .before .before .before .args .words .now) (c .before .before .before .before .before .before .before .before .before .before .before .before .before .before .before .before .args .reference - 1) .third-lower, ap (λ (r : References). r .third) (rw (c .before .before .before .before .before .before .before .before .before .before .before .before .decode .ensures) at (c .before .before .before .before .before .before .before .before .before .before .before .references-of .ensures))), (so-far-walked _ _ _ (so-far-bound (columnsOf (c .before .before .before .before .before .before .before .before .before .before .before .before .before .before .before .before .args .catalogue .now)) noWidths (c .before .before .before .before .before .before .before .before .before .before .before .before .before .before .before .before .args .lowest .now) (c .before .before .before .before .before .before .before .before .before .before .before .before .before .before .before .before .pre .1 .1) _ (c .before .before .before .before .before .walk-bindings .ensures)) _ (c .before .before .walk .ensures))))
 
-walk-note-faults-requires : (t : ℕ) → walk-lts.Need-note-faults-requires (walk-calls t) (walk-at t) walk.Post
-walk-note-faults-requires t c κs = (omega (arith, c .before .before .before .before .before .before .before .before .before .before .before .before .before .before .before .before .if1 .left, c .before .before .before .before .before .before .before .before .before .before .before .before .before .before .before .before .before .before .before .pre .1 .0), (so-far-walked _ _ _ (so-far-walked _ _ _ (so-far-bound (columnsOf (c .before .before .before .before .before .before .before .before .before .before .before .before .before .before .before .before .before .before .before .args .catalogue .now)) noWidths (c .before .before .before .before .before .before .before .before .before .before .before .before .before .before .before .before .before .before .before .args .lowest .now) (c .before .before .before .before .before .before .before .before .before .before .before .before .before .before .before .before .before .before .before .pre .1 .1) _ (c .before .before .before .before .before .before .before .before .walk-bindings .ensures)) _ (c .before .before .before .before .before .walk .ensures)) _ (c .before .before .walk2 .ensures)))
+walk-judge-at-requires : (t : ℕ) → walk-lts.Need-judge-at-requires (walk-calls t) (walk-at t) walk.Post
+walk-judge-at-requires t c κs = (omega (arith, c .before .before .before .before .before .before .before .before .before .before .before .before .before .before .before .before .if1 .left, c .before .before .before .before .before .before .before .before .before .before .before .before .before .before .before .before .before .before .before .pre .1 .0), (so-far-walked _ _ _ (so-far-walked _ _ _ (so-far-bound (columnsOf (c .before .before .before .before .before .before .before .before .before .before .before .before .before .before .before .before .before .before .before .args .catalogue .now)) noWidths (c .before .before .before .before .before .before .before .before .before .before .before .before .before .before .before .before .before .before .before .args .lowest .now) (c .before .before .before .before .before .before .before .before .before .before .before .before .before .before .before .before .before .before .before .pre .1 .1) _ (c .before .before .before .before .before .before .before .before .walk-bindings .ensures)) _ (c .before .before .before .before .before .walk .ensures)) _ (c .before .before .walk2 .ensures)))
 
 walk-returns-2 : (t : ℕ) → walk-lts.Need-returns-2 (walk-calls t) (walk-at t) walk.Post
-walk-returns-2 t c = rw (tree-of-reference (c .before .before .before .before .before .before .before .before .before .before .before .before .before .before .before .before .before .before .before .before .args .words .now) (c .before .before .before .before .before .before .before .before .before .before .before .before .before .before .before .before .before .before .before .before .args .reference) (omega (arith, c .before .before .before .before .before .before .before .before .before .before .before .before .before .before .before .before .before .if1 .left))) (alpha-walked (columnsOf (c .before .before .before .before .before .before .before .before .before .before .before .before .before .before .before .before .before .before .before .before .args .catalogue .now)) (c .before .before .before .before .before .before .before .before .before .before .before .before .before .before .before .before .before .before .before .before .args .scope .now) (c .before .before .before .before .before .before .before .before .before .before .before .before .before .before .before .before .before .before .before .before .args .lowest .now) (c .before .before .before .before .before .before .before .before .before .before .before .before .before .before .before .before .before .before .before .before .pre .1 .1) (c .before .before .before .before .before .before .before .before .before .before .before .before .before .before .before .before .before .before .before .before .args .reference - 1) (nodeAt (c .before .before .before .before .before .before .before .before .before .before .before .before .before .before .before .before .before .before .before .before .args .words .now) (c .before .before .before .before .before .before .before .before .before .before .before .before .before .before .before .before .before .before .before .before .args .reference - 1)) (treeOf (c .before .before .before .before .before .before .before .before .before .before .before .before .before .before .before .before .before .before .before .before .args .words .now) (references (nodeAt (c .before .before .before .before .before .before .before .before .before .before .before .before .before .before .before .before .before .before .before .before .args .words .now) (c .before .before .before .before .before .before .before .before .before .before .before .before .before .before .before .before .before .before .before .before .args .reference - 1)) .first)) (treeOf (c .before .before .before .before .before .before .before .before .before .before .before .before .before .before .before .before .before .before .before .before .args .words .now) (references (nodeAt (c .before .before .before .before .before .before .before .before .before .before .before .before .before .before .before .before .before .before .before .before .args .words .now) (c .before .before .before .before .before .before .before .before .before .before .before .before .before .before .before .before .before .before .before .before .args .reference - 1)) .second)) (treeOf (c .before .before .before .before .before .before .before .before .before .before .before .before .before .before .before .before .before .before .before .before .args .words .now) (references (nodeAt (c .before .before .before .before .before .before .before .before .before .before .before .before .before .before .before .before .before .before .before .before .args .words .now) (c .before .before .before .before .before .before .before .before .before .before .before .before .before .before .before .before .before .before .before .before .args .reference - 1)) .third)) (is-opens (roleOf (nodeAt (c .before .before .before .before .before .before .before .before .before .before .before .before .before .before .before .before .before .before .before .before .args .words .now) (c .before .before .before .before .before .before .before .before .before .before .before .before .before .before .before .before .before .before .before .before .args .reference - 1))) (sym (rw (c .before .before .before .before .before .before .before .before .before .before .before .before .before .before .role-of .ensures, c .before .before .before .before .before .before .before .before .before .before .before .before .before .before .before .before .decode .ensures) at (c .before .before .before .before .before .before .before .before .before .before .before .before .before .is-alpha .ensures)) ∙ c .before .before .before .before .before .before .before .before .before .before .before .before .if2 .taken)) (rw (rw (c .before .before .before .before .before .before .before .before .before .before .before .before .before .before .before .before .decode .ensures) at (c .before .before .before .before .before .before .before .before .before .before .before .before .before .before .before .references-of .ensures)) at (c .before .before .before .before .before .before .before .before .before .walk-bindings .ensures)) (rw (rw (c .before .before .before .before .before .before .before .before .before .before .before .before .before .before .before .before .decode .ensures) at (c .before .before .before .before .before .before .before .before .before .before .before .before .before .before .before .references-of .ensures)) at (c .before .before .before .before .before .before .walk .ensures)) (rw (rw (c .before .before .before .before .before .before .before .before .before .before .before .before .before .before .before .before .decode .ensures) at (c .before .before .before .before .before .before .before .before .before .before .before .before .before .before .before .references-of .ensures)) at (c .before .before .before .walk2 .ensures)) (c .note-faults .ensures))
+walk-returns-2 t c = rw (tree-of-reference (c .before .before .before .before .before .before .before .before .before .before .before .before .before .before .before .before .before .before .before .before .args .words .now) (c .before .before .before .before .before .before .before .before .before .before .before .before .before .before .before .before .before .before .before .before .args .reference) (omega (arith, c .before .before .before .before .before .before .before .before .before .before .before .before .before .before .before .before .before .if1 .left))) (alpha-walked (columnsOf (c .before .before .before .before .before .before .before .before .before .before .before .before .before .before .before .before .before .before .before .before .args .catalogue .now)) (c .before .before .before .before .before .before .before .before .before .before .before .before .before .before .before .before .before .before .before .before .args .scope .now) (c .before .before .before .before .before .before .before .before .before .before .before .before .before .before .before .before .before .before .before .before .args .lowest .now) (c .before .before .before .before .before .before .before .before .before .before .before .before .before .before .before .before .before .before .before .before .pre .1 .1) (c .before .before .before .before .before .before .before .before .before .before .before .before .before .before .before .before .before .before .before .before .args .reference - 1) (nodeAt (c .before .before .before .before .before .before .before .before .before .before .before .before .before .before .before .before .before .before .before .before .args .words .now) (c .before .before .before .before .before .before .before .before .before .before .before .before .before .before .before .before .before .before .before .before .args .reference - 1)) (treeOf (c .before .before .before .before .before .before .before .before .before .before .before .before .before .before .before .before .before .before .before .before .args .words .now) (references (nodeAt (c .before .before .before .before .before .before .before .before .before .before .before .before .before .before .before .before .before .before .before .before .args .words .now) (c .before .before .before .before .before .before .before .before .before .before .before .before .before .before .before .before .before .before .before .before .args .reference - 1)) .first)) (treeOf (c .before .before .before .before .before .before .before .before .before .before .before .before .before .before .before .before .before .before .before .before .args .words .now) (references (nodeAt (c .before .before .before .before .before .before .before .before .before .before .before .before .before .before .before .before .before .before .before .before .args .words .now) (c .before .before .before .before .before .before .before .before .before .before .before .before .before .before .before .before .before .before .before .before .args .reference - 1)) .second)) (treeOf (c .before .before .before .before .before .before .before .before .before .before .before .before .before .before .before .before .before .before .before .before .args .words .now) (references (nodeAt (c .before .before .before .before .before .before .before .before .before .before .before .before .before .before .before .before .before .before .before .before .args .words .now) (c .before .before .before .before .before .before .before .before .before .before .before .before .before .before .before .before .before .before .before .before .args .reference - 1)) .third)) (is-opens (roleOf (nodeAt (c .before .before .before .before .before .before .before .before .before .before .before .before .before .before .before .before .before .before .before .before .args .words .now) (c .before .before .before .before .before .before .before .before .before .before .before .before .before .before .before .before .before .before .before .before .args .reference - 1))) (sym (rw (c .before .before .before .before .before .before .before .before .before .before .before .before .before .before .role-of .ensures, c .before .before .before .before .before .before .before .before .before .before .before .before .before .before .before .before .decode .ensures) at (c .before .before .before .before .before .before .before .before .before .before .before .before .before .is-alpha .ensures)) ∙ c .before .before .before .before .before .before .before .before .before .before .before .before .if2 .taken)) (rw (rw (c .before .before .before .before .before .before .before .before .before .before .before .before .before .before .before .before .decode .ensures) at (c .before .before .before .before .before .before .before .before .before .before .before .before .before .before .before .references-of .ensures)) at (c .before .before .before .before .before .before .before .before .before .walk-bindings .ensures)) (rw (rw (c .before .before .before .before .before .before .before .before .before .before .before .before .before .before .before .before .decode .ensures) at (c .before .before .before .before .before .before .before .before .before .before .before .before .before .before .before .references-of .ensures)) at (c .before .before .before .before .before .before .walk .ensures)) (rw (rw (c .before .before .before .before .before .before .before .before .before .before .before .before .before .before .before .before .decode .ensures) at (c .before .before .before .before .before .before .before .before .before .before .before .before .before .before .before .references-of .ensures)) at (c .before .before .before .walk2 .ensures)) (c .judge-at .ensures))
 
 walk-bound-by-requires : (t : ℕ) → walk-lts.Need-bound-by-requires (walk-calls t) (walk-at t) walk.Post
 walk-bound-by-requires t c κs = tt
@@ -129,23 +128,11 @@ walk-element-write-scope t c = omega (arith, bound-within (roleOf (nodeAt (c .be
 walk-element-write-scope-2 : (t : ℕ) → walk-lts.Need-element-write-scope-2 (walk-calls t) (walk-at t) walk.Post
 walk-element-write-scope-2 t c = search needs
 
-walk-note-faults-requires-2 : (t : ℕ) → walk-lts.Need-note-faults-requires-2 (walk-calls t) (walk-at t) walk.Post
-walk-note-faults-requires-2 t c κs = (omega (arith, c .before .before .before .before .before .before .before .before .before .before .before .before .before .before .before .before .before .before .before .before .before .if1 .left, c .before .before .before .before .before .before .before .before .before .before .before .before .before .before .before .before .before .before .before .before .before .before .before .before .pre .1 .0), (so-far-walked _ _ _ (so-far-walked _ _ _ (so-far-walked _ _ _ (c .before .before .before .before .before .before .before .before .before .before .before .before .before .before .before .before .before .before .before .before .before .before .before .before .pre .1 .1) _ (c .before .before .before .before .before .before .before .before .before .before .before .before .walk3 .ensures)) _ (c .before .before .before .before .before .walk4 .ensures)) _ (c .before .before .walk5 .ensures)))
-
-walk-cast-decode-2 : (t : ℕ) → walk-lts.Need-cast-decode-2 (walk-calls t) (walk-at t) walk.Post
-walk-cast-decode-2 t c = omega (arith, c .before .before .before .before .before .before .before .before .before .before .before .before .before .before .before .before .before .before .before .before .before .before .before .before .before .fits .reference)
-
-walk-decode-requires-2 : (t : ℕ) → walk-lts.Need-decode-requires-2 (walk-calls t) (walk-at t) walk.Post
-walk-decode-requires-2 t c κs = omega (arith, c .before .before .before .before .before .before .before .before .before .before .before .before .before .before .before .before .before .before .before .before .before .before .if1 .left, c .before .before .before .before .before .before .before .before .before .before .before .before .before .before .before .before .before .before .before .before .before .before .before .before .before .pre .1 .0)
-
-walk-role-of-requires-2 : (t : ℕ) → walk-lts.Need-role-of-requires-2 (walk-calls t) (walk-at t) walk.Post
-walk-role-of-requires-2 t c κs = tt
-
-walk-width-of-requires : (t : ℕ) → walk-lts.Need-width-of-requires (walk-calls t) (walk-at t) walk.Post
-walk-width-of-requires t c κs = rw (c .before .role-of2 .ensures, c .before .before .decode2 .ensures) (node-variable (c .before .before .before .before .before .before .before .before .before .before .before .before .before .before .before .before .before .before .before .before .before .before .before .before .before .before .before .before .args .words .now) (c .before .before .before .before .before .before .before .before .before .before .before .before .before .before .before .before .before .before .before .before .before .before .before .before .before .before .before .before .args .reference - 1))
+walk-judge-at-requires-2 : (t : ℕ) → walk-lts.Need-judge-at-requires-2 (walk-calls t) (walk-at t) walk.Post
+walk-judge-at-requires-2 t c κs = (omega (arith, c .before .before .before .before .before .before .before .before .before .before .before .before .before .before .before .before .before .before .before .before .before .if1 .left, c .before .before .before .before .before .before .before .before .before .before .before .before .before .before .before .before .before .before .before .before .before .before .before .before .pre .1 .0), (so-far-walked _ _ _ (so-far-walked _ _ _ (so-far-walked _ _ _ (c .before .before .before .before .before .before .before .before .before .before .before .before .before .before .before .before .before .before .before .before .before .before .before .before .pre .1 .1) _ (c .before .before .before .before .before .before .before .before .before .before .before .before .walk3 .ensures)) _ (c .before .before .before .before .before .walk4 .ensures)) _ (c .before .before .walk5 .ensures)))
 
 walk-returns-3 : (t : ℕ) → walk-lts.Need-returns-3 (walk-calls t) (walk-at t) walk.Post
-walk-returns-3 t c = rw (tree-of-reference (c .before .before .before .before .before .before .before .before .before .before .before .before .before .before .before .before .before .before .before .before .before .before .before .before .before .before .before .before .before .args .words .now) (c .before .before .before .before .before .before .before .before .before .before .before .before .before .before .before .before .before .before .before .before .before .before .before .before .before .before .before .before .before .args .reference) (omega (arith, c .before .before .before .before .before .before .before .before .before .before .before .before .before .before .before .before .before .before .before .before .before .before .before .before .before .before .if1 .left))) (node-done (columnsOf (c .before .before .before .before .before .before .before .before .before .before .before .before .before .before .before .before .before .before .before .before .before .before .before .before .before .before .before .before .before .args .catalogue .now)) (branch (c .before .before .before .before .before .before .before .before .before .before .before .before .before .before .before .before .before .before .before .before .before .before .before .before .before .before .before .before .before .args .reference - 1) (nodeAt (c .before .before .before .before .before .before .before .before .before .before .before .before .before .before .before .before .before .before .before .before .before .before .before .before .before .before .before .before .before .args .words .now) (c .before .before .before .before .before .before .before .before .before .before .before .before .before .before .before .before .before .before .before .before .before .before .before .before .before .before .before .before .before .args .reference - 1)) (treeOf (c .before .before .before .before .before .before .before .before .before .before .before .before .before .before .before .before .before .before .before .before .before .before .before .before .before .before .before .before .before .args .words .now) (references (nodeAt (c .before .before .before .before .before .before .before .before .before .before .before .before .before .before .before .before .before .before .before .before .before .before .before .before .before .before .before .before .before .args .words .now) (c .before .before .before .before .before .before .before .before .before .before .before .before .before .before .before .before .before .before .before .before .before .before .before .before .before .before .before .before .before .args .reference - 1)) .first)) (treeOf (c .before .before .before .before .before .before .before .before .before .before .before .before .before .before .before .before .before .before .before .before .before .before .before .before .before .before .before .before .before .args .words .now) (references (nodeAt (c .before .before .before .before .before .before .before .before .before .before .before .before .before .before .before .before .before .before .before .before .before .before .before .before .before .before .before .before .before .args .words .now) (c .before .before .before .before .before .before .before .before .before .before .before .before .before .before .before .before .before .before .before .before .before .before .before .before .before .before .before .before .before .args .reference - 1)) .second)) (treeOf (c .before .before .before .before .before .before .before .before .before .before .before .before .before .before .before .before .before .before .before .before .before .before .before .before .before .before .before .before .before .args .words .now) (references (nodeAt (c .before .before .before .before .before .before .before .before .before .before .before .before .before .before .before .before .before .before .before .before .before .before .before .before .before .before .before .before .before .args .words .now) (c .before .before .before .before .before .before .before .before .before .before .before .before .before .before .before .before .before .before .before .before .before .before .before .before .before .before .before .before .before .args .reference - 1)) .third))) (c .before .before .before .before .before .before .before .before .before .before .before .before .before .before .before .before .before .before .before .before .before .before .before .before .before .before .before .before .before .args .lowest .now) (back-again (columnsOf (c .before .before .before .before .before .before .before .before .before .before .before .before .before .before .before .before .before .before .before .before .before .before .before .before .before .before .before .before .before .args .catalogue .now)) (c .before .before .before .before .before .before .before .before .before .before .before .before .before .before .before .before .before .before .before .before .before .before .before .before .before .before .before .before .before .args .scope .now) (c .before .before .before .before .before .before .before .before .before .before .before .before .before .before .before .before .before .before .before .before .before .before .before .before .before .before .before .before .before .args .lowest .now) (c .before .before .before .before .before .before .before .before .before .before .before .before .before .before .before .before .before .before .before .before .before .before .before .before .before .before .before .before .before .pre .1 .1) (treeOf (c .before .before .before .before .before .before .before .before .before .before .before .before .before .before .before .before .before .before .before .before .before .before .before .before .before .before .before .before .before .args .words .now) (references (nodeAt (c .before .before .before .before .before .before .before .before .before .before .before .before .before .before .before .before .before .before .before .before .before .before .before .before .before .before .before .before .before .args .words .now) (c .before .before .before .before .before .before .before .before .before .before .before .before .before .before .before .before .before .before .before .before .before .before .before .before .before .before .before .before .before .args .reference - 1)) .first)) (treeOf (c .before .before .before .before .before .before .before .before .before .before .before .before .before .before .before .before .before .before .before .before .before .before .before .before .before .before .before .before .before .args .words .now) (references (nodeAt (c .before .before .before .before .before .before .before .before .before .before .before .before .before .before .before .before .before .before .before .before .before .before .before .before .before .before .before .before .before .args .words .now) (c .before .before .before .before .before .before .before .before .before .before .before .before .before .before .before .before .before .before .before .before .before .before .before .before .before .before .before .before .before .args .reference - 1)) .second)) (treeOf (c .before .before .before .before .before .before .before .before .before .before .before .before .before .before .before .before .before .before .before .before .before .before .before .before .before .before .before .before .before .args .words .now) (references (nodeAt (c .before .before .before .before .before .before .before .before .before .before .before .before .before .before .before .before .before .before .before .before .before .before .before .before .before .before .before .before .before .args .words .now) (c .before .before .before .before .before .before .before .before .before .before .before .before .before .before .before .before .before .before .before .before .before .before .before .before .before .before .before .before .before .args .reference - 1)) .third)) (c .before .before .before .before .before .before .before .before .before .before .before .before .before .before .before .before .before .before .before .before .bound-by .result) (rw (rw (c .before .before .before .before .before .before .before .before .before .before .before .before .before .before .before .before .before .before .before .before .before .before .before .before .before .decode .ensures) at (c .before .before .before .before .before .before .before .before .before .before .before .before .before .before .before .before .before .before .before .before .before .before .before .before .references-of .ensures)) at (c .before .before .before .before .before .before .before .before .before .before .before .before .before .before .before .before .before .walk3 .ensures)) (c .before .before .before .before .before .before .before .before .before .before .before .before .before .enter .ensures) (rw (rw (c .before .before .before .before .before .before .before .before .before .before .before .before .before .before .before .before .before .before .before .before .before .before .before .before .before .decode .ensures) at (c .before .before .before .before .before .before .before .before .before .before .before .before .before .before .before .before .before .before .before .before .before .before .before .before .references-of .ensures)) at (c .before .before .before .before .before .before .before .before .before .before .walk4 .ensures)) (rw (rw (c .before .before .before .before .before .before .before .before .before .before .before .before .before .before .before .before .before .before .before .before .before .before .before .before .before .decode .ensures) at (c .before .before .before .before .before .before .before .before .before .before .before .before .before .before .before .before .before .before .before .before .before .before .before .before .references-of .ensures)) at (c .before .before .before .before .before .before .before .walk5 .ensures))) (rw (c .before .before .role-of2 .ensures, c .before .before .before .decode2 .ensures, (back-again (columnsOf (c .before .before .before .before .before .before .before .before .before .before .before .before .before .before .before .before .before .before .before .before .before .before .before .before .before .before .before .before .before .args .catalogue .now)) (c .before .before .before .before .before .before .before .before .before .before .before .before .before .before .before .before .before .before .before .before .before .before .before .before .before .before .before .before .before .args .scope .now) (c .before .before .before .before .before .before .before .before .before .before .before .before .before .before .before .before .before .before .before .before .before .before .before .before .before .before .before .before .before .args .lowest .now) (c .before .before .before .before .before .before .before .before .before .before .before .before .before .before .before .before .before .before .before .before .before .before .before .before .before .before .before .before .before .pre .1 .1) (treeOf (c .before .before .before .before .before .before .before .before .before .before .before .before .before .before .before .before .before .before .before .before .before .before .before .before .before .before .before .before .before .args .words .now) (references (nodeAt (c .before .before .before .before .before .before .before .before .before .before .before .before .before .before .before .before .before .before .before .before .before .before .before .before .before .before .before .before .before .args .words .now) (c .before .before .before .before .before .before .before .before .before .before .before .before .before .before .before .before .before .before .before .before .before .before .before .before .before .before .before .before .before .args .reference - 1)) .first)) (treeOf (c .before .before .before .before .before .before .before .before .before .before .before .before .before .before .before .before .before .before .before .before .before .before .before .before .before .before .before .before .before .args .words .now) (references (nodeAt (c .before .before .before .before .before .before .before .before .before .before .before .before .before .before .before .before .before .before .before .before .before .before .before .before .before .before .before .before .before .args .words .now) (c .before .before .before .before .before .before .before .before .before .before .before .before .before .before .before .before .before .before .before .before .before .before .before .before .before .before .before .before .before .args .reference - 1)) .second)) (treeOf (c .before .before .before .before .before .before .before .before .before .before .before .before .before .before .before .before .before .before .before .before .before .before .before .before .before .before .before .before .before .args .words .now) (references (nodeAt (c .before .before .before .before .before .before .before .before .before .before .before .before .before .before .before .before .before .before .before .before .before .before .before .before .before .before .before .before .before .args .words .now) (c .before .before .before .before .before .before .before .before .before .before .before .before .before .before .before .before .before .before .before .before .before .before .before .before .before .before .before .before .before .args .reference - 1)) .third)) (c .before .before .before .before .before .before .before .before .before .before .before .before .before .before .before .before .before .before .before .before .bound-by .result) (rw (rw (c .before .before .before .before .before .before .before .before .before .before .before .before .before .before .before .before .before .before .before .before .before .before .before .before .before .decode .ensures) at (c .before .before .before .before .before .before .before .before .before .before .before .before .before .before .before .before .before .before .before .before .before .before .before .before .references-of .ensures)) at (c .before .before .before .before .before .before .before .before .before .before .before .before .before .before .before .before .before .walk3 .ensures)) (c .before .before .before .before .before .before .before .before .before .before .before .before .before .enter .ensures) (rw (rw (c .before .before .before .before .before .before .before .before .before .before .before .before .before .before .before .before .before .before .before .before .before .before .before .before .before .decode .ensures) at (c .before .before .before .before .before .before .before .before .before .before .before .before .before .before .before .before .before .before .before .before .before .before .before .before .references-of .ensures)) at (c .before .before .before .before .before .before .before .before .before .before .walk4 .ensures)) (rw (rw (c .before .before .before .before .before .before .before .before .before .before .before .before .before .before .before .before .before .before .before .before .before .before .before .before .before .decode .ensures) at (c .before .before .before .before .before .before .before .before .before .before .before .before .before .before .before .before .before .before .before .before .before .before .before .before .references-of .ensures)) at (c .before .before .before .before .before .before .before .walk5 .ensures)))) at (c .width-of .ensures)) (node-walked (columnsOf (c .before .before .before .before .before .before .before .before .before .before .before .before .before .before .before .before .before .before .before .before .before .before .before .before .before .before .before .before .before .args .catalogue .now)) (c .before .before .before .before .before .before .before .before .before .before .before .before .before .before .before .before .before .before .before .before .before .before .before .before .before .before .before .before .before .args .scope .now) (c .before .before .before .before .before .before .before .before .before .before .before .before .before .before .before .before .before .before .before .before .before .before .before .before .before .before .before .before .before .args .lowest .now) (c .before .before .before .before .before .before .before .before .before .before .before .before .before .before .before .before .before .before .before .before .before .before .before .before .before .before .before .before .before .pre .1 .1) (c .before .before .before .before .before .before .before .before .before .before .before .before .before .before .before .before .before .before .before .before .before .before .before .before .before .before .before .before .before .args .reference - 1) (nodeAt (c .before .before .before .before .before .before .before .before .before .before .before .before .before .before .before .before .before .before .before .before .before .before .before .before .before .before .before .before .before .args .words .now) (c .before .before .before .before .before .before .before .before .before .before .before .before .before .before .before .before .before .before .before .before .before .before .before .before .before .before .before .before .before .args .reference - 1)) (treeOf (c .before .before .before .before .before .before .before .before .before .before .before .before .before .before .before .before .before .before .before .before .before .before .before .before .before .before .before .before .before .args .words .now) (references (nodeAt (c .before .before .before .before .before .before .before .before .before .before .before .before .before .before .before .before .before .before .before .before .before .before .before .before .before .before .before .before .before .args .words .now) (c .before .before .before .before .before .before .before .before .before .before .before .before .before .before .before .before .before .before .before .before .before .before .before .before .before .before .before .before .before .args .reference - 1)) .first)) (treeOf (c .before .before .before .before .before .before .before .before .before .before .before .before .before .before .before .before .before .before .before .before .before .before .before .before .before .before .before .before .before .args .words .now) (references (nodeAt (c .before .before .before .before .before .before .before .before .before .before .before .before .before .before .before .before .before .before .before .before .before .before .before .before .before .before .before .before .before .args .words .now) (c .before .before .before .before .before .before .before .before .before .before .before .before .before .before .before .before .before .before .before .before .before .before .before .before .before .before .before .before .before .args .reference - 1)) .second)) (treeOf (c .before .before .before .before .before .before .before .before .before .before .before .before .before .before .before .before .before .before .before .before .before .before .before .before .before .before .before .before .before .args .words .now) (references (nodeAt (c .before .before .before .before .before .before .before .before .before .before .before .before .before .before .before .before .before .before .before .before .before .before .before .before .before .before .before .before .before .args .words .now) (c .before .before .before .before .before .before .before .before .before .before .before .before .before .before .before .before .before .before .before .before .before .before .before .before .before .before .before .before .before .args .reference - 1)) .third)) (sym (rw (c .before .before .before .before .before .before .before .before .before .before .before .before .before .before .before .before .before .before .before .before .before .before .before .role-of .ensures, c .before .before .before .before .before .before .before .before .before .before .before .before .before .before .before .before .before .before .before .before .before .before .before .before .before .decode .ensures) at (c .before .before .before .before .before .before .before .before .before .before .before .before .before .before .before .before .before .before .before .before .before .before .is-alpha .ensures)) ∙ c .before .before .before .before .before .before .before .before .before .before .before .before .before .before .before .before .before .before .before .before .before .if2 .left) (node-variable (c .before .before .before .before .before .before .before .before .before .before .before .before .before .before .before .before .before .before .before .before .before .before .before .before .before .before .before .before .before .args .words .now) (c .before .before .before .before .before .before .before .before .before .before .before .before .before .before .before .before .before .before .before .before .before .before .before .before .before .before .before .before .before .args .reference - 1)) (rw (rw (c .before .before .before .before .before .before .before .before .before .before .before .before .before .before .before .before .before .before .before .before .before .before .before .before .before .decode .ensures) at (c .before .before .before .before .before .before .before .before .before .before .before .before .before .before .before .before .before .before .before .before .before .before .before .before .references-of .ensures)) at (c .before .before .before .before .before .before .before .before .before .before .before .before .before .before .before .before .before .walk3 .ensures)) (rw (rw (c .before .before .before .before .before .before .before .before .before .before .before .before .before .before .before .before .before .before .before .before .before .before .before .role-of .ensures, c .before .before .before .before .before .before .before .before .before .before .before .before .before .before .before .before .before .before .before .before .before .before .before .before .before .decode .ensures) at (c .before .before .before .before .before .before .before .before .before .before .before .before .before .before .before .before .before .before .before .before .bound-by .ensures)) at (c .before .before .before .before .before .before .before .before .before .before .before .before .before .enter .ensures)) (rw (rw (c .before .before .before .before .before .before .before .before .before .before .before .before .before .before .before .before .before .before .before .before .before .before .before .before .before .decode .ensures) at (c .before .before .before .before .before .before .before .before .before .before .before .before .before .before .before .before .before .before .before .before .before .before .before .before .references-of .ensures)) at (c .before .before .before .before .before .before .before .before .before .before .walk4 .ensures)) (rw (rw (c .before .before .before .before .before .before .before .before .before .before .before .before .before .before .before .before .before .before .before .before .before .before .before .before .before .decode .ensures) at (c .before .before .before .before .before .before .before .before .before .before .before .before .before .before .before .before .before .before .before .before .before .before .before .before .references-of .ensures)) at (c .before .before .before .before .before .before .before .walk5 .ensures)) (rw (back-again (columnsOf (c .before .before .before .before .before .before .before .before .before .before .before .before .before .before .before .before .before .before .before .before .before .before .before .before .before .before .before .before .before .args .catalogue .now)) (c .before .before .before .before .before .before .before .before .before .before .before .before .before .before .before .before .before .before .before .before .before .before .before .before .before .before .before .before .before .args .scope .now) (c .before .before .before .before .before .before .before .before .before .before .before .before .before .before .before .before .before .before .before .before .before .before .before .before .before .before .before .before .before .args .lowest .now) (c .before .before .before .before .before .before .before .before .before .before .before .before .before .before .before .before .before .before .before .before .before .before .before .before .before .before .before .before .before .pre .1 .1) (treeOf (c .before .before .before .before .before .before .before .before .before .before .before .before .before .before .before .before .before .before .before .before .before .before .before .before .before .before .before .before .before .args .words .now) (references (nodeAt (c .before .before .before .before .before .before .before .before .before .before .before .before .before .before .before .before .before .before .before .before .before .before .before .before .before .before .before .before .before .args .words .now) (c .before .before .before .before .before .before .before .before .before .before .before .before .before .before .before .before .before .before .before .before .before .before .before .before .before .before .before .before .before .args .reference - 1)) .first)) (treeOf (c .before .before .before .before .before .before .before .before .before .before .before .before .before .before .before .before .before .before .before .before .before .before .before .before .before .before .before .before .before .args .words .now) (references (nodeAt (c .before .before .before .before .before .before .before .before .before .before .before .before .before .before .before .before .before .before .before .before .before .before .before .before .before .before .before .before .before .args .words .now) (c .before .before .before .before .before .before .before .before .before .before .before .before .before .before .before .before .before .before .before .before .before .before .before .before .before .before .before .before .before .args .reference - 1)) .second)) (treeOf (c .before .before .before .before .before .before .before .before .before .before .before .before .before .before .before .before .before .before .before .before .before .before .before .before .before .before .before .before .before .args .words .now) (references (nodeAt (c .before .before .before .before .before .before .before .before .before .before .before .before .before .before .before .before .before .before .before .before .before .before .before .before .before .before .before .before .before .args .words .now) (c .before .before .before .before .before .before .before .before .before .before .before .before .before .before .before .before .before .before .before .before .before .before .before .before .before .before .before .before .before .args .reference - 1)) .third)) (c .before .before .before .before .before .before .before .before .before .before .before .before .before .before .before .before .before .before .before .before .bound-by .result) (rw (rw (c .before .before .before .before .before .before .before .before .before .before .before .before .before .before .before .before .before .before .before .before .before .before .before .before .before .decode .ensures) at (c .before .before .before .before .before .before .before .before .before .before .before .before .before .before .before .before .before .before .before .before .before .before .before .before .references-of .ensures)) at (c .before .before .before .before .before .before .before .before .before .before .before .before .before .before .before .before .before .walk3 .ensures)) (c .before .before .before .before .before .before .before .before .before .before .before .before .before .enter .ensures) (rw (rw (c .before .before .before .before .before .before .before .before .before .before .before .before .before .before .before .before .before .before .before .before .before .before .before .before .before .decode .ensures) at (c .before .before .before .before .before .before .before .before .before .before .before .before .before .before .before .before .before .before .before .before .before .before .before .before .references-of .ensures)) at (c .before .before .before .before .before .before .before .before .before .before .walk4 .ensures)) (rw (rw (c .before .before .before .before .before .before .before .before .before .before .before .before .before .before .before .before .before .before .before .before .before .before .before .before .before .decode .ensures) at (c .before .before .before .before .before .before .before .before .before .before .before .before .before .before .before .before .before .before .before .before .before .before .before .before .references-of .ensures)) at (c .before .before .before .before .before .before .before .walk5 .ensures))) at (c .before .before .before .before .note-faults2 .ensures))))
+walk-returns-3 t c = rw (tree-of-reference (c .before .before .before .before .before .before .before .before .before .before .before .before .before .before .before .before .before .before .before .before .before .before .before .before .before .args .words .now) (c .before .before .before .before .before .before .before .before .before .before .before .before .before .before .before .before .before .before .before .before .before .before .before .before .before .args .reference) (omega (arith, c .before .before .before .before .before .before .before .before .before .before .before .before .before .before .before .before .before .before .before .before .before .before .if1 .left))) (node-walked (columnsOf (c .before .before .before .before .before .before .before .before .before .before .before .before .before .before .before .before .before .before .before .before .before .before .before .before .before .args .catalogue .now)) (c .before .before .before .before .before .before .before .before .before .before .before .before .before .before .before .before .before .before .before .before .before .before .before .before .before .args .scope .now) (c .before .before .before .before .before .before .before .before .before .before .before .before .before .before .before .before .before .before .before .before .before .before .before .before .before .args .lowest .now) (c .before .before .before .before .before .before .before .before .before .before .before .before .before .before .before .before .before .before .before .before .before .before .before .before .before .pre .1 .1) (c .before .before .before .before .before .before .before .before .before .before .before .before .before .before .before .before .before .before .before .before .before .before .before .before .before .args .reference - 1) (nodeAt (c .before .before .before .before .before .before .before .before .before .before .before .before .before .before .before .before .before .before .before .before .before .before .before .before .before .args .words .now) (c .before .before .before .before .before .before .before .before .before .before .before .before .before .before .before .before .before .before .before .before .before .before .before .before .before .args .reference - 1)) (treeOf (c .before .before .before .before .before .before .before .before .before .before .before .before .before .before .before .before .before .before .before .before .before .before .before .before .before .args .words .now) (references (nodeAt (c .before .before .before .before .before .before .before .before .before .before .before .before .before .before .before .before .before .before .before .before .before .before .before .before .before .args .words .now) (c .before .before .before .before .before .before .before .before .before .before .before .before .before .before .before .before .before .before .before .before .before .before .before .before .before .args .reference - 1)) .first)) (treeOf (c .before .before .before .before .before .before .before .before .before .before .before .before .before .before .before .before .before .before .before .before .before .before .before .before .before .args .words .now) (references (nodeAt (c .before .before .before .before .before .before .before .before .before .before .before .before .before .before .before .before .before .before .before .before .before .before .before .before .before .args .words .now) (c .before .before .before .before .before .before .before .before .before .before .before .before .before .before .before .before .before .before .before .before .before .before .before .before .before .args .reference - 1)) .second)) (treeOf (c .before .before .before .before .before .before .before .before .before .before .before .before .before .before .before .before .before .before .before .before .before .before .before .before .before .args .words .now) (references (nodeAt (c .before .before .before .before .before .before .before .before .before .before .before .before .before .before .before .before .before .before .before .before .before .before .before .before .before .args .words .now) (c .before .before .before .before .before .before .before .before .before .before .before .before .before .before .before .before .before .before .before .before .before .before .before .before .before .args .reference - 1)) .third)) (sym (rw (c .before .before .before .before .before .before .before .before .before .before .before .before .before .before .before .before .before .before .before .role-of .ensures, c .before .before .before .before .before .before .before .before .before .before .before .before .before .before .before .before .before .before .before .before .before .decode .ensures) at (c .before .before .before .before .before .before .before .before .before .before .before .before .before .before .before .before .before .before .is-alpha .ensures)) ∙ c .before .before .before .before .before .before .before .before .before .before .before .before .before .before .before .before .before .if2 .left) (node-variable (c .before .before .before .before .before .before .before .before .before .before .before .before .before .before .before .before .before .before .before .before .before .before .before .before .before .args .words .now) (c .before .before .before .before .before .before .before .before .before .before .before .before .before .before .before .before .before .before .before .before .before .before .before .before .before .args .reference - 1)) (rw (rw (c .before .before .before .before .before .before .before .before .before .before .before .before .before .before .before .before .before .before .before .before .before .decode .ensures) at (c .before .before .before .before .before .before .before .before .before .before .before .before .before .before .before .before .before .before .before .before .references-of .ensures)) at (c .before .before .before .before .before .before .before .before .before .before .before .before .before .walk3 .ensures)) (rw (rw (c .before .before .before .before .before .before .before .before .before .before .before .before .before .before .before .before .before .before .before .role-of .ensures, c .before .before .before .before .before .before .before .before .before .before .before .before .before .before .before .before .before .before .before .before .before .decode .ensures) at (c .before .before .before .before .before .before .before .before .before .before .before .before .before .before .before .before .bound-by .ensures)) at (c .before .before .before .before .before .before .before .before .before .enter .ensures)) (rw (rw (c .before .before .before .before .before .before .before .before .before .before .before .before .before .before .before .before .before .before .before .before .before .decode .ensures) at (c .before .before .before .before .before .before .before .before .before .before .before .before .before .before .before .before .before .before .before .before .references-of .ensures)) at (c .before .before .before .before .before .before .walk4 .ensures)) (rw (rw (c .before .before .before .before .before .before .before .before .before .before .before .before .before .before .before .before .before .before .before .before .before .decode .ensures) at (c .before .before .before .before .before .before .before .before .before .before .before .before .before .before .before .before .before .before .before .before .references-of .ensures)) at (c .before .before .before .walk5 .ensures)) (back-again (columnsOf (c .before .before .before .before .before .before .before .before .before .before .before .before .before .before .before .before .before .before .before .before .before .before .before .before .before .args .catalogue .now)) (c .before .before .before .before .before .before .before .before .before .before .before .before .before .before .before .before .before .before .before .before .before .before .before .before .before .args .scope .now) (c .before .before .before .before .before .before .before .before .before .before .before .before .before .before .before .before .before .before .before .before .before .before .before .before .before .args .lowest .now) (c .before .before .before .before .before .before .before .before .before .before .before .before .before .before .before .before .before .before .before .before .before .before .before .before .before .pre .1 .1) (treeOf (c .before .before .before .before .before .before .before .before .before .before .before .before .before .before .before .before .before .before .before .before .before .before .before .before .before .args .words .now) (references (nodeAt (c .before .before .before .before .before .before .before .before .before .before .before .before .before .before .before .before .before .before .before .before .before .before .before .before .before .args .words .now) (c .before .before .before .before .before .before .before .before .before .before .before .before .before .before .before .before .before .before .before .before .before .before .before .before .before .args .reference - 1)) .first)) (treeOf (c .before .before .before .before .before .before .before .before .before .before .before .before .before .before .before .before .before .before .before .before .before .before .before .before .before .args .words .now) (references (nodeAt (c .before .before .before .before .before .before .before .before .before .before .before .before .before .before .before .before .before .before .before .before .before .before .before .before .before .args .words .now) (c .before .before .before .before .before .before .before .before .before .before .before .before .before .before .before .before .before .before .before .before .before .before .before .before .before .args .reference - 1)) .second)) (treeOf (c .before .before .before .before .before .before .before .before .before .before .before .before .before .before .before .before .before .before .before .before .before .before .before .before .before .args .words .now) (references (nodeAt (c .before .before .before .before .before .before .before .before .before .before .before .before .before .before .before .before .before .before .before .before .before .before .before .before .before .args .words .now) (c .before .before .before .before .before .before .before .before .before .before .before .before .before .before .before .before .before .before .before .before .before .before .before .before .before .args .reference - 1)) .third)) (c .before .before .before .before .before .before .before .before .before .before .before .before .before .before .before .before .bound-by .result) (rw (rw (c .before .before .before .before .before .before .before .before .before .before .before .before .before .before .before .before .before .before .before .before .before .decode .ensures) at (c .before .before .before .before .before .before .before .before .before .before .before .before .before .before .before .before .before .before .before .before .references-of .ensures)) at (c .before .before .before .before .before .before .before .before .before .before .before .before .before .walk3 .ensures)) (c .before .before .before .before .before .before .before .before .before .enter .ensures) (rw (rw (c .before .before .before .before .before .before .before .before .before .before .before .before .before .before .before .before .before .before .before .before .before .decode .ensures) at (c .before .before .before .before .before .before .before .before .before .before .before .before .before .before .before .before .before .before .before .before .references-of .ensures)) at (c .before .before .before .before .before .before .walk4 .ensures)) (rw (rw (c .before .before .before .before .before .before .before .before .before .before .before .before .before .before .before .before .before .before .before .before .before .decode .ensures) at (c .before .before .before .before .before .before .before .before .before .before .before .before .before .before .before .before .before .before .before .before .references-of .ensures)) at (c .before .before .before .walk5 .ensures))) (c .judge-at2 .ensures))
 
 walk-bindings-returns : (t : ℕ) → walk-bindings-lts.Need-returns (walk-bindings-calls t) (walk-bindings-at t) walk-bindings.Post
 walk-bindings-returns t c = rw (c .if1 .taken, tree-of-none (c .before .before .before .args .words .now)) (none-bound (columnsOf (c .before .before .before .args .catalogue .now)) (c .before .before .before .args .scope .now) (c .before .before .before .args .lowest .now) (c .before .before .before .pre .1 .1))
@@ -171,17 +158,17 @@ walk-bindings-bound-by-requires t c κs = tt
 walk-bindings-walk-requires : (t : ℕ) → walk-bindings-lts.Need-walk-requires (walk-bindings-calls t) (walk-bindings-at t) walk-bindings.Post
 walk-bindings-walk-requires t c κs = (omega (arith, c .before .before .before .before .before .before .before .before .before .before .pre .0, c .before .before .before .before .before .before .before .before .before .before .pre .1 .0, c .before .before .before .before .before .before .before .if1 .left, node-lower (c .before .before .before .before .before .before .before .before .before .before .args .words .now) (c .before .before .before .before .before .before .before .before .before .before .args .reference - 1) .first-lower, ap (λ (r : References). r .first) (rw (c .before .before .before .before .before .before .decode .ensures) at (c .before .before .before .before .before .references-of .ensures))), (omega (arith, c .before .before .before .before .before .before .before .before .before .before .pre .0, c .before .before .before .before .before .before .before .before .before .before .pre .1 .0, c .before .before .before .before .before .before .before .if1 .left, node-lower (c .before .before .before .before .before .before .before .before .before .before .args .words .now) (c .before .before .before .before .before .before .before .before .before .before .args .reference - 1) .first-lower, ap (λ (r : References). r .first) (rw (c .before .before .before .before .before .before .decode .ensures) at (c .before .before .before .before .before .references-of .ensures))), (c .before .before .before .before .before .before .before .before .before .before .pre .1 .1)))
 
-walk-bindings-note-faults-requires : (t : ℕ) → walk-bindings-lts.Need-note-faults-requires (walk-bindings-calls t) (walk-bindings-at t) walk-bindings.Post
-walk-bindings-note-faults-requires t c κs = (omega (arith, c .before .before .before .before .before .before .before .before .before .before .if1 .left, c .before .before .before .before .before .before .before .before .before .before .before .before .before .pre .1 .0), (so-far-walked _ _ _ (c .before .before .before .before .before .before .before .before .before .before .before .before .before .pre .1 .1) _ (c .before .before .walk .ensures)))
+walk-bindings-judge-at-requires : (t : ℕ) → walk-bindings-lts.Need-judge-at-requires (walk-bindings-calls t) (walk-bindings-at t) walk-bindings.Post
+walk-bindings-judge-at-requires t c κs = (omega (arith, c .before .before .before .before .before .before .before .before .before .before .if1 .left, c .before .before .before .before .before .before .before .before .before .before .before .before .before .pre .1 .0), (so-far-walked _ _ _ (c .before .before .before .before .before .before .before .before .before .before .before .before .before .pre .1 .1) _ (c .before .before .walk .ensures)))
 
 walk-bindings-bind-requires : (t : ℕ) → walk-bindings-lts.Need-bind-requires (walk-bindings-calls t) (walk-bindings-at t) walk-bindings.Post
 walk-bindings-bind-requires t c κs = c .before .before .before .before .before .before .before .if2 .taken
 
 walk-bindings-walk-bindings-requires : (t : ℕ) → walk-bindings-lts.Need-walk-bindings-requires (walk-bindings-calls t) (walk-bindings-at t) walk-bindings.Post
-walk-bindings-walk-bindings-requires t c κs = (omega (arith, c .before .before .before .before .before .before .before .before .before .before .before .before .before .before .before .before .before .before .pre .0, c .before .before .before .before .before .before .before .before .before .before .before .before .before .before .before .before .before .before .pre .1 .0, c .before .before .before .before .before .before .before .before .before .before .before .before .before .before .before .if1 .left, node-lower (c .before .before .before .before .before .before .before .before .before .before .before .before .before .before .before .before .before .before .args .words .now) (c .before .before .before .before .before .before .before .before .before .before .before .before .before .before .before .before .before .before .args .reference - 1) .second-lower, ap (λ (r : References). r .second) (rw (c .before .before .before .before .before .before .before .before .before .before .before .before .before .before .decode .ensures) at (c .before .before .before .before .before .before .before .before .before .before .before .before .before .references-of .ensures))), (omega (arith, c .before .before .before .before .before .before .before .before .before .before .before .before .before .before .before .before .before .before .pre .0, c .before .before .before .before .before .before .before .before .before .before .before .before .before .before .before .before .before .before .pre .1 .0, c .before .before .before .before .before .before .before .before .before .before .before .before .before .before .before .if1 .left, node-lower (c .before .before .before .before .before .before .before .before .before .before .before .before .before .before .before .before .before .before .args .words .now) (c .before .before .before .before .before .before .before .before .before .before .before .before .before .before .before .before .before .before .args .reference - 1) .second-lower, ap (λ (r : References). r .second) (rw (c .before .before .before .before .before .before .before .before .before .before .before .before .before .before .decode .ensures) at (c .before .before .before .before .before .before .before .before .before .before .before .before .before .references-of .ensures))), (still-so-far _ _ (so-far-walked _ _ _ (c .before .before .before .before .before .before .before .before .before .before .before .before .before .before .before .before .before .before .pre .1 .1) _ (c .before .before .before .before .before .before .before .walk .ensures)) (c .before .before .before .before .note-faults .ensures))))
+walk-bindings-walk-bindings-requires t c κs = (omega (arith, c .before .before .before .before .before .before .before .before .before .before .before .before .before .before .before .before .before .before .pre .0, c .before .before .before .before .before .before .before .before .before .before .before .before .before .before .before .before .before .before .pre .1 .0, c .before .before .before .before .before .before .before .before .before .before .before .before .before .before .before .if1 .left, node-lower (c .before .before .before .before .before .before .before .before .before .before .before .before .before .before .before .before .before .before .args .words .now) (c .before .before .before .before .before .before .before .before .before .before .before .before .before .before .before .before .before .before .args .reference - 1) .second-lower, ap (λ (r : References). r .second) (rw (c .before .before .before .before .before .before .before .before .before .before .before .before .before .before .decode .ensures) at (c .before .before .before .before .before .before .before .before .before .before .before .before .before .references-of .ensures))), (omega (arith, c .before .before .before .before .before .before .before .before .before .before .before .before .before .before .before .before .before .before .pre .0, c .before .before .before .before .before .before .before .before .before .before .before .before .before .before .before .before .before .before .pre .1 .0, c .before .before .before .before .before .before .before .before .before .before .before .before .before .before .before .if1 .left, node-lower (c .before .before .before .before .before .before .before .before .before .before .before .before .before .before .before .before .before .before .args .words .now) (c .before .before .before .before .before .before .before .before .before .before .before .before .before .before .before .before .before .before .args .reference - 1) .second-lower, ap (λ (r : References). r .second) (rw (c .before .before .before .before .before .before .before .before .before .before .before .before .before .before .decode .ensures) at (c .before .before .before .before .before .before .before .before .before .before .before .before .before .references-of .ensures))), (so-far-judged (columnsOf (c .before .before .before .before .before .before .before .before .before .before .before .before .before .before .before .before .before .before .args .catalogue .now)) (c .before .before .before .before .before .before .before .walk .last .1 .1 .1 .0) (c .before .before .before .before .before .before .before .walk .last .1 .1 .1 .1 .0) (so-far-walked _ _ _ (c .before .before .before .before .before .before .before .before .before .before .before .before .before .before .before .before .before .before .pre .1 .1) _ (c .before .before .before .before .before .before .before .walk .ensures)) (roleOf (nodeAt (c .before .before .before .before .before .before .before .before .before .before .before .before .before .before .before .before .before .before .args .words .now) (c .before .before .before .before .before .before .before .before .before .before .before .before .before .before .before .before .before .before .args .reference - 1))) (c .before .before .before .before .before .before .before .before .before .before .before .before .before .before .before .before .before .before .args .reference - 1) (c .before .before .before .before .before .before .before .walk .result) 0 (c .before .before .before .before .judge-at .ensures))))
 
 walk-bindings-returns-2 : (t : ℕ) → walk-bindings-lts.Need-returns-2 (walk-bindings-calls t) (walk-bindings-at t) walk-bindings.Post
-walk-bindings-returns-2 t c = let binder : roleOf (nodeAt (c .before .before .before .before .before .before .before .before .before .before .before .before .before .before .before .before .before .before .before .args .words .now) (c .before .before .before .before .before .before .before .before .before .before .before .before .before .before .before .before .before .before .before .args .reference - 1)) ≡ Binds (boundBy (roleOf (nodeAt (c .before .before .before .before .before .before .before .before .before .before .before .before .before .before .before .before .before .before .before .args .words .now) (c .before .before .before .before .before .before .before .before .before .before .before .before .before .before .before .before .before .before .before .args .reference - 1)))) = is-binder (roleOf (nodeAt (c .before .before .before .before .before .before .before .before .before .before .before .before .before .before .before .before .before .before .before .args .words .now) (c .before .before .before .before .before .before .before .before .before .before .before .before .before .before .before .before .before .before .before .args .reference - 1))) (rw (rw (c .before .before .before .before .before .before .before .before .before .before .before .before .before .role-of .ensures, c .before .before .before .before .before .before .before .before .before .before .before .before .before .before .before .decode .ensures) at (c .before .before .before .before .before .before .before .before .before .before .before .before .bound-by .ensures)) at (c .before .before .before .before .before .before .before .before .before .before .before .if2 .taken)) in rw (tree-of-reference (c .before .before .before .before .before .before .before .before .before .before .before .before .before .before .before .before .before .before .before .args .words .now) (c .before .before .before .before .before .before .before .before .before .before .before .before .before .before .before .before .before .before .before .args .reference) (omega (arith, c .before .before .before .before .before .before .before .before .before .before .before .before .before .before .before .before .if1 .left)), binder-third (nodeAt (c .before .before .before .before .before .before .before .before .before .before .before .before .before .before .before .before .before .before .before .args .words .now) (c .before .before .before .before .before .before .before .before .before .before .before .before .before .before .before .before .before .before .before .args .reference - 1)) (boundBy (roleOf (nodeAt (c .before .before .before .before .before .before .before .before .before .before .before .before .before .before .before .before .before .before .before .args .words .now) (c .before .before .before .before .before .before .before .before .before .before .before .before .before .before .before .before .before .before .before .args .reference - 1)))) binder, tree-of-none (c .before .before .before .before .before .before .before .before .before .before .before .before .before .before .before .before .before .before .before .args .words .now)) (binding-walked (columnsOf (c .before .before .before .before .before .before .before .before .before .before .before .before .before .before .before .before .before .before .before .args .catalogue .now)) (c .before .before .before .before .before .before .before .before .before .before .before .before .before .before .before .before .before .before .before .args .scope .now) (c .before .before .before .before .before .before .before .before .before .before .before .before .before .before .before .before .before .before .before .args .lowest .now) (c .before .before .before .before .before .before .before .before .before .before .before .before .before .before .before .before .before .before .before .pre .1 .1) (c .before .before .before .before .before .before .before .before .before .before .before .before .before .before .before .before .before .before .before .args .reference - 1) (nodeAt (c .before .before .before .before .before .before .before .before .before .before .before .before .before .before .before .before .before .before .before .args .words .now) (c .before .before .before .before .before .before .before .before .before .before .before .before .before .before .before .before .before .before .before .args .reference - 1)) (treeOf (c .before .before .before .before .before .before .before .before .before .before .before .before .before .before .before .before .before .before .before .args .words .now) (references (nodeAt (c .before .before .before .before .before .before .before .before .before .before .before .before .before .before .before .before .before .before .before .args .words .now) (c .before .before .before .before .before .before .before .before .before .before .before .before .before .before .before .before .before .before .before .args .reference - 1)) .first)) (treeOf (c .before .before .before .before .before .before .before .before .before .before .before .before .before .before .before .before .before .before .before .args .words .now) (references (nodeAt (c .before .before .before .before .before .before .before .before .before .before .before .before .before .before .before .before .before .before .before .args .words .now) (c .before .before .before .before .before .before .before .before .before .before .before .before .before .before .before .before .before .before .before .args .reference - 1)) .second)) binder (rw (rw (c .before .before .before .before .before .before .before .before .before .before .before .before .before .before .before .decode .ensures) at (c .before .before .before .before .before .before .before .before .before .before .before .before .before .before .references-of .ensures)) at (c .before .before .before .before .before .before .before .before .walk .ensures)) (c .before .before .before .before .before .note-faults .ensures) (rw (rw (c .before .before .before .before .before .before .before .before .before .before .before .before .before .role-of .ensures, c .before .before .before .before .before .before .before .before .before .before .before .before .before .before .before .decode .ensures) at (c .before .before .before .before .before .before .before .before .before .before .before .before .bound-by .ensures)) at (c .before .before .before .bind .ensures)) (rw (rw (c .before .before .before .before .before .before .before .before .before .before .before .before .before .before .before .decode .ensures) at (c .before .before .before .before .before .before .before .before .before .before .before .before .before .before .references-of .ensures)) at (c .walk-bindings .ensures)))
+walk-bindings-returns-2 t c = let binder : roleOf (nodeAt (c .before .before .before .before .before .before .before .before .before .before .before .before .before .before .before .before .before .before .before .args .words .now) (c .before .before .before .before .before .before .before .before .before .before .before .before .before .before .before .before .before .before .before .args .reference - 1)) ≡ Binds (boundBy (roleOf (nodeAt (c .before .before .before .before .before .before .before .before .before .before .before .before .before .before .before .before .before .before .before .args .words .now) (c .before .before .before .before .before .before .before .before .before .before .before .before .before .before .before .before .before .before .before .args .reference - 1)))) = is-binder (roleOf (nodeAt (c .before .before .before .before .before .before .before .before .before .before .before .before .before .before .before .before .before .before .before .args .words .now) (c .before .before .before .before .before .before .before .before .before .before .before .before .before .before .before .before .before .before .before .args .reference - 1))) (rw (rw (c .before .before .before .before .before .before .before .before .before .before .before .before .before .role-of .ensures, c .before .before .before .before .before .before .before .before .before .before .before .before .before .before .before .decode .ensures) at (c .before .before .before .before .before .before .before .before .before .before .before .before .bound-by .ensures)) at (c .before .before .before .before .before .before .before .before .before .before .before .if2 .taken)) in rw (tree-of-reference (c .before .before .before .before .before .before .before .before .before .before .before .before .before .before .before .before .before .before .before .args .words .now) (c .before .before .before .before .before .before .before .before .before .before .before .before .before .before .before .before .before .before .before .args .reference) (omega (arith, c .before .before .before .before .before .before .before .before .before .before .before .before .before .before .before .before .if1 .left)), binder-third (nodeAt (c .before .before .before .before .before .before .before .before .before .before .before .before .before .before .before .before .before .before .before .args .words .now) (c .before .before .before .before .before .before .before .before .before .before .before .before .before .before .before .before .before .before .before .args .reference - 1)) (boundBy (roleOf (nodeAt (c .before .before .before .before .before .before .before .before .before .before .before .before .before .before .before .before .before .before .before .args .words .now) (c .before .before .before .before .before .before .before .before .before .before .before .before .before .before .before .before .before .before .before .args .reference - 1)))) binder, tree-of-none (c .before .before .before .before .before .before .before .before .before .before .before .before .before .before .before .before .before .before .before .args .words .now)) (binding-walked (columnsOf (c .before .before .before .before .before .before .before .before .before .before .before .before .before .before .before .before .before .before .before .args .catalogue .now)) (c .before .before .before .before .before .before .before .before .before .before .before .before .before .before .before .before .before .before .before .args .scope .now) (c .before .before .before .before .before .before .before .before .before .before .before .before .before .before .before .before .before .before .before .args .lowest .now) (c .before .before .before .before .before .before .before .before .before .before .before .before .before .before .before .before .before .before .before .pre .1 .1) (c .before .before .before .before .before .before .before .before .before .before .before .before .before .before .before .before .before .before .before .args .reference - 1) (nodeAt (c .before .before .before .before .before .before .before .before .before .before .before .before .before .before .before .before .before .before .before .args .words .now) (c .before .before .before .before .before .before .before .before .before .before .before .before .before .before .before .before .before .before .before .args .reference - 1)) (treeOf (c .before .before .before .before .before .before .before .before .before .before .before .before .before .before .before .before .before .before .before .args .words .now) (references (nodeAt (c .before .before .before .before .before .before .before .before .before .before .before .before .before .before .before .before .before .before .before .args .words .now) (c .before .before .before .before .before .before .before .before .before .before .before .before .before .before .before .before .before .before .before .args .reference - 1)) .first)) (treeOf (c .before .before .before .before .before .before .before .before .before .before .before .before .before .before .before .before .before .before .before .args .words .now) (references (nodeAt (c .before .before .before .before .before .before .before .before .before .before .before .before .before .before .before .before .before .before .before .args .words .now) (c .before .before .before .before .before .before .before .before .before .before .before .before .before .before .before .before .before .before .before .args .reference - 1)) .second)) binder (rw (rw (c .before .before .before .before .before .before .before .before .before .before .before .before .before .before .before .decode .ensures) at (c .before .before .before .before .before .before .before .before .before .before .before .before .before .before .references-of .ensures)) at (c .before .before .before .before .before .before .before .before .walk .ensures)) (c .before .before .before .before .before .judge-at .ensures) (rw (rw (c .before .before .before .before .before .before .before .before .before .before .before .before .before .role-of .ensures, c .before .before .before .before .before .before .before .before .before .before .before .before .before .before .before .decode .ensures) at (c .before .before .before .before .before .before .before .before .before .before .before .before .bound-by .ensures)) at (c .before .before .before .bind .ensures)) (rw (rw (c .before .before .before .before .before .before .before .before .before .before .before .before .before .before .before .decode .ensures) at (c .before .before .before .before .before .before .before .before .before .before .before .before .before .before .references-of .ensures)) at (c .walk-bindings .ensures)))
 
 walk-bindings-walk-requires-2 : (t : ℕ) → walk-bindings-lts.Need-walk-requires-2 (walk-bindings-calls t) (walk-bindings-at t) walk-bindings.Post
 walk-bindings-walk-requires-2 t c κs = (omega (arith, c .before .before .before .before .before .before .before .before .before .before .pre .0), c .before .before .before .before .before .before .before .before .before .before .pre .1)
@@ -190,5 +177,5 @@ walk-bindings-returns-3 : (t : ℕ) → walk-bindings-lts.Need-returns-3 (walk-b
 walk-bindings-returns-3 t c = other-walked (columnsOf (c .before .before .before .before .before .before .before .before .before .before .before .args .catalogue .now)) (c .before .before .before .before .before .before .before .before .before .before .before .args .scope .now) (c .before .before .before .before .before .before .before .before .before .before .before .args .lowest .now) (c .before .before .before .before .before .before .before .before .before .before .before .pre .1 .1) (treeOf (c .before .before .before .before .before .before .before .before .before .before .before .args .words .now) (c .before .before .before .before .before .before .before .before .before .before .before .args .reference)) (rw (tree-of-reference (c .before .before .before .before .before .before .before .before .before .before .before .args .words .now) (c .before .before .before .before .before .before .before .before .before .before .before .args .reference) (omega (arith, c .before .before .before .before .before .before .before .before .if1 .left))) (other-bound (columnsOf (c .before .before .before .before .before .before .before .before .before .before .before .args .catalogue .now)) (c .before .before .before .before .before .before .before .before .before .before .before .args .scope .now) (c .before .before .before .before .before .before .before .before .before .before .before .args .reference - 1) (nodeAt (c .before .before .before .before .before .before .before .before .before .before .before .args .words .now) (c .before .before .before .before .before .before .before .before .before .before .before .args .reference - 1)) (treeOf (c .before .before .before .before .before .before .before .before .before .before .before .args .words .now) (references (nodeAt (c .before .before .before .before .before .before .before .before .before .before .before .args .words .now) (c .before .before .before .before .before .before .before .before .before .before .before .args .reference - 1)) .first)) (treeOf (c .before .before .before .before .before .before .before .before .before .before .before .args .words .now) (references (nodeAt (c .before .before .before .before .before .before .before .before .before .before .before .args .words .now) (c .before .before .before .before .before .before .before .before .before .before .before .args .reference - 1)) .second)) (treeOf (c .before .before .before .before .before .before .before .before .before .before .before .args .words .now) (references (nodeAt (c .before .before .before .before .before .before .before .before .before .before .before .args .words .now) (c .before .before .before .before .before .before .before .before .before .before .before .args .reference - 1)) .third)) (node-variable (c .before .before .before .before .before .before .before .before .before .before .before .args .words .now) (c .before .before .before .before .before .before .before .before .before .before .before .args .reference - 1)) (rw (rw (c .before .before .before .before .before .role-of .ensures, c .before .before .before .before .before .before .before .decode .ensures) at (c .before .before .before .before .bound-by .ensures)) at (c .before .before .before .if2 .left)))) (c .walk2 .ensures)
 
 pub +walk+walk-bindings-spec : {M : Type 1} → statement M
-+walk+walk-bindings-spec = close μ-walk μ-walk-bindings (λ t. walk-lts.spec (walk-calls t) (walk-at t) walk.Post (walk-returns t) (walk-sub-i t) (walk-cast-decode t) (walk-decode-requires t) (walk-references-of-requires t) (walk-role-of-requires t) (walk-is-alpha-requires t) (walk-walk-bindings-requires t) (walk-walk-requires t) (walk-walk-requires-2 t) (walk-note-faults-requires t) (walk-returns-2 t) (walk-bound-by-requires t) (walk-walk-requires-3 t) (walk-cast-width t) (walk-element-copy-out-width t) (walk-element-copy-out-columns t) (walk-enter-requires t) (walk-walk-requires-4 t) (walk-walk-requires-5 t) (walk-cast-scope t) (walk-element-write-scope t) (walk-element-write-scope-2 t) (walk-note-faults-requires-2 t) (walk-cast-decode-2 t) (walk-decode-requires-2 t) (walk-role-of-requires-2 t) (walk-width-of-requires t) (walk-returns-3 t))
-    λ t. walk-bindings-lts.spec (walk-bindings-calls t) (walk-bindings-at t) walk-bindings.Post (walk-bindings-returns t) (walk-bindings-sub-i t) (walk-bindings-cast-decode t) (walk-bindings-decode-requires t) (walk-bindings-references-of-requires t) (walk-bindings-role-of-requires t) (walk-bindings-bound-by-requires t) (walk-bindings-walk-requires t) (walk-bindings-note-faults-requires t) (walk-bindings-bind-requires t) (walk-bindings-walk-bindings-requires t) (walk-bindings-returns-2 t) (walk-bindings-walk-requires-2 t) (walk-bindings-returns-3 t)
++walk+walk-bindings-spec = close μ-walk μ-walk-bindings (λ t. walk-lts.spec (walk-calls t) (walk-at t) walk.Post (walk-returns t) (walk-sub-i t) (walk-cast-decode t) (walk-decode-requires t) (walk-references-of-requires t) (walk-role-of-requires t) (walk-is-alpha-requires t) (walk-walk-bindings-requires t) (walk-walk-requires t) (walk-walk-requires-2 t) (walk-judge-at-requires t) (walk-returns-2 t) (walk-bound-by-requires t) (walk-walk-requires-3 t) (walk-cast-width t) (walk-element-copy-out-width t) (walk-element-copy-out-columns t) (walk-enter-requires t) (walk-walk-requires-4 t) (walk-walk-requires-5 t) (walk-cast-scope t) (walk-element-write-scope t) (walk-element-write-scope-2 t) (walk-judge-at-requires-2 t) (walk-returns-3 t))
+    λ t. walk-bindings-lts.spec (walk-bindings-calls t) (walk-bindings-at t) walk-bindings.Post (walk-bindings-returns t) (walk-bindings-sub-i t) (walk-bindings-cast-decode t) (walk-bindings-decode-requires t) (walk-bindings-references-of-requires t) (walk-bindings-role-of-requires t) (walk-bindings-bound-by-requires t) (walk-bindings-walk-requires t) (walk-bindings-judge-at-requires t) (walk-bindings-bind-requires t) (walk-bindings-walk-bindings-requires t) (walk-bindings-returns-2 t) (walk-bindings-walk-requires-2 t) (walk-bindings-returns-3 t)

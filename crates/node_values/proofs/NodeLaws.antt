@@ -41,9 +41,9 @@ use Rattle.plans.proofs.DecodeLaws.{Stands}
 use Rattle.plans.proofs.JudgeLaws.{width-planned}
 use Rattle.plans.proofs.LegalLaws.{count-within}
 use Rattle.plans.proofs.ListedLaws.{pairs-many}
-use Rattle.running.specs.Standing.{valuesIn, valueNamed, standing, StandsBefore, Stand}
-use Rattle.running.specs.NodeRun.{widthRead, candidatesRead, weightRead}
-use Rattle.running.proofs.StandLaws.{value-width, standing-at, value-stands}
+use Rattle.node_values.specs.Standing.{valuesIn, valueNamed, standing, StandsBefore, Stand}
+use Rattle.node_values.specs.NodeRun.{widthRead, candidatesRead, weightRead}
+use Rattle.node_values.proofs.StandLaws.{value-width, standing-at, value-stands}
 
 -- the node that an operation runs, by a decoded node's numbers and list
 abbrev nodeIn : Operation → (left right count : ℕ) → List ℕ → nodes.Node

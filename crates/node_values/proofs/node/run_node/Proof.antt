@@ -1,13 +1,13 @@
 use Rattle.relations.specs.PlanWords.{readNode}
 use Rattle.catalogue.specs.Stored.{relationsOf, columnsOf}
-use Rattle.running.proofs.NodeLaws.{width-read, weight-read, makes-told, no-node}
+use Rattle.node_values.proofs.NodeLaws.{width-read, weight-read, makes-told, no-node}
 use mathlib.Core.Path.{_≡_, sym, _∙_}
 use Rattle.plans.proofs.DecodeLaws.{stands}
 use Rattle.plans.proofs.JudgeLaws.{fits-if-legal}
 use native.Mathlib.Omega.{arith}
 use borrow.Author.Needs.{needs}
-use Rattle.running.proofs.node.run_node.Statement.{statement}
-use Rattle.running.proofs.node.run_node.Tie as tie
+use Rattle.node_values.proofs.node.run_node.Statement.{statement}
+use Rattle.node_values.proofs.node.run_node.Tie as tie
 
 decode-node-requires : tie.Need-decode-node-requires
 decode-node-requires c κs = search needs

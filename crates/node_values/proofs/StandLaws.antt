@@ -15,7 +15,7 @@ use Rattle.values.specs.Building.{Makes}
 use Rattle.values.specs.declared.rows.Value.{Value}
 use Rattle.values.specs.declared.placing.Placed.the-variants.{Rows as Placed·Rows}
 use Rattle.values.proofs.MakeLaws.{makes-rows, makes-value, makes-fits, makes-blank}
-use Rattle.running.specs.Standing.{valuesIn, noValue, valueNamed, standing, StandsBefore, Stand}
+use Rattle.node_values.specs.Standing.{valuesIn, noValue, valueNamed, standing, StandsBefore, Stand}
 
 -- Read by number.
 

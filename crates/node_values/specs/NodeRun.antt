@@ -10,8 +10,8 @@ use Rattle.values.specs.Building.{Makes}
 use Rattle.values.specs.declared.placing.Placed.{Placed}
 use Rattle.values.specs.declared.placing.Placed.the-variants.{Rows as Placed·Rows, Full}
 use Rattle.catalogue.specs.Stored.{columnsOf, storedTables}
-use Rattle.running.specs.declared.node.Made.{Made}
-use Rattle.running.specs.declared.node.Made.the-variants.{Value, NoRoom}
+use Rattle.node_values.specs.declared.node.Made.{Made}
+use Rattle.node_values.specs.declared.node.Made.the-variants.{Value, NoRoom}
 
 abbrev pub widthRead : (ℕ → ℕ) → List ℕ → Option Node → ℕ
 widthRead columns made none = 0

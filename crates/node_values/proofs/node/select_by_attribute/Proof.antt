@@ -5,10 +5,10 @@ use Rattle.relations.specs.Columns as meaning
 use Rattle.operations.proofs.FillSteps.{builds-by}
 use native.Mathlib.Omega.{arith}
 use borrow.Author.Needs.{needs}
-use Rattle.running.proofs.node.select_by_attribute.Statement.{statement}
-use Rattle.running.proofs.node.select_by_attribute.Tie as tie
-use Rattle.running.proofs.node.select_by_attribute.Reads as reads
-use Rattle.running.proofs.node.select_by_attribute.Lts as lts
+use Rattle.node_values.proofs.node.select_by_attribute.Statement.{statement}
+use Rattle.node_values.proofs.node.select_by_attribute.Tie as tie
+use Rattle.node_values.proofs.node.select_by_attribute.Reads as reads
+use Rattle.node_values.proofs.node.select_by_attribute.Lts as lts
 use Rattle.operations.proofs.columns.triple_at.Reads as triple-at-reads
 use Rattle.operations.proofs.keep.select_attribute.Reads as select-attribute-reads
 

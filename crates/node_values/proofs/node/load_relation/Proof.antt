@@ -3,9 +3,9 @@ use mathlib.Core.Path.{_≡_, _∙_}
 use borrow.Author.Needs.{needs}
 use Rattle.catalogue.specs.Stored.{columnsOf, rowCountOf}
 use Rattle.catalogue.proofs.TableLaws.{has-column, stored-inside, start-few}
-use Rattle.running.proofs.LoadLaws.{loaded}
-use Rattle.running.proofs.node.load_relation.Statement.{statement}
-use Rattle.running.proofs.node.load_relation.Tie as tie
+use Rattle.node_values.proofs.LoadLaws.{loaded}
+use Rattle.node_values.proofs.node.load_relation.Statement.{statement}
+use Rattle.node_values.proofs.node.load_relation.Tie as tie
 
 start-of-requires : tie.Need-start-of-requires
 start-of-requires c κs = let s = c .before .before .before in start-few (s .args .catalogue .now) (s .args .tables .now) (s .pre .0) (s .args .relation) (s .pre .1)

@@ -14,15 +14,15 @@ use Rattle.catalogue.specs.Stored.{relationsOf, columnsOf, storedTables}
 use Rattle.plans.specs.declared.nodes.Operation.{Operation}
 use Rattle.plans.specs.declared.nodes.Operation.the-variants.{Load, Project, SelectConstant, SelectAttribute, Join, Semijoin, Antijoin, Divide, Unite, Intersect, Subtract}
 use Rattle.plans.proofs.DecodeLaws.{Stands, stands}
-use Rattle.running.specs.Standing.{valuesIn, standing}
-use Rattle.running.specs.NodeRun.{widthRead, candidatesRead}
-use Rattle.running.proofs.NodeLaws.{Asks, asks, widthMade, offered, makes}
+use Rattle.node_values.specs.Standing.{valuesIn, standing}
+use Rattle.node_values.specs.NodeRun.{widthRead, candidatesRead}
+use Rattle.node_values.proofs.NodeLaws.{Asks, asks, widthMade, offered, makes}
 use native.Mathlib.Omega.{arith}
 use borrow.Author.Needs.{needs}
-use Rattle.running.proofs.node.make_value.Statement.{statement}
-use Rattle.running.proofs.node.make_value.Tie as tie
-use Rattle.running.proofs.node.make_value.Reads as reads
-use Rattle.running.proofs.node.make_value.Lts as lts
+use Rattle.node_values.proofs.node.make_value.Statement.{statement}
+use Rattle.node_values.proofs.node.make_value.Tie as tie
+use Rattle.node_values.proofs.node.make_value.Reads as reads
+use Rattle.node_values.proofs.node.make_value.Lts as lts
 use Rattle.operations.proofs.copy.unite.Reads as unite-reads
 use Rattle.division.proofs.divide.divide.Reads as divide-reads
 use Rattle.joining.proofs.join.join.Reads as join-reads
@@ -32,10 +32,10 @@ use Rattle.joining.proofs.keyed.semijoin.Reads as semijoin-reads
 use Rattle.operations.proofs.keep.subtract.Reads as subtract-reads
 use Rattle.ordering.proofs.sorted.project.Reads as project-reads
 use Rattle.values.proofs.clearing.finish.Reads as finish-reads
-use Rattle.running.proofs.node.load_relation.Reads as load-relation-reads
-use Rattle.running.proofs.node.select_by_attribute.Reads as select-by-attribute-reads
-use Rattle.running.proofs.node.select_by_constant.Reads as select-by-constant-reads
-use Rattle.running.proofs.node.value_at.Reads as value-at-reads
+use Rattle.node_values.proofs.node.load_relation.Reads as load-relation-reads
+use Rattle.node_values.proofs.node.select_by_attribute.Reads as select-by-attribute-reads
+use Rattle.node_values.proofs.node.select_by_constant.Reads as select-by-constant-reads
+use Rattle.node_values.proofs.node.value_at.Reads as value-at-reads
 
 -- the place where both sides are read
 abbrev Sides : Type 0

@@ -1,0 +1,76 @@
+use Rattle.question.proofs.WalkLaws.{both-set}
+use Rattle.nodes.proofs.Forms.{node-variable}
+use native.Mathlib.Omega.{arith}
+use borrow.Author.Needs.{needs}
+use Rattle.question.proofs.walking.judge_at.Statement.{statement}
+use Rattle.question.proofs.walking.judge_at.Tie as tie
+use Rattle.question.proofs.walking.judge_at.Reads as reads
+use Rattle.question.proofs.walking.judge_at.Lts as lts
+use Rattle.nodes.proofs.node.decode.Reads as decode-reads
+use Rattle.nodes.proofs.roles.role_of.Reads as role-of-reads
+use Rattle.question.proofs.walking.lower.Reads as lower-reads
+use Rattle.question.proofs.walking.place_of.Reads as place-of-reads
+use Rattle.question.proofs.walking.unbound_at.Reads as unbound-at-reads
+use Rattle.question.proofs.walking.unfit_at.Reads as unfit-at-reads
+use Rattle.question.proofs.walking.width_of.Reads as width-of-reads
+
+decode-requires : tie.Need-decode-requires
+decode-requires c κs = search needs
+
+role-of-requires : tie.Need-role-of-requires
+role-of-requires c κs = search needs
+
+element-copy-out-lower : tie.Need-element-copy-out-lower
+element-copy-out-lower c = search needs
+
+unbound-at-requires : tie.Need-unbound-at-requires
+unbound-at-requires c κs = rw (c .before .role-of .ensures, c .before .before .decode .ensures) (node-variable (c .before .before .before .before .before .args .words .now) (c .before .before .before .before .before .args .i))
+
+place-of-requires : tie.Need-place-of-requires
+place-of-requires c κs = search needs
+
+lower-requires : tie.Need-lower-requires
+lower-requires c κs = search needs
+
+element-copy-out-lower-2 : tie.Need-element-copy-out-lower-2
+element-copy-out-lower-2 c = search needs
+
+unfit-at-requires : tie.Need-unfit-at-requires
+unfit-at-requires c κs = rw (c .before .before .before .before .before .role-of .ensures, c .before .before .before .before .before .before .decode .ensures) (node-variable (c .before .before .before .before .before .before .before .before .before .args .words .now) (c .before .before .before .before .before .before .before .before .before .args .i))
+
+place-of-requires-2 : tie.Need-place-of-requires-2
+place-of-requires-2 c κs = search needs
+
+lower-requires-2 : tie.Need-lower-requires-2
+lower-requires-2 c κs = search needs
+
+element-write-lowest : tie.Need-element-write-lowest
+element-write-lowest c = search needs
+
+element-write-lowest-2 : tie.Need-element-write-lowest-2
+element-write-lowest-2 c = search needs
+
+width-of-requires : tie.Need-width-of-requires
+width-of-requires c κs = rw (c .before .before .before .before .before .before .before .before .role-of .ensures, c .before .before .before .before .before .before .before .before .before .decode .ensures) (node-variable (c .before .before .before .before .before .before .before .before .before .before .before .before .args .words .now) (c .before .before .before .before .before .before .before .before .before .before .before .before .args .i))
+
+returns : tie.Need-returns
+returns c = rw (both-set (c .before .before .before .before .before .before .before .before .before .before .before .before .before .args .lowest .now) (c .before .before .before .before .before .lower .result) (c .before .lower2 .result) (c .before .before .before .before .before .before .before .before .before .before .before .before .before .pre .1 .two-places)) (simp (c .width-of .ensures, c .before .before .before .before .before .lower .ensures, c .before .lower2 .ensures, c .before .before .before .before .before .before .place-of .ensures, c .before .before .place-of2 .ensures, c .before .before .before .before .before .before .before .unbound-at .ensures, c .before .before .before .unfit-at .ensures, c .before .before .before .before .before .before .before .before .before .role-of .ensures, c .before .before .before .before .before .before .before .before .before .before .decode .ensures))
+
+pub judge-at-spec : {M : Type 1} → statement M
+judge-at-spec =
+    tie.close
+    (tie.spec
+    decode-requires
+    role-of-requires
+    element-copy-out-lower
+    unbound-at-requires
+    place-of-requires
+    lower-requires
+    element-copy-out-lower-2
+    unfit-at-requires
+    place-of-requires-2
+    lower-requires-2
+    element-write-lowest
+    element-write-lowest-2
+    width-of-requires
+    returns)
