@@ -8,7 +8,7 @@ use Prim.Native.Nat.{ℕ, _+_, _-_, _*_, _≤_, _<_}
 use native.Mathlib.Omega.{arith}
 use lib.ListN.{length, getD, take, drop, length-map, length-drop}
 use lib.Seq.{length-take-le}
-use Rattle.relations.specs.Limits.{columnLimit, planNodeWords, headWords, listWords}
+use Rattle.relations.specs.Limits.{columnLimit, tripleLimit, planNodeWords, headWords, listWords}
 use Rattle.relations.specs.Lists.{All}
 use Rattle.relations.specs.Values.{Rows, Tables}
 use Rattle.relations.specs.Comparison.{Operator, operatorOf, operatorNamed}
@@ -94,9 +94,9 @@ module _ (relations out : ℕ) (list work : List ℕ) where
   Asks Project relation count left right = StandsBefore out work left × (0 < count) × (count ≤ columnLimit) × (count ≤ length list)
   Asks SelectConstant relation count left right = StandsBefore out work left
   Asks SelectAttribute relation count left right = StandsBefore out work left
-  Asks Join relation count left right = StandsBefore out work left × StandsBefore out work right × (count * 3 ≤ length list) × (left .width + right .width ≤ columnLimit)
-  Asks Semijoin relation count left right = StandsBefore out work left × StandsBefore out work right × (count * 3 ≤ length list)
-  Asks Antijoin relation count left right = StandsBefore out work left × StandsBefore out work right × (count * 3 ≤ length list)
+  Asks Join relation count left right = StandsBefore out work left × StandsBefore out work right × (count * 3 ≤ length list) × (left .width + right .width ≤ columnLimit) × (count ≤ tripleLimit)
+  Asks Semijoin relation count left right = StandsBefore out work left × StandsBefore out work right × (count * 3 ≤ length list) × (count ≤ tripleLimit)
+  Asks Antijoin relation count left right = StandsBefore out work left × StandsBefore out work right × (count * 3 ≤ length list) × (count ≤ tripleLimit)
   Asks Divide relation count left right = StandsBefore out work left × StandsBefore out work right × (count * 2 ≤ length list) × (count < left .width) × So (distinct (leftNumbers (readPairs count list))) × All (λ number. (1 ≤ number) × (number ≤ left .width)) (leftNumbers (readPairs count list))
   Asks Unite relation count left right = StandsBefore out work left × StandsBefore out work right × (right .width ≡ left .width)
   Asks Intersect relation count left right = StandsBefore out work left × StandsBefore out work right
@@ -191,9 +191,9 @@ module _ (catalogue tables words : List ℕ) (plan : PlanNode) (size : length wo
   asks-named SelectAttribute o = side (plan .left) (facts SelectAttribute o .0)
   asks-named Join o =
       let k = facts Join o in
-      (side (plan .left) (k .0 .0), side (plan .right) (k .0 .1), omega (arith, room, counts Join o .1), rw (same-width (plan .left), same-width (plan .right)) (k .1))
-  asks-named Semijoin o = let k = facts Semijoin o in (side (plan .left) (k .0), side (plan .right) (k .1), omega (arith, room, counts Semijoin o .1))
-  asks-named Antijoin o = let k = facts Antijoin o in (side (plan .left) (k .0), side (plan .right) (k .1), omega (arith, room, counts Antijoin o .1))
+      (side (plan .left) (k .0 .0), side (plan .right) (k .0 .1), omega (arith, room, counts Join o .1), rw (same-width (plan .left), same-width (plan .right)) (k .1), counts Join o .1)
+  asks-named Semijoin o = let k = facts Semijoin o in (side (plan .left) (k .0), side (plan .right) (k .1), omega (arith, room, counts Semijoin o .1), counts Semijoin o .1)
+  asks-named Antijoin o = let k = facts Antijoin o in (side (plan .left) (k .0), side (plan .right) (k .1), omega (arith, room, counts Antijoin o .1), counts Antijoin o .1)
   asks-named Divide o =
       let k = facts Divide o in
       let pairs : List Pair = readPairs (plan .count) list in (

@@ -155,7 +155,7 @@ enum-told-5 c = search needs
 
 -- src/node.rt:109:28
 join-requires : tie.Need-join-requires
-join-requires c κs = let v = c .before .before .before in let a = asked v Join (c .before .enum-told5 .given .1) in (a .2, a .0 .0, a .3, a .0 .2, a .1 .2, inside v, a .1 .3)
+join-requires c κs = let v = c .before .before .before in let a = asked v Join (c .before .enum-told5 .given .1) in (a .2, a .0 .0, a .3, a .0 .2, a .1 .2, inside v, a .1 .3, a .4)
 
 finish-requires-3 : tie.Need-finish-requires-3
 finish-requires-3 c κs = omega (arith, inside (c .before .before .before .before .before .before .before), c .before .before .before .join .kept)
@@ -166,7 +166,7 @@ enum-told-6 c = search needs
 
 -- src/node.rt:110:32
 semijoin-requires : tie.Need-semijoin-requires
-semijoin-requires c κs = let v = c .before .before .before in let a = asked v Semijoin (c .before .enum-told6 .given .1) in (a .0 .0, a .0 .2, inside v, a .1 .2, a .2, a .1 .3, blank v)
+semijoin-requires c κs = let v = c .before .before .before in let a = asked v Semijoin (c .before .enum-told6 .given .1) in (a .0 .0, a .0 .2, inside v, a .1 .2, a .2, a .1 .3, blank v, a .3)
 
 -- src/node.rt:111:54
 enum-told-7 : tie.Need-enum-told-7
@@ -174,7 +174,7 @@ enum-told-7 c = search needs
 
 -- src/node.rt:111:32
 antijoin-requires : tie.Need-antijoin-requires
-antijoin-requires c κs = let v = c .before .before .before in let a = asked v Antijoin (c .before .enum-told7 .given .1) in (a .0 .0, a .0 .2, inside v, a .1 .2, a .2, a .1 .3, blank v)
+antijoin-requires c κs = let v = c .before .before .before in let a = asked v Antijoin (c .before .enum-told7 .given .1) in (a .0 .0, a .0 .2, inside v, a .1 .2, a .2, a .1 .3, blank v, a .3)
 
 -- src/node.rt:112:50
 enum-told-8 : tie.Need-enum-told-8
