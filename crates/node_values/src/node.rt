@@ -29,8 +29,8 @@ use operations::keep::intersect;
 use operations::keep::select_attribute;
 use operations::keep::select_constant;
 use operations::keep::subtract;
-use operations::project::project;
 use ordering::sorted::load;
+use ordering::sorted::project;
 use plan_reading::legal::width_of;
 use plan_reading::nodes::Decoded;
 use plan_reading::nodes::Operation;
@@ -153,7 +153,7 @@ fn make_value(
     let right = value_at(widths, rows, bases, node.right);
     match operation {
         Operation::Load => load_relation(catalogue, tables, node.left, work, out),
-        Operation::Project => finish(project(list, count, work, left, out), work, out),
+        Operation::Project => project(list, count, work, left, out),
         Operation::SelectConstant => finish(select_by_constant(list, work, left, out), work, out),
         Operation::SelectAttribute => finish(select_by_attribute(list, work, left, out), work, out),
         Operation::Join => finish(join(list, count, work, left, right, out), work, out),

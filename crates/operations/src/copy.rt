@@ -1,127 +1,20 @@
-// The operations that take all rows over: load and union.
+// The operation that takes all rows of two values over: union.
 ghost use mathlib.Core.Path.{_≡_};
 ghost use mathlib.Core.Bool.{true, false};
 ghost use mathlib.Core.List.{[], _∷_};
 ghost use Prim.Native.Nat.{ℕ, _+_, _*_, _≤_, _<_};
 ghost use lib.ListN.{length};
 ghost use Rattle.relations.specs.Values.{Ascending};
-ghost use Rattle.relations.specs.Operations.{loadCandidates, uniteCandidates};
-ghost use Rattle.values.specs.Words.{held, rowIn, rowsAt, rowsOf, end};
-ghost use Rattle.values.specs.Building.{Stands, Builds, Blank, Makes};
+ghost use Rattle.relations.specs.Operations.{uniteCandidates};
+ghost use Rattle.values.specs.Words.{rowIn, rowsAt, rowsOf, end};
+ghost use Rattle.values.specs.Building.{Builds, Blank, Makes};
 use crate::columns::NO_WORDS;
 use values::clearing::clear_from;
-use values::clearing::finish;
 use values::placing::Placed;
 use values::placing::place_row;
 use values::rows::Value;
 use values::rows::row;
 use values::search::stands_before;
-
-// The rows of a table or of a value in the work area are put into the value of `made` rows at `out`.
-fn copy_rows(
-    tables: &[u32],
-    work: &mut [u32],
-    in_work: bool,
-    value: Value,
-    out: usize,
-    made: usize,
-) -> Placed
-    requires { ⌜ (0 < value .width) × Stands «in_work» (value .base) (value .rows * value .width) out (now tables) (now work) × (out + made * value .width ≤ length (now work)) × Ascending (rowsAt (value .width) made out (now work)) ⌝ }
-    ensures { λ r. ⌜ Builds (value .width) out made (rowsOf value (held «in_work» (now (tables .entry)) (now (work .entry)))) (now (work .entry)) (now (work .exit)) r ⌝ }
-{
-    let width = value.width;
-    let mut at = value.base;
-    let mut left = value.rows;
-    let mut total = made;
-    while 0 < left {
-        match place_row(
-            tables,
-            work,
-            in_work,
-            at,
-            Value {
-                base: out,
-                rows: total,
-                width,
-            },
-        ) {
-            Placed::Rows(rows) => {
-                total = rows;
-            }
-            Placed::Full => {
-                return Placed::Full;
-            }
-        }
-        at += width;
-        left -= 1;
-    }
-    Placed::Rows(total)
-}
-
-// Whether the last stored row stands before the first: they may stand in descending order. It only says what is quicker.
-fn ends_before(tables: &[u32], stored: Value) -> bool
-    requires { ⌜ end stored ≤ length (now tables) ⌝ }
-{
-    let base = stored.base;
-    let rows = stored.rows;
-    let width = stored.width;
-    if rows == 0 {
-        return false;
-    }
-    stands_before(
-        tables,
-        base + (rows - 1) * width,
-        width,
-        row(tables, tables, true, base, width),
-    )
-}
-
-// The stored rows are offered from the last to the first.
-fn load_backwards(tables: &[u32], work: &mut [u32], stored: Value, out: usize) -> Placed
-    requires { ⌜ (0 < stored .width) × (end stored ≤ length (now tables)) × (out ≤ length (now work)) × Blank out (now work) ⌝ }
-    ensures { λ r. ⌜ Makes (stored .width) out (rowsOf stored (now (tables .entry))) (now (work .entry)) (now (work .exit)) r ⌝ }
-{
-    let base = stored.base;
-    let width = stored.width;
-    let mut left = stored.rows;
-    let mut made: usize = 0;
-    while 0 < left {
-        left -= 1;
-        match place_row(
-            tables,
-            work,
-            false,
-            base + left * width,
-            Value {
-                base: out,
-                rows: made,
-                width,
-            },
-        ) {
-            Placed::Rows(rows) => {
-                made = rows;
-            }
-            Placed::Full => {
-                clear_from(work, out);
-                return Placed::Full;
-            }
-        }
-    }
-    Placed::Rows(made)
-}
-
-// Operation 1: the stored rows, each once. Rows that come in ascending order cost one comparison each, so rows that stand in descending order are
-// offered from the last one on.
-pub fn load(tables: &[u32], work: &mut [u32], stored: Value, out: usize) -> Placed
-    requires { ⌜ (0 < stored .width) × (end stored ≤ length (now tables)) × (out ≤ length (now work)) × Blank out (now work) ⌝ }
-    ensures { λ r. ⌜ Makes (stored .width) out (loadCandidates (rowsOf stored (now (tables .entry)))) (now (work .entry)) (now (work .exit)) r ⌝ }
-{
-    if ends_before(tables, stored) {
-        load_backwards(tables, work, stored, out)
-    } else {
-        finish(copy_rows(tables, work, false, stored, out, 0), work, out)
-    }
-}
 
 // Whether the next left row is to be offered, and not the next right row: the earlier of the two, or the only one.
 fn left_is_next(

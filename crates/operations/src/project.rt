@@ -1,4 +1,4 @@
-// Operation 2: the picked columns of each left row. A list may name an attribute twice.
+// A row of picked columns put into a value. A list may name an attribute twice.
 ghost use mathlib.Core.Path.{_≡_};
 ghost use mathlib.Core.List.{[], _∷_, map};
 ghost use Prim.Native.Nat.{ℕ, _+_, _*_, _≤_, _<_};
@@ -6,8 +6,7 @@ ghost use lib.ListN.{length, take};
 ghost use Rattle.relations.specs.Limits.{columnLimit};
 ghost use Rattle.relations.specs.Columns as meaning;
 ghost use Rattle.relations.specs.Values.{Ascending};
-ghost use Rattle.relations.specs.Operations.{projectCandidates};
-ghost use Rattle.values.specs.Words.{rowIn, rowsAt, rowsOf, end};
+ghost use Rattle.values.specs.Words.{rowIn, rowsAt};
 ghost use Rattle.values.specs.Building.{Builds};
 use crate::made::picked_row;
 use values::placing::Placed;
@@ -40,27 +39,4 @@ pub fn place_picked(
             width: count,
         },
     )
-}
-
-pub fn project(list: &[u32], count: usize, work: &mut [u32], left: Value, out: usize) -> Placed
-    requires { ⌜ (0 < count) × (count ≤ columnLimit) × (count ≤ length (now list)) × (end left ≤ out) × (out ≤ length (now work)) ⌝ }
-    ensures { λ r. ⌜ Builds count out 0 (projectCandidates (map meaning.attribute (take count (now (list .entry)))) (rowsOf left (now (work .entry)))) (now (work .entry)) (now (work .exit)) r ⌝ }
-{
-    let width = left.width;
-    let mut at = left.base;
-    let mut more = left.rows;
-    let mut made: usize = 0;
-    while 0 < more {
-        match place_picked(list, count, work, at, width, out, made) {
-            Placed::Rows(rows) => {
-                made = rows;
-            }
-            Placed::Full => {
-                return Placed::Full;
-            }
-        }
-        at += width;
-        more -= 1;
-    }
-    Placed::Rows(made)
 }

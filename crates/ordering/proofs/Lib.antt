@@ -1,2 +1,3 @@
 -- In reading order.
-pub mod NumberLaws
+pub mod OfferLaws
+pub mod AscendLaws

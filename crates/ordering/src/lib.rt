@@ -1,6 +1,7 @@
-// Rows offered in an order of their own. A row that comes behind all rows placed before it costs one comparison, so where rows come in no order their
-// numbers are sorted first, by digits, in the free end of the work area. The sort is a hint: that every number is there is tested afterwards, and a value
-// is right for rows in any order. Where this way has too little room, it leaves everything as it was.
-pub mod digits;
-pub mod numbers;
+// Operations 1 and 2, load and project, in whatever order the rows stand. A row that comes behind all rows placed before it costs one comparison, so where
+// the picked columns come in no order the rows' numbers are sorted first, in the free end of the work area. Where that has too little room, rows are
+// placed as they come.
+pub mod ascending;
+pub mod offering;
 pub mod sorted;
+pub mod taking;

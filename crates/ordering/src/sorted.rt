@@ -1,88 +1,63 @@
-// Stored rows made a value in the order of their sorted numbers.
+// Operations 1 and 2: the stored rows, or the picked columns of a value's rows, each once. A list may name an attribute twice.
 ghost use mathlib.Core.Path.{_≡_};
+ghost use mathlib.Core.List.{map};
 ghost use Prim.Native.Nat.{ℕ, _+_, _*_, _≤_, _<_};
+ghost use lib.ListN.{length, take};
 ghost use Rattle.relations.specs.Limits.{columnLimit};
-ghost use lib.ListN.{length, take, drop};
+ghost use Rattle.relations.specs.Columns as meaning;
+ghost use Rattle.relations.specs.Operations.{loadCandidates, projectCandidates};
 ghost use Rattle.values.specs.Words.{rowsOf, end};
 ghost use Rattle.values.specs.Building.{Blank, Makes};
-ghost use Rattle.relations.specs.Operations.{loadCandidates};
-ghost use Rattle.ordering.specs.Numbers.{wholeBelow, MadeOrKept};
-use crate::digits::nearly_ordered;
-use crate::digits::sort_numbers;
-use crate::numbers::is_whole;
-use crate::numbers::note_places;
-use crate::numbers::offer;
-use operations::copy;
-use relations::limits::COLUMNS;
-use values::clearing::clear_from;
+ghost use Rattle.ordering.specs.Offering as spec;
+use crate::ascending::ascends;
+use crate::ascending::copy_ascending;
+use crate::taking::take_rows;
+use operations::columns::NO_WORDS;
+use sorting::columns::Picks;
+use sorting::columns::wide;
 use values::placing::Placed;
 use values::rows::Value;
 
-// Fewer rows are placed as they come; so are more than a half word counts.
-const LEAST: usize = 256;
-
-const MOST: usize = 65535;
-
-// The numbers of the stored rows are sorted at the work area's end; whether each is there.
-fn sort_behind(tables: &[u32], work: &mut [u32], stored: Value, numbers: usize) -> bool
-    requires { ⌜ (end stored ≤ length (now tables)) × (0 < stored .rows) × (stored .rows < 65536) × (stored .width ≤ columnLimit) × (numbers + stored .rows ≡ length (now work)) ⌝ }
-    ensures { λ r. ⌜ (take numbers (now (work .exit)) ≡ take numbers (now (work .entry))) × (r ≡ wholeBelow (drop numbers (now (work .exit))) (stored .rows)) ⌝ }
-{
-    sort_numbers(tables, stored, &mut work[numbers..]);
-    note_places(&mut work[numbers..]);
-    is_whole(&work[numbers..])
-}
-
-// The value of the stored rows from `out` on. Each number takes one word of the work area's end; without room for that, or for fewer rows than it is
-// worth, everything is as it was.
-pub fn load_sorted(tables: &[u32], work: &mut [u32], stored: Value, out: usize) -> Placed
-    requires { ⌜ (0 < stored .width) × (end stored ≤ length (now tables)) × (out ≤ length (now work)) × Blank out (now work) ⌝ }
-    ensures { λ r. ⌜ MadeOrKept (stored .width) out (rowsOf stored (now (tables .entry))) (now (work .entry)) (now (work .exit)) r ⌝ }
-{
-    let rows = stored.rows;
-    let width = stored.width;
-    if rows < LEAST {
-        return Placed::Full;
-    }
-    if MOST < rows {
-        return Placed::Full;
-    }
-    if COLUMNS < width {
-        return Placed::Full;
-    }
-    if work.len() - out < rows {
-        return Placed::Full;
-    }
-    let numbers = work.len() - rows;
-    if !sort_behind(tables, work, stored, numbers) {
-        clear_from(work, out);
-        return Placed::Full;
-    }
-    match offer(tables, work, stored, numbers, out) {
-        Placed::Rows(made) => {
-            clear_from(work, out + made * width);
-            Placed::Rows(made)
-        }
-        Placed::Full => {
-            clear_from(work, out);
-            Placed::Full
-        }
-    }
-}
-
-// Operation 1: the stored rows, each once. Rows that stand in order from either end, or nearly so, are placed as they come.
+// Operation 1: all columns of the stored rows.
 pub fn load(tables: &[u32], work: &mut [u32], stored: Value, out: usize) -> Placed
     requires { ⌜ (0 < stored .width) × (end stored ≤ length (now tables)) × (out ≤ length (now work)) × Blank out (now work) ⌝ }
     ensures { λ r. ⌜ Makes (stored .width) out (loadCandidates (rowsOf stored (now (tables .entry)))) (now (work .entry)) (now (work .exit)) r ⌝ }
 {
-    if nearly_ordered(tables, stored, false) {
-        return copy::load(tables, work, stored, out);
+    if ascends(tables, stored) {
+        return copy_ascending(tables, work, stored, out);
     }
-    if nearly_ordered(tables, stored, true) {
-        return copy::load(tables, work, stored, out);
+    let picks = Picks {
+        leading: true,
+        count: stored.width,
+    };
+    take_rows(tables, &NO_WORDS, picks, work, false, stored, out)
+}
+
+// Whether the list names the first columns of rows of that width, in their order.
+fn leads(list: &[u32], count: usize, width: usize) -> bool
+    requires { ⌜ count ≤ length (now list) ⌝ }
+    ensures { λ r. ⌜ r ≡ spec.leads count width (now (list .entry)) ⌝ }
+{
+    if width < count {
+        return false;
     }
-    match load_sorted(tables, work, stored, out) {
-        Placed::Rows(made) => Placed::Rows(made),
-        Placed::Full => copy::load(tables, work, stored, out),
+    let mut left = count;
+    while 0 < left {
+        let number = wide(list[left - 1]);
+        if number != left {
+            return false;
+        }
+        left -= 1;
     }
+    true
+}
+
+// Operation 2: the listed columns of the rows of a value.
+pub fn project(list: &[u32], count: usize, work: &mut [u32], left: Value, out: usize) -> Placed
+    requires { ⌜ (0 < count) × (count ≤ columnLimit) × (count ≤ length (now list)) × (end left ≤ out) × (out ≤ length (now work)) × Blank out (now work) ⌝ }
+    ensures { λ r. ⌜ Makes count out (projectCandidates (map meaning.attribute (take count (now (list .entry)))) (rowsOf left (now (work .entry)))) (now (work .entry)) (now (work .exit)) r ⌝ }
+{
+    let leading = leads(list, count, left.width);
+    let picks = Picks { leading, count };
+    take_rows(&NO_WORDS, list, picks, work, true, left, out)
 }

@@ -1,23 +1,27 @@
 -- The wanted left rows by their keys: the keys stand from `out` on, the rows behind them, and then they are moved down. Assumes nothing.
 use mathlib.Core.Path.{_≡_, sym, ap, ap₂, _∙_}
-use mathlib.Core.Bool.{Bool}
-use mathlib.Core.List.{List, map}
+use mathlib.Core.Bool.{Bool, true, false, cond}
+use mathlib.Core.List.{List, [], map}
 use Prim.Native.Nat.{ℕ, _+_, _-_, _*_, _≤_}
 use native.Mathlib.Omega.{arith}
 use lib.ListN.{length, replicate}
 use lib.Seq.{sets}
+use lib.Dec.{leb}
+use borrow.Author.Tests.{le-leb}
 use Rattle.relations.specs.Values.{Rows, Ascending, member, canonical}
 use Rattle.relations.specs.Columns.{Triple, attribute}
 use Rattle.relations.specs.Operations.{projectCandidates}
 use Rattle.relations.proofs.ValueLaws.{ascending-canonical}
+use Rattle.relations.proofs.PlaceLaws.{placeRows-canonical}
 use Rattle.values.specs.Words.{part, rowsAt, rowsOf, end, wordsOf}
-use Rattle.values.specs.Building.{Builds, clearedFrom, Blank, Makes}
+use Rattle.values.specs.Building.{done, build, Builds, clearedFrom, Blank, Makes}
 use Rattle.values.specs.declared.rows.Value.{Value}
 use Rattle.values.specs.declared.placing.Placed.{Placed}
 use Rattle.values.specs.declared.placing.Placed.the-variants.{Rows as Made, Full}
-use Rattle.values.proofs.RowsLaws.{length-value}
+use Rattle.values.proofs.RowsLaws.{length-value, rowsAt-none}
+use Rattle.values.proofs.BuildLaws.{build-fits}
 use Rattle.values.proofs.FillLaws.{made-length, made-rows, made-fits, made-words, made-value}
-use Rattle.values.proofs.MakeLaws.{makes-as, builds-cleared, moved-makes}
+use Rattle.values.proofs.MakeLaws.{makes-as, makes-length, makes-count, makes-value, makes-fits, builds-cleared, moved-makes}
 use Rattle.semijoins.specs.Keys.{wantedRows, Tried}
 use Rattle.semijoins.proofs.KeyLaws.{wanted-canonical}
 
@@ -28,6 +32,32 @@ made-room {w} {out} {n} {cs} {before} {after} inside q g = made-fits inside (tol
     told : {p : Placed} → p ≡ Made n → Builds w out 0 cs before after p → Builds w out 0 cs before after (Made n)
     told e h = rw e at h
 
+-- keys that were made stand as if each had been placed in turn
+pub keys-built : {w out n : ℕ} {cs : Rows} {before after : List ℕ} {p : Placed} → out ≤ length before → Blank out before → p ≡ Made n → Makes w out cs before after p → Builds w out 0 cs before after p
+keys-built {w} {out} {n} {cs} {before} {after} {p} inside blank q m =
+    let m′ : Makes w out cs before after (Made n) = rw q at m in
+    let value : rowsAt w n out after ≡ canonical cs = makes-value inside blank m′ in
+    let size : length (wordsOf (canonical cs)) ≡ n * w = ap (λ (rows : Rows). length (wordsOf rows)) (sym value) ∙ length-value w n out after (makes-fits inside blank m′) in
+    let fits : length (wordsOf (canonical cs)) ≤ length before - out = omega (arith, size, makes-fits inside blank m′, makes-length inside blank m′) in
+    let room : leb (length (wordsOf (canonical cs))) (length before - out) ≡ true = le-leb _ _ fits in
+    let b : build (length before - out) cs (rowsAt w 0 out before) ≡ done (canonical cs) =
+    ap (build (length before - out) cs) (rowsAt-none w out before) ∙ build-fits (length before - out) cs [] (rw (placeRows-canonical cs) fits) ∙ ap done (placeRows-canonical cs) in
+    let g : Builds w out 0 cs before after (Made n) = record {
+      answers = rw b (ap Made (makes-count inside blank m′));
+      words = rw b ((rw room at (m′ .words)) ∙ ap (λ (l : List ℕ). sets l out (wordsOf (canonical cs))) (sym blank));
+      wide = rw b (rw room at (m′ .wide));
+    } in
+    rw q g
+
+-- keys without room leave all as it was
+pub keys-none : {w out : ℕ} {cs : Rows} {before after : List ℕ} → Blank out before → Makes w out cs before after Full → after ≡ before
+unfolding wordsOf
+keys-none {w} {out} {cs} {before} {after} blank m = go (leb (length (wordsOf (canonical cs))) (length before - out)) (m .answers) (m .words)
+  where
+    go : (b : Bool) → Full ≡ cond b (Made (length (canonical cs))) Full → after ≡ sets (clearedFrom out before) out (wordsOf (cond b (canonical cs) [])) → after ≡ before
+    go true e f = let y : _≡_ {A = ℕ} 0 1 = cc in absurd (omega arith)
+    go false e f = f ∙ sym blank
+
 -- the keys
 pub keys-made : {count out keys : ℕ} {columns numbers : List ℕ} (right : Rows) {before after : List ℕ} {p : Placed} → out ≤ length before → columns ≡ numbers → p ≡ Made keys → Builds count out 0 (projectCandidates (map attribute columns) right) before after p
     → (rowsAt count keys out after ≡ canonical (projectCandidates (map attribute numbers) right)) × Ascending (rowsAt count keys out after)
@@ -37,11 +67,7 @@ keys-made {count} {out} {keys} {columns} {numbers} right {before} {after} inside
     (v, rw v (ascending-canonical (projectCandidates (map attribute numbers) right)))
 
 module _ {count out : ℕ} {cs : Rows} {l₀ l₁ after : List ℕ} {p : Placed} (blank : Blank out l₀) (g : Builds count out 0 cs l₀ l₁ p) where
-  -- no room for the keys
-  pub tried-none : after ≡ clearedFrom out l₁ → after ≡ l₀
-  tried-none clear = clear ∙ builds-cleared out (omega arith) g ∙ sym blank
-
-  -- none for the rows behind them
+  -- no room for the rows behind the keys
   pub tried-short : {behind z : ℕ} {es : Rows} {l₂ : List ℕ} {q : Placed} → out ≤ behind → Builds z behind 0 es l₁ l₂ q → after ≡ clearedFrom out l₂ → after ≡ l₀
   tried-short low k clear = clear ∙ builds-cleared out low k ∙ builds-cleared out (omega arith) g ∙ sym blank
 

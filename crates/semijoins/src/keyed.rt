@@ -14,7 +14,7 @@ ghost use Rattle.operations.specs.Lists.{triplesIn};
 ghost use Rattle.semijoins.specs.Keys.{renumbers, wantedRows, Tried};
 use crate::wanted::keep_by_rows;
 use operations::columns::column_of;
-use operations::project::project;
+use ordering::sorted::project;
 use relations::limits::ATTRIBUTES;
 use relations::limits::COLUMNS;
 use terms::attribute::Attribute;
@@ -193,10 +193,7 @@ fn keep_by_key(
                 }
             }
         }
-        Placed::Full => {
-            clear_from(work, out);
-            Placed::Full
-        }
+        Placed::Full => Placed::Full,
     }
 }
 

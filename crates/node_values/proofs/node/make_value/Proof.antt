@@ -30,7 +30,7 @@ use Rattle.semijoins.proofs.keyed.antijoin.Reads as antijoin-reads
 use Rattle.operations.proofs.keep.intersect.Reads as intersect-reads
 use Rattle.semijoins.proofs.keyed.semijoin.Reads as semijoin-reads
 use Rattle.operations.proofs.keep.subtract.Reads as subtract-reads
-use Rattle.operations.proofs.project.project.Reads as project-reads
+use Rattle.ordering.proofs.sorted.project.Reads as project-reads
 use Rattle.values.proofs.clearing.finish.Reads as finish-reads
 use Rattle.node_values.proofs.node.load_relation.Reads as load-relation-reads
 use Rattle.node_values.proofs.node.select_by_attribute.Reads as select-by-attribute-reads
@@ -39,10 +39,10 @@ use Rattle.node_values.proofs.node.value_at.Reads as value-at-reads
 
 -- the place where both sides are read
 abbrev Sides : Type 0
-Sides = lts.After-value-at2 (value-at-reads.Asked, value-at-reads.Learnt, load-relation-reads.Asked, load-relation-reads.Learnt, project-reads.Asked, project-reads.Learnt, finish-reads.Asked, finish-reads.Learnt, select-by-constant-reads.Asked, select-by-constant-reads.Learnt, select-by-attribute-reads.Asked, select-by-attribute-reads.Learnt, join-reads.Asked, join-reads.Learnt, semijoin-reads.Asked, semijoin-reads.Learnt, antijoin-reads.Asked, antijoin-reads.Learnt, divide-reads.Asked, divide-reads.Learnt, unite-reads.Asked, unite-reads.Learnt, intersect-reads.Asked, intersect-reads.Learnt, subtract-reads.Asked, subtract-reads.Learnt) reads.Pre reads.Post
+Sides = lts.After-value-at2 (value-at-reads.Asked, value-at-reads.Learnt, load-relation-reads.Asked, load-relation-reads.Learnt, project-reads.Asked, project-reads.Learnt, select-by-constant-reads.Asked, select-by-constant-reads.Learnt, finish-reads.Asked, finish-reads.Learnt, select-by-attribute-reads.Asked, select-by-attribute-reads.Learnt, join-reads.Asked, join-reads.Learnt, semijoin-reads.Asked, semijoin-reads.Learnt, antijoin-reads.Asked, antijoin-reads.Learnt, divide-reads.Asked, divide-reads.Learnt, unite-reads.Asked, unite-reads.Learnt, intersect-reads.Asked, intersect-reads.Learnt, subtract-reads.Asked, subtract-reads.Learnt) reads.Pre reads.Post
 
 module _ (v : Sides) where
-  abbrev start : lts.Start (value-at-reads.Asked, value-at-reads.Learnt, load-relation-reads.Asked, load-relation-reads.Learnt, project-reads.Asked, project-reads.Learnt, finish-reads.Asked, finish-reads.Learnt, select-by-constant-reads.Asked, select-by-constant-reads.Learnt, select-by-attribute-reads.Asked, select-by-attribute-reads.Learnt, join-reads.Asked, join-reads.Learnt, semijoin-reads.Asked, semijoin-reads.Learnt, antijoin-reads.Asked, antijoin-reads.Learnt, divide-reads.Asked, divide-reads.Learnt, unite-reads.Asked, unite-reads.Learnt, intersect-reads.Asked, intersect-reads.Learnt, subtract-reads.Asked, subtract-reads.Learnt) reads.Pre reads.Post
+  abbrev start : lts.Start (value-at-reads.Asked, value-at-reads.Learnt, load-relation-reads.Asked, load-relation-reads.Learnt, project-reads.Asked, project-reads.Learnt, select-by-constant-reads.Asked, select-by-constant-reads.Learnt, finish-reads.Asked, finish-reads.Learnt, select-by-attribute-reads.Asked, select-by-attribute-reads.Learnt, join-reads.Asked, join-reads.Learnt, semijoin-reads.Asked, semijoin-reads.Learnt, antijoin-reads.Asked, antijoin-reads.Learnt, divide-reads.Asked, divide-reads.Learnt, unite-reads.Asked, unite-reads.Learnt, intersect-reads.Asked, intersect-reads.Learnt, subtract-reads.Asked, subtract-reads.Learnt) reads.Pre reads.Post
   start = v .before .before .before .before .before .before .before .before .before .before
 
   abbrev words : List ℕ
@@ -125,10 +125,7 @@ enum-told-2 c = search needs
 
 -- src/node.rt:106:31
 project-requires : tie.Need-project-requires
-project-requires c κs = let v = c .before .before .before in let a = asked v Project (c .before .enum-told2 .given .1) in (a .1, a .2, a .3, a .0 .2, inside v)
-
-finish-requires : tie.Need-finish-requires
-finish-requires c κs = omega (arith, inside (c .before .before .before .before .before .before .before), c .before .before .before .project .kept)
+project-requires c κs = let v = c .before .before .before in let a = asked v Project (c .before .enum-told2 .given .1) in (a .1, a .2, a .3, a .0 .2, inside v, blank v)
 
 -- src/node.rt:107:63
 enum-told-3 : tie.Need-enum-told-3
@@ -138,8 +135,8 @@ enum-told-3 c = search needs
 select-by-constant-requires : tie.Need-select-by-constant-requires
 select-by-constant-requires c κs = let v = c .before .before .before in let a = asked v SelectConstant (c .before .enum-told3 .given .1) in (omega (arith, list-long v), a .0, a .2, inside v)
 
-finish-requires-2 : tie.Need-finish-requires-2
-finish-requires-2 c κs = omega (arith, inside (c .before .before .before .before .before .before .before), c .before .before .before .select-by-constant .kept)
+finish-requires : tie.Need-finish-requires
+finish-requires c κs = omega (arith, inside (c .before .before .before .before .before .before .before), c .before .before .before .select-by-constant .kept)
 
 -- src/node.rt:108:65
 enum-told-4 : tie.Need-enum-told-4
@@ -149,8 +146,8 @@ enum-told-4 c = search needs
 select-by-attribute-requires : tie.Need-select-by-attribute-requires
 select-by-attribute-requires c κs = let v = c .before .before .before in let a = asked v SelectAttribute (c .before .enum-told4 .given .1) in (omega (arith, list-long v), a .0, a .2, inside v)
 
-finish-requires-3 : tie.Need-finish-requires-3
-finish-requires-3 c κs = omega (arith, inside (c .before .before .before .before .before .before .before), c .before .before .before .select-by-attribute .kept)
+finish-requires-2 : tie.Need-finish-requires-2
+finish-requires-2 c κs = omega (arith, inside (c .before .before .before .before .before .before .before), c .before .before .before .select-by-attribute .kept)
 
 -- src/node.rt:109:46
 enum-told-5 : tie.Need-enum-told-5
@@ -160,8 +157,8 @@ enum-told-5 c = search needs
 join-requires : tie.Need-join-requires
 join-requires c κs = let v = c .before .before .before in let a = asked v Join (c .before .enum-told5 .given .1) in (a .2, a .0 .0, a .3, a .0 .2, a .1 .2, inside v, a .1 .3, a .4)
 
-finish-requires-4 : tie.Need-finish-requires-4
-finish-requires-4 c κs = omega (arith, inside (c .before .before .before .before .before .before .before), c .before .before .before .join .kept)
+finish-requires-3 : tie.Need-finish-requires-3
+finish-requires-3 c κs = omega (arith, inside (c .before .before .before .before .before .before .before), c .before .before .before .join .kept)
 
 -- src/node.rt:110:54
 enum-told-6 : tie.Need-enum-told-6
@@ -187,8 +184,8 @@ enum-told-8 c = search needs
 divide-requires : tie.Need-divide-requires
 divide-requires c κs = let v = c .before .before .before in let a = asked v Divide (c .before .enum-told8 .given .1) in ((a .2, a .3, a .0 .1, a .0 .2, a .1 .2, inside v, a .0 .3), (a .4, a .5))
 
-finish-requires-5 : tie.Need-finish-requires-5
-finish-requires-5 c κs = omega (arith, inside (c .before .before .before .before .before .before .before), c .before .before .before .divide .kept)
+finish-requires-4 : tie.Need-finish-requires-4
+finish-requires-4 c κs = omega (arith, inside (c .before .before .before .before .before .before .before), c .before .before .before .divide .kept)
 
 -- src/node.rt:113:35
 enum-told-9 : tie.Need-enum-told-9
@@ -206,8 +203,8 @@ enum-told-10 c = search needs
 intersect-requires : tie.Need-intersect-requires
 intersect-requires c κs = let v = c .before .before .before in let a = asked v Intersect (c .before .enum-told10 .given .1) in (a .0 .0, a .0 .2, inside v, a .1 .2, a .1 .3)
 
-finish-requires-6 : tie.Need-finish-requires-6
-finish-requires-6 c κs = omega (arith, inside (c .before .before .before .before .before .before .before), c .before .before .before .intersect .kept)
+finish-requires-5 : tie.Need-finish-requires-5
+finish-requires-5 c κs = omega (arith, inside (c .before .before .before .before .before .before .before), c .before .before .before .intersect .kept)
 
 -- src/node.rt:115:41
 enum-told-11 : tie.Need-enum-told-11
@@ -217,8 +214,8 @@ enum-told-11 c = search needs
 subtract-requires : tie.Need-subtract-requires
 subtract-requires c κs = let v = c .before .before .before in let a = asked v Subtract (c .before .enum-told11 .given .1) in (a .0 .0, a .0 .2, inside v, a .1 .2, a .1 .3)
 
-finish-requires-7 : tie.Need-finish-requires-7
-finish-requires-7 c κs = omega (arith, inside (c .before .before .before .before .before .before .before), c .before .before .before .subtract .kept)
+finish-requires-6 : tie.Need-finish-requires-6
+finish-requires-6 c κs = omega (arith, inside (c .before .before .before .before .before .before .before), c .before .before .before .subtract .kept)
 
 -- src/node.rt:95:1
 same-length : tie.Need-same-length
@@ -234,7 +231,7 @@ same-length-2 c = search needs
 
 -- src/node.rt:95:1
 returns-2 : tie.Need-returns-2
-returns-2 c = built (c .before .before .before .before .before .before .before .before .before .before) Project (c .before .before .before .before .before .before .before .before .enum-told2 .given .1) (builds-makes (inside (c .before .before .before .before .before .before .before .before .before .before)) (blank (c .before .before .before .before .before .before .before .before .before .before)) (c .before .before .before .before .before .before .project .ensures) (c .before .before .finish .ensures))
+returns-2 c = built (c .before .before .before .before .before .before) Project (c .before .before .before .before .enum-told2 .given .1) (c .before .before .project .ensures)
 
 -- src/node.rt:95:1
 same-length-3 : tie.Need-same-length-3
@@ -242,7 +239,7 @@ same-length-3 c = search needs
 
 -- src/node.rt:95:1
 returns-3 : tie.Need-returns-3
-returns-3 c = built (c .before .before .before .before .before .before .before .before .before .before) SelectConstant (c .before .before .before .before .before .before .before .before .enum-told3 .given .1) (builds-makes (inside (c .before .before .before .before .before .before .before .before .before .before)) (blank (c .before .before .before .before .before .before .before .before .before .before)) (c .before .before .before .before .before .before .select-by-constant .ensures) (c .before .before .finish2 .ensures))
+returns-3 c = built (c .before .before .before .before .before .before .before .before .before .before) SelectConstant (c .before .before .before .before .before .before .before .before .enum-told3 .given .1) (builds-makes (inside (c .before .before .before .before .before .before .before .before .before .before)) (blank (c .before .before .before .before .before .before .before .before .before .before)) (c .before .before .before .before .before .before .select-by-constant .ensures) (c .before .before .finish .ensures))
 
 -- src/node.rt:95:1
 same-length-4 : tie.Need-same-length-4
@@ -250,7 +247,7 @@ same-length-4 c = search needs
 
 -- src/node.rt:95:1
 returns-4 : tie.Need-returns-4
-returns-4 c = built (c .before .before .before .before .before .before .before .before .before .before) SelectAttribute (c .before .before .before .before .before .before .before .before .enum-told4 .given .1) (builds-makes (inside (c .before .before .before .before .before .before .before .before .before .before)) (blank (c .before .before .before .before .before .before .before .before .before .before)) (c .before .before .before .before .before .before .select-by-attribute .ensures) (c .before .before .finish3 .ensures))
+returns-4 c = built (c .before .before .before .before .before .before .before .before .before .before) SelectAttribute (c .before .before .before .before .before .before .before .before .enum-told4 .given .1) (builds-makes (inside (c .before .before .before .before .before .before .before .before .before .before)) (blank (c .before .before .before .before .before .before .before .before .before .before)) (c .before .before .before .before .before .before .select-by-attribute .ensures) (c .before .before .finish2 .ensures))
 
 -- src/node.rt:95:1
 same-length-5 : tie.Need-same-length-5
@@ -258,7 +255,7 @@ same-length-5 c = search needs
 
 -- src/node.rt:95:1
 returns-5 : tie.Need-returns-5
-returns-5 c = built (c .before .before .before .before .before .before .before .before .before .before) Join (c .before .before .before .before .before .before .before .before .enum-told5 .given .1) (builds-makes (inside (c .before .before .before .before .before .before .before .before .before .before)) (blank (c .before .before .before .before .before .before .before .before .before .before)) (c .before .before .before .before .before .before .join .ensures) (c .before .before .finish4 .ensures))
+returns-5 c = built (c .before .before .before .before .before .before .before .before .before .before) Join (c .before .before .before .before .before .before .before .before .enum-told5 .given .1) (builds-makes (inside (c .before .before .before .before .before .before .before .before .before .before)) (blank (c .before .before .before .before .before .before .before .before .before .before)) (c .before .before .before .before .before .before .join .ensures) (c .before .before .finish3 .ensures))
 
 -- src/node.rt:95:1
 same-length-6 : tie.Need-same-length-6
@@ -282,7 +279,7 @@ same-length-8 c = search needs
 
 -- src/node.rt:95:1
 returns-8 : tie.Need-returns-8
-returns-8 c = built (c .before .before .before .before .before .before .before .before .before .before) Divide (c .before .before .before .before .before .before .before .before .enum-told8 .given .1) (builds-makes (inside (c .before .before .before .before .before .before .before .before .before .before)) (blank (c .before .before .before .before .before .before .before .before .before .before)) (c .before .before .before .before .before .before .divide .ensures) (c .before .before .finish5 .ensures))
+returns-8 c = built (c .before .before .before .before .before .before .before .before .before .before) Divide (c .before .before .before .before .before .before .before .before .enum-told8 .given .1) (builds-makes (inside (c .before .before .before .before .before .before .before .before .before .before)) (blank (c .before .before .before .before .before .before .before .before .before .before)) (c .before .before .before .before .before .before .divide .ensures) (c .before .before .finish4 .ensures))
 
 -- src/node.rt:95:1
 same-length-9 : tie.Need-same-length-9
@@ -298,7 +295,7 @@ same-length-10 c = search needs
 
 -- src/node.rt:95:1
 returns-10 : tie.Need-returns-10
-returns-10 c = built (c .before .before .before .before .before .before .before .before .before .before) Intersect (c .before .before .before .before .before .before .before .before .enum-told10 .given .1) (builds-makes (inside (c .before .before .before .before .before .before .before .before .before .before)) (blank (c .before .before .before .before .before .before .before .before .before .before)) (c .before .before .before .before .before .before .intersect .ensures) (c .before .before .finish6 .ensures))
+returns-10 c = built (c .before .before .before .before .before .before .before .before .before .before) Intersect (c .before .before .before .before .before .before .before .before .enum-told10 .given .1) (builds-makes (inside (c .before .before .before .before .before .before .before .before .before .before)) (blank (c .before .before .before .before .before .before .before .before .before .before)) (c .before .before .before .before .before .before .intersect .ensures) (c .before .before .finish5 .ensures))
 
 -- src/node.rt:95:1
 same-length-11 : tie.Need-same-length-11
@@ -306,7 +303,7 @@ same-length-11 c = search needs
 
 -- src/node.rt:95:1
 returns-11 : tie.Need-returns-11
-returns-11 c = built (c .before .before .before .before .before .before .before .before .before .before) Subtract (c .before .before .before .before .before .before .before .before .enum-told11 .given .1) (builds-makes (inside (c .before .before .before .before .before .before .before .before .before .before)) (blank (c .before .before .before .before .before .before .before .before .before .before)) (c .before .before .before .before .before .before .subtract .ensures) (c .before .before .finish7 .ensures))
+returns-11 c = built (c .before .before .before .before .before .before .before .before .before .before) Subtract (c .before .before .before .before .before .before .before .before .enum-told11 .given .1) (builds-makes (inside (c .before .before .before .before .before .before .before .before .before .before)) (blank (c .before .before .before .before .before .before .before .before .before .before)) (c .before .before .before .before .before .before .subtract .ensures) (c .before .before .finish6 .ensures))
 
 pub make-value-spec : {M : Type 1} → statement M
 make-value-spec =
@@ -321,31 +318,30 @@ make-value-spec =
     load-relation-requires
     enum-told-2
     project-requires
-    finish-requires
     enum-told-3
     select-by-constant-requires
-    finish-requires-2
+    finish-requires
     enum-told-4
     select-by-attribute-requires
-    finish-requires-3
+    finish-requires-2
     enum-told-5
     join-requires
-    finish-requires-4
+    finish-requires-3
     enum-told-6
     semijoin-requires
     enum-told-7
     antijoin-requires
     enum-told-8
     divide-requires
-    finish-requires-5
+    finish-requires-4
     enum-told-9
     unite-requires
     enum-told-10
     intersect-requires
-    finish-requires-6
+    finish-requires-5
     enum-told-11
     subtract-requires
-    finish-requires-7
+    finish-requires-6
     same-length
     returns
     same-length-2

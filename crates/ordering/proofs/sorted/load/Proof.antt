@@ -1,94 +1,56 @@
+use mathlib.Core.Path.{_≡_, sym, _∙_}
+use mathlib.Core.List.{List, map}
+use lib.ListN.{length, take}
+use Rattle.values.specs.Words.{rowsOf}
+use Rattle.values.specs.Building.{Makes}
+use Rattle.values.proofs.RowsLaws.{rowsAt-wide}
+use Rattle.ordering.proofs.OfferLaws.{all-columns}
+use Rattle.ordering.proofs.AscendLaws.{ascends-rows}
 use native.Mathlib.Omega.{arith}
 use borrow.Author.Needs.{needs}
 use Rattle.ordering.proofs.sorted.load.Statement.{statement}
 use Rattle.ordering.proofs.sorted.load.Tie as tie
 use Rattle.ordering.proofs.sorted.load.Reads as reads
 use Rattle.ordering.proofs.sorted.load.Lts as lts
-use Rattle.operations.proofs.copy.load.Reads as load-reads
-use Rattle.ordering.proofs.digits.nearly_ordered.Reads as nearly-ordered-reads
-use Rattle.ordering.proofs.sorted.load_sorted.Reads as load-sorted-reads
+use Rattle.ordering.proofs.ascending.ascends.Reads as ascends-reads
+use Rattle.ordering.proofs.ascending.copy_ascending.Reads as copy-ascending-reads
+use Rattle.ordering.proofs.taking.take_rows.Reads as take-rows-reads
 
--- src/sorted.rt:68:8
-nearly-ordered-requires : tie.Need-nearly-ordered-requires
-nearly-ordered-requires c κs = search needs
+ascends-requires : tie.Need-ascends-requires
+ascends-requires c κs = search needs
 
--- src/sorted.rt:69:9
-load-requires : tie.Need-load-requires
-load-requires c κs = search needs
+copy-ascending-requires : tie.Need-copy-ascending-requires
+copy-ascending-requires c κs = let s = c .before .before .before .before .before in let p = s .pre in (ascends-rows (s .args .stored) (s .args .tables .now) (p .1) (sym (c .before .before .ascends .ensures) ∙ c .before .if1 .taken), p .1, p .2, p .3)
 
--- src/sorted.rt:69:9
 same-length : tie.Need-same-length
 same-length c = search needs
 
--- src/sorted.rt:69:9
 returns : tie.Need-returns
-returns c = search needs
+returns c = c .before .before .copy-ascending .ensures
 
--- src/sorted.rt:71:8
-nearly-ordered-requires-2 : tie.Need-nearly-ordered-requires-2
-nearly-ordered-requires-2 c κs = search needs
+slice-aggregate-take-rows : tie.Need-slice-aggregate-take-rows
+slice-aggregate-take-rows c = search needs
 
--- src/sorted.rt:72:9
-load-requires-2 : tie.Need-load-requires-2
-load-requires-2 c κs = search needs
+take-rows-requires : tie.Need-take-rows-requires
+take-rows-requires c κs = let p = c .before .before .before .before .before .before .pre in ((p .0, omega arith), p .1, p .2, p .3)
 
--- src/sorted.rt:72:9
 same-length-2 : tie.Need-same-length-2
 same-length-2 c = search needs
 
--- src/sorted.rt:72:9
 returns-2 : tie.Need-returns-2
-returns-2 c = search needs
-
--- src/sorted.rt:74:11
-load-sorted-requires : tie.Need-load-sorted-requires
-load-sorted-requires c κs = search needs
-
--- src/sorted.rt:75:22
-enum-known-made : tie.Need-enum-known-made
-enum-known-made c = search needs
-
--- src/sorted.rt:76:44
-enum-told : tie.Need-enum-told
-enum-told c = search needs
-
--- src/sorted.rt:76:25
-load-requires-3 : tie.Need-load-requires-3
-load-requires-3 c κs = let p = c .before .before .before .before .before .before .before .before .before .before .before .before .before .pre in let e = rw (c .before .enum-told .given .1) at (c .before .before .before .before .before .load-sorted .ensures) in (p .0, p .1, rw e (p .2), rw e (p .3))
-
--- src/sorted.rt:64:1
-same-length-3 : tie.Need-same-length-3
-same-length-3 c = search needs
-
--- src/sorted.rt:64:1
-returns-3 : tie.Need-returns-3
-returns-3 c = rw (c .before .made .given .1) at (c .before .before .before .before .before .load-sorted .ensures)
-
--- src/sorted.rt:64:1
-same-length-4 : tie.Need-same-length-4
-same-length-4 c = search needs
-
--- src/sorted.rt:64:1
-returns-4 : tie.Need-returns-4
-returns-4 c = rw (rw (c .before .before .before .before .enum-told .given .1) at (c .before .before .before .before .before .before .before .before .load-sorted .ensures)) at (c .before .before .load3 .ensures)
+returns-2 c = let s = c .before .before .before .before .before .before .before .before .before in let v = s .args .stored in let t = s .args .tables .now in
+    let m : Makes (v .width) (s .args .out) (map (λ row. take (v .width) row) (rowsOf v t)) (s .args .work .now) (c .before .before .take-rows .last .1 .1 .1 .0) (c .before .before .take-rows .result) = c .before .before .take-rows .ensures in
+    rw (all-columns (v .width) (rowsOf v t) (rowsAt-wide (v .width) (v .rows) (v .base) t (s .pre .1))) at m
 
 pub load-spec : {M : Type 1} → statement M
 load-spec =
     tie.close
     (tie.spec
-    nearly-ordered-requires
-    load-requires
+    ascends-requires
+    copy-ascending-requires
     same-length
     returns
-    nearly-ordered-requires-2
-    load-requires-2
+    slice-aggregate-take-rows
+    take-rows-requires
     same-length-2
-    returns-2
-    load-sorted-requires
-    enum-known-made
-    enum-told
-    load-requires-3
-    same-length-3
-    returns-3
-    same-length-4
-    returns-4)
+    returns-2)
