@@ -5,7 +5,7 @@ use mathlib.Core.Bool.{cond}
 use lib.Dec.{eqb}
 use borrow.Author.Tests.{eq-eqb, ne-eqb}
 use Rattle.relations.specs.Columns.{attribute}
-use Rattle.relations.specs.Comparison.{Operator, equal, notEqual, less, atMost, greater, atLeast, operatorNumber, operatorFor, operatorNamed}
+use Rattle.relations.specs.Comparison.{Operator, equal, notEqual, less, atMost, greater, atLeast, operatorNumber, operatorNamed}
 use Rattle.terms.proofs.NumberLaws.{named-back}
 use Rattle.calculus.specs.Question.{compare}
 use Rattle.calculus.specs.Question as calculus

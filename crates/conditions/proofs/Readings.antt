@@ -5,6 +5,7 @@ use mathlib.Core.Bool.{Bool, true, false, _&&_}
 use mathlib.Core.List.{List, []}
 use native.Mathlib.Omega.{arith}
 use lib.Dec.{ltb}
+use borrow.Author.Tests.{ltb-true}
 use Rattle.relations.proofs.BoolLaws.{and-left, and-right}
 use Rattle.calculus.specs.Question as calculus
 use Rattle.relations.specs.Limits.{variableCount}
@@ -13,8 +14,8 @@ use Rattle.nodes.specs.Nodes.{kindNamed, nodeAt}
 use Rattle.nodes.specs.References.{references}
 use Rattle.question.specs.Trees.{Reading, blank, reading, readingOf, treeOf}
 use Rattle.nodes.specs.declared.node.Node.{Node}
-use Rattle.nodes.specs.declared.node.Node.the-variants.{And, Or, Not, Some, Every}
-use Rattle.nodes.proofs.Forms.{fits, node-fits, lower, second-of, third-of}
+use Rattle.nodes.specs.declared.node.Node.the-variants.{Binding, And, Or, Not, Some, Every}
+use Rattle.nodes.proofs.Forms.{fits, node-fits, lower, first-of, second-of, third-of}
 use Rattle.question.proofs.TreeLaws.{tree-of-reference, tree-of-none}
 use Rattle.conditions.specs.Readings.{Names, readingAt, targetsAt, rangeAt, bindingsAt, restrictionAt, conditionAt}
 
@@ -79,6 +80,9 @@ module _ (words : List ℕ) {reference : ℕ} (e : reference ≡ 0) where
 abbrev pub Below : ℕ → ℕ → Type 0
 Below reference part = (1 ≤ part) × (part ≤ reference - 1)
 
+bound-variable : (variable : ℕ) (b c : Bool) → (ltb variable variableCount && b && c) ≡ true → variable < variableCount
+bound-variable variable b c f = ltb-true variable variableCount (first-of (ltb variable variableCount) b c f)
+
 module _ (words : List ℕ) (reference : ℕ) where
   abbrev pub Part : ℕ → Type 0
   Part part = Names words part × (part < reference)
@@ -96,6 +100,15 @@ module _ (words : List ℕ) (reference : ℕ) where
         let r : Bool = isRange (kindNamed words (reference - 1) range) in
         let k : Bool = isCondition (kindNamed words (reference - 1) condition) in
         (part-below (lower words (reference - 1) range isRange refl (second-of v r k f)), part-below (lower words (reference - 1) condition isCondition refl (third-of v r k f)))
+
+    pub some-variable : {variable range condition : ℕ} → Some variable range condition ≡ nodeAt words (reference - 1) → variable < variableCount
+    some-variable {variable} {range} {condition} e = bound-variable variable _ _ (fits-in words (reference - 1) e)
+
+    pub every-variable : {variable range condition : ℕ} → Every variable range condition ≡ nodeAt words (reference - 1) → variable < variableCount
+    every-variable {variable} {range} {condition} e = bound-variable variable _ _ (fits-in words (reference - 1) e)
+
+    pub binding-variable : {variable range next : ℕ} → Binding variable range next ≡ nodeAt words (reference - 1) → variable < variableCount
+    binding-variable {variable} {range} {next} e = bound-variable variable _ _ (fits-in words (reference - 1) e)
 
     pub and-parts : {left right : ℕ} → And left right ≡ nodeAt words (reference - 1) → Part left × Part right
     and-parts {left} {right} e = two-parts left right (fits-in words (reference - 1) e)

@@ -1,21 +1,38 @@
 -- The scope in an array, one variable longer, and its first variable. Assumes nothing.
-use Prim.Native.Nat.{ℕ, _+_, _*_, _-_, _≤_, _<_}
+use Prim.Native.Nat.{ℕ, zero, suc, _+_, _*_, _-_, _≤_, _<_}
 use mathlib.Core.Path.{_≡_, refl, sym, ap, ap₂, _∙_}
 use mathlib.Core.List.{List, [], _∷_, _++_}
 use native.Mathlib.Omega.{arith}
 use native.Mathlib.Nat.{zero-add}
 use native.Mathlib.Numerals.{add-one}
-use lib.ListN.{length, getD, set, length-set, length-replicate}
+use lib.ListN.{length, getD, set, replicate, length-set, length-replicate}
 use lib.Seq.{getD-set-same, getD-set-other}
 use borrow.Author.Tests.{eq-eqb, ne-eqb}
-use Rattle.relations.specs.Limits.{columnLimit}
+use Rattle.relations.specs.Limits.{columnLimit, variableCount}
 use Rattle.calculus.specs.Scope.{entry, columnsIn, widthIn, columnNumber}
 use Rattle.calculus.proofs.ScopeLaws.{columns-extend}
 use Rattle.conditions.specs.Entries.{entries}
-use Rattle.conditions.specs.Scopes.{scopeWords, variablesCarried, columnsCarried, noVariables, entryAt, scopeOf, ScopeFits, withVariable, Extended}
+use Rattle.conditions.specs.Scopes.{scopeBytes, variablesCarried, columnsCarried, noVariables, entryAt, scopeOf, ScopeFits, withVariable, Extended}
 use Rattle.conditions.proofs.EntryLaws.{entries-step, entries-last, entries-same}
 
-module _ (scope : List ℕ) (v w : ℕ) (fits : ScopeFits scope) (some : 1 ≤ w) (few : columnsIn (scopeOf scope) + w ≤ columnLimit) where
+-- every byte is that small
+
+abbrev Small : List ℕ → Type 0
+Small l = (i : ℕ) → getD l i 0 < columnLimit + variableCount
+
+small-set : (l : List ℕ) (i a : ℕ) → a < columnLimit + variableCount → Small l → Small (set l i a)
+small-set [] i a b h j = h j
+small-set (x ∷ l) zero a b h zero = b
+small-set (x ∷ l) zero a b h (suc j) = h (suc j)
+small-set (x ∷ l) (suc i) a b h zero = h zero
+small-set (x ∷ l) (suc i) a b h (suc j) = small-set l i a b (λ k. h (suc k)) j
+
+small-zeros : (n : ℕ) → Small (replicate n 0)
+small-zeros zero j = omega arith
+small-zeros (suc n) zero = omega arith
+small-zeros (suc n) (suc j) = small-zeros n j
+
+module _ (scope : List ℕ) (v w : ℕ) (variable : v < variableCount) (fits : ScopeFits scope) (some : 1 ≤ w) (few : columnsIn (scopeOf scope) + w ≤ columnLimit) where
   abbrev count : ℕ
   count = variablesCarried scope
 
@@ -71,6 +88,8 @@ module _ (scope : List ℕ) (v w : ℕ) (fits : ScopeFits scope) (some : 1 ≤ w
         fits =
             record {
               whole = simp length-set (fits .whole);
+              small =
+                  small-set counted 1 (columnsCarried scope + w) (omega (arith, fits .counted)) (small-set named 0 (count + 1) (omega (arith, fits .few, fits .counted)) (small-set (set scope at v) (at + 1) w (omega arith) (small-set scope at v (omega arith) (fits .small))));
               counted = omega (arith, wider, fits .counted, ap columnsIn stands, columns-extend (scopeOf scope) v w);
               few = omega (arith, one-more, wider, fits .few);
               narrow = omega (arith, wider, fits .counted);
@@ -105,4 +124,4 @@ module _ (scope : List ℕ) (v i left : ℕ) (h : 0 < left) where
   columns-here = ap columnsIn first
 
 pub empty-fits : ScopeFits noVariables
-empty-fits = record { whole = length-replicate {A = ℕ} scopeWords 0; counted = refl; few = omega arith; narrow = omega arith }
+empty-fits = record { whole = length-replicate {A = ℕ} scopeBytes 0; small = small-zeros scopeBytes; counted = refl; few = omega arith; narrow = omega arith }

@@ -1,5 +1,5 @@
 -- An atom's words are small enough to be written, and an operator's number is that of an operator. Assumes nothing.
-use Prim.Native.Nat.{ℕ, _≤_}
+use Prim.Native.Nat.{_≤_}
 use mathlib.Core.Path.{_≡_}
 use Rattle.relations.specs.Limits.{columnLimit}
 use Rattle.relations.specs.Comparison.{operatorNumber, operatorNamed}

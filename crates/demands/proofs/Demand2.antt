@@ -27,7 +27,7 @@ use Rattle.plans.specs.Judging.{planJudgement, planNumbers, nodesOfPlan}
 use Rattle.plans.specs.declared.judging.PlanJudgement.{PlanJudgement}
 use Rattle.plans.specs.declared.judging.PlanJudgement.the-variants.{Legal, Illegal}
 use Rattle.plans.proofs.PlanTheorem.{judged-exactly}
-use Rattle.translation.specs.TranslateCall.{planBufferWords, planOf, written, translateOutcome}
+use Rattle.translation.specs.TranslateCall.{planBufferWords, planOf, written}
 use Rattle.running.specs.RunCall.{cleared, answered, runOutcome}
 use Rattle.desk.specs.AnswerCall.{planIn, planRan, answerOutcome}
 use Rattle.desk.proofs.PlansLegal.{plan-legal}

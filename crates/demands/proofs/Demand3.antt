@@ -20,7 +20,7 @@ use Rattle.question.specs.declared.judgement.Judgement.the-variants.{Accepted}
 use Rattle.translation.specs.TranslateCall.{planBufferWords, isShort, planOf, written}
 use Rattle.running.specs.RunCall.{RunOutcome, capacityOf, cleared, Fit, fits, passesAt, fitWithin, answerRows, answerWidth, answered, ranOutcome}
 use Rattle.desk.specs.AnswerCall.{AnswerOutcome, planRan}
-use Rattle.demands.specs.Demands.{meaningRows, meaningWidth, Buffers, answerWith, HadRoom, LeavesRows, SameAnswer, Demand3}
+use Rattle.demands.specs.Demands.{meaningRows, meaningWidth, Buffers, answerWith, HadRoom, LeavesRows, Demand3}
 use Rattle.demands.proofs.PlansRight.{plans-right, meaning-wide}
 use Rattle.demands.proofs.AnswerLaws.{accepted-ran}
 

@@ -17,7 +17,7 @@ use Rattle.bundles.specs.RoundTrip.{wrote, BundleAsText}
 use Rattle.bundles.specs.FirstWrong.{RightText, FirstWrong}
 use Rattle.bundles.proofs.RoundTrip.{round-trip}
 use Rattle.bundles.proofs.FirstWrong.{place-is-first-wrong}
-use Rattle.demands.specs.Refusals.{outcomeBy, isWrong, placeWrong, wrongText, readLines, writeLines}
+use Rattle.demands.specs.Refusals.{outcomeBy, isWrong, placeWrong, readLines, writeLines}
 use Rattle.demands.specs.Demands.{WrongText, readBundle, ReadDemand, refusedWrite, WriteDemand}
 use Rattle.demands.proofs.LineLaws.{answered-exactly}
 

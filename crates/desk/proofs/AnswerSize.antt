@@ -1,6 +1,6 @@
 -- What a caller learns of an answer that is no refusal: it has a column at least, and its rows are no more words than the output has. So they can be
 -- lent and listed. Assumes nothing.
-use Prim.Native.Nat.{ℕ, _*_, _≤_, _<_}
+use Prim.Native.Nat.{ℕ, _*_, _≤_}
 use mathlib.Core.Path.{_≡_, refl, sym, ap, _∙_}
 use mathlib.Core.Bool.{Bool, true, false, cond, not, So}
 use mathlib.Core.List.{List, []}
@@ -25,7 +25,7 @@ use Rattle.plans.specs.declared.judging.PlanJudgement.the-variants.{Legal, Ille
 use Rattle.plans.proofs.PlanTheorem.{judged-exactly}
 use Rattle.translation.specs.TranslateCall.{TranslateOutcome, translateOutcome}
 use Rattle.running.specs.RunCall.{RunNumbers, RunOutcome, runOutcome, Fit, fits, passesAt, answerRows, answerWidth, lastPlace, fitWithin, capacityOf, cleared, stopped, answered, ranOutcome, refused, judgedOutcome}
-use Rattle.desk.specs.AnswerCall.{answerNumbers, AnswerOutcome, planIn, planRan, unanswered, translatedOutcome, answerOutcome}
+use Rattle.desk.specs.AnswerCall.{answerNumbers, AnswerOutcome, planIn, planRan, unanswered, answerOutcome}
 use Rattle.desk.specs.declared.Answered.{Answered}
 use Rattle.desk.specs.declared.Answered.the-variants.{Done}
 

@@ -1,6 +1,6 @@
 -- The rows of a join, one left row and one right row at a time, while its value is filled. Assumes nothing.
 use mathlib.Core.Path.{_≡_, sym, ap, ap₂, _∙_}
-use mathlib.Core.Bool.{true, false, So}
+use mathlib.Core.Bool.{Bool, true, false, So}
 use native.Mathlib.Omega.{arith}
 use borrow.Author.Tests.{ltb-true}
 use mathlib.Core.List.{List, [], _∷_, _++_, map}
@@ -32,18 +32,19 @@ use Rattle.operations.proofs.RowSteps.{filter-step}
 use Rattle.operations.proofs.FillSteps.{filled-row}
 use Rattle.operations.proofs.MadeLaws.{map-append}
 
-pub joined-step : (triples : List Triple) (t : Row) (width left at : ℕ) (words : List ℕ) → 0 < left → at + left * width ≤ length words
-    → joined triples t (rowsAt width left at words) ≡ joined triples t (rowIn words at width ∷ []) ++ joined triples t (rowsAt width (left - 1) (at + width) words)
-joined-step triples t width left at words p h =
-    ap (map (λ s. t ++ s)) (filter-step width left at words p h (meets triples t))
-    ∙ map-append (λ s. t ++ s) (filter (meets triples t) (rowIn words at width ∷ [])) (filter (meets triples t) (rowsAt width (left - 1) (at + width) words))
+pub joined-step : (test : Row → Bool) (t : Row) (width left at : ℕ) (words : List ℕ) → 0 < left → at + left * width ≤ length words
+    → joined test t (rowsAt width left at words) ≡ joined test t (rowIn words at width ∷ []) ++ joined test t (rowsAt width (left - 1) (at + width) words)
+joined-step test t width left at words p h =
+    ap (map (λ s. t ++ s)) (filter-step width left at words p h test)
+    ∙ map-append (λ s. t ++ s) (filter test (rowIn words at width ∷ [])) (filter test (rowsAt width (left - 1) (at + width) words))
 
-module _ {w out rows made : ℕ} {all todo : Rows} {before now : List ℕ} (f : Filled w out rows made all todo before now) (triples : List Triple) (a width : ℕ) (ahead : a + width ≤ out) where
-  pub pair-now : (b more : ℕ) → b + more ≤ out → joined triples (rowIn now a width) (rowIn now b more ∷ []) ≡ joined triples (rowIn before a width) (rowIn before b more ∷ [])
-  pair-now b more h = ap₂ (λ (t s : Row). joined triples t (s ∷ [])) (filled-row f a width ahead) (filled-row f b more h)
+module _ {w out rows made : ℕ} {all todo : Rows} {before now : List ℕ} (f : Filled w out rows made all todo before now) (a width : ℕ) (ahead : a + width ≤ out) where
+  pub pair-now : (test : Row → Bool) (b more : ℕ) → b + more ≤ out → joined test (rowIn now a width) (rowIn now b more ∷ []) ≡ joined test (rowIn before a width) (rowIn before b more ∷ [])
+  pair-now test b more h = ap₂ (λ (t s : Row). joined test t (s ∷ [])) (filled-row f a width ahead) (filled-row f b more h)
 
-  pub joined-now : (right : Value) → end right ≤ out → joined triples (rowIn now a width) (rowsOf right now) ≡ joined triples (rowIn before a width) (rowsOf right before)
-  joined-now right h = ap₂ (λ (t : Row) (s : Rows). joined triples t s) (filled-row f a width ahead) (filled-rows f (right .width) (right .rows) (right .base) h)
+  pub joined-now : (triples : List Triple) (right : Value) → end right ≤ out
+      → joined (meets triples (rowIn now a width)) (rowIn now a width) (rowsOf right now) ≡ joined (meets triples (rowIn before a width)) (rowIn before a width) (rowsOf right before)
+  joined-now triples right h = ap₂ (λ (t : Row) (s : Rows). joined (meets triples t) t s) (filled-row f a width ahead) (filled-rows f (right .width) (right .rows) (right .base) h)
 
 -- a row behind all rows of a value: it stands behind the last one
 module _ (t s : Row) (width more made out : ℕ) (words : List ℕ) (inside : out + made * (width + more) ≤ length words) (ascending : Ascending (rowsAt (width + more) made out words)) (some-made : 0 < made) where

@@ -18,9 +18,12 @@ use Rattle.relations.proofs.BoolLaws.{and-left, and-right}
 use Rattle.relations.proofs.ListLaws.{any-map, any-same, filter-same}
 use Rattle.relations.proofs.ValueLaws.{any-canonical}
 use Rattle.operations.specs.Lists.{triplesIn}
-use Rattle.operations.proofs.ListLaws.{first-word, next-word}
 use Rattle.joining.specs.Keys.{renumbers, wantedRow, wantedRows}
-use Rattle.joining.proofs.MeetLaws.{and-false}
+use Rattle.operations.proofs.ListLaws.{first-word, next-word}
+
+and-false : (b : Bool) → (b && false) ≡ false
+and-false true = refl
+and-false false = refl
 
 -- a column of picked columns is the column that is named there
 picked-word : (columns : List ℕ) (s : Row) (place : ℕ) → getD (pick (map attribute columns) s) place 0 ≡ wordAt s (getD columns place 0)

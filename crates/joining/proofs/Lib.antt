@@ -1,6 +1,5 @@
 -- In reading order.
-pub mod MeetLaws
-pub mod BoundSteps
+pub mod RestLaws
 pub mod WantedLaws
 pub mod JoinLaws
 pub mod KeyLaws

@@ -1,4 +1,3 @@
 -- In reading order.
-pub mod Bounds
 pub mod Keys
 pub mod Joins

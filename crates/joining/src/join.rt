@@ -4,20 +4,22 @@ ghost use mathlib.Core.Bool.{true};
 ghost use mathlib.Core.List.{[], _∷_, _++_, map};
 ghost use Prim.Native.Nat.{ℕ, _+_, _-_, _*_, _≤_, _<_};
 ghost use lib.ListN.{length};
-ghost use Rattle.relations.specs.Limits.{columnLimit};
-ghost use Rattle.relations.specs.Lists.{filter};
-ghost use Rattle.relations.specs.Columns as meaning;
+ghost use Rattle.relations.specs.Limits.{columnLimit, tripleLimit};
+ghost use Rattle.relations.specs.Columns.{meets};
 ghost use Rattle.relations.specs.Values.{Ascending};
 ghost use Rattle.relations.specs.Operations.{joinCandidates};
 ghost use Rattle.values.specs.Words.{rowIn, rowsAt, rowsOf, end};
 ghost use Rattle.values.specs.Places.{rowsBefore, NoneBehind};
 ghost use Rattle.values.specs.Building.{Builds};
 ghost use Rattle.operations.specs.Lists.{triplesIn};
+ghost use Rattle.partners.specs.Sieves.{sifts};
 ghost use Rattle.joining.specs.Joins.{joined};
-use crate::meeting::failing;
-use crate::partners::partners_at;
 use operations::columns::NO_WORDS;
 use operations::made::pair_row;
+use partners::finding::partners_of;
+use partners::sieve::SIEVE_WORDS;
+use partners::sieve::fill;
+use partners::sieve::lets_through;
 use values::placing::Placed;
 use values::placing::place_row;
 use values::placing::write_row;
@@ -27,30 +29,6 @@ use values::rows::compare_rows;
 use values::rows::row;
 use values::search::stands_before;
 use values::search::stands_behind;
-
-// Whether the rows that start at `a` and at `b` meet the triples.
-fn rows_meet(
-    list: &[u32],
-    count: usize,
-    work: &[u32],
-    a: usize,
-    width: usize,
-    b: usize,
-    more: usize,
-) -> bool
-    requires { ⌜ count * 3 ≤ length (now list) ⌝ }
-    ensures { λ r. ⌜ r ≡ meaning.meets (triplesIn count (now (list .entry))) (rowIn (now (work .entry)) a width) (rowIn (now (work .entry)) b more) ⌝ }
-{
-    failing(
-        list,
-        count,
-        count,
-        count,
-        row(work, work, true, a, width),
-        row(work, work, true, b, more),
-    )
-        == count
-}
 
 // Whether the row at `a` with the row at `b` behind it stands behind all `made` rows at `out`: it does if it stands behind the last.
 fn comes_last(
@@ -132,10 +110,10 @@ fn place_pair(
     }
 }
 
-// The left row at `a` with the right row at `b` behind it, if they meet, is put into the value of `made` rows at `out`.
+// The left row at `a` with the right row at `b` behind it, if the sieve lets that through, is put into the value of `made` rows at `out`.
 fn join_pair(
-    list: &[u32],
-    count: usize,
+    sieve: &[usize],
+    entries: usize,
     work: &mut [u32],
     a: usize,
     width: usize,
@@ -144,20 +122,20 @@ fn join_pair(
     out: usize,
     made: usize,
 ) -> Placed
-    requires { ⌜ (count * 3 ≤ length (now list)) × (0 < width) × (width + more ≤ columnLimit) × (a + width ≤ out) × (b + more ≤ out) × (out + made * (width + more) ≤ length (now work)) × Ascending (rowsAt (width + more) made out (now work)) ⌝ }
-    ensures { λ r. ⌜ Builds (width + more) out made (joined (triplesIn count (now (list .entry))) (rowIn (now (work .entry)) a width) (rowIn (now (work .entry)) b more ∷ [])) (now (work .entry)) (now (work .exit)) r ⌝ }
+    requires { ⌜ (entries * 4 ≤ length (now sieve)) × (0 < width) × (width + more ≤ columnLimit) × (a + width ≤ out) × (b + more ≤ out) × (out + made * (width + more) ≤ length (now work)) × Ascending (rowsAt (width + more) made out (now work)) ⌝ }
+    ensures { λ r. ⌜ Builds (width + more) out made (joined (sifts entries (now (sieve .entry))) (rowIn (now (work .entry)) a width) (rowIn (now (work .entry)) b more ∷ [])) (now (work .entry)) (now (work .exit)) r ⌝ }
 {
-    if rows_meet(list, count, work, a, width, b, more) {
+    if lets_through(sieve, entries, row(work, work, true, b, more)) {
         place_pair(work, a, width, b, more, out, made)
     } else {
         Placed::Rows(made)
     }
 }
 
-// The left row at `a` with each right row from that number on that it meets. The right rows ascend, so the first one that the bound stands before ends them.
+// The left row at `a` with each right row from that number on that the sieve lets through. The right rows ascend, so the first one that the bound stands before ends them.
 fn join_from(
-    list: &[u32],
-    count: usize,
+    sieve: &[usize],
+    entries: usize,
     work: &mut [u32],
     a: usize,
     width: usize,
@@ -167,8 +145,8 @@ fn join_from(
     out: usize,
     made: usize,
 ) -> Placed
-    requires { ⌜ (count * 3 ≤ length (now list)) × (0 < width) × (width + right .width ≤ columnLimit) × (a + width ≤ out) × (end right ≤ out) × (out + made * (width + right .width) ≤ length (now work)) × Ascending (rowsAt (width + right .width) made out (now work)) × Ascending (rowsOf right (now work)) × (number ≤ right .rows) × (length (now high) ≤ right .width) × NoneBehind (right .width) (now high) (meaning.meets (triplesIn count (now list)) (rowIn (now work) a width)) ⌝ }
-    ensures { λ r. ⌜ Builds (width + right .width) out made (joined (triplesIn count (now (list .entry))) (rowIn (now (work .entry)) a width) (rowsAt (right .width) (right .rows - number) (right .base + number * right .width) (now (work .entry)))) (now (work .entry)) (now (work .exit)) r ⌝ }
+    requires { ⌜ (entries * 4 ≤ length (now sieve)) × (0 < width) × (width + right .width ≤ columnLimit) × (a + width ≤ out) × (end right ≤ out) × (out + made * (width + right .width) ≤ length (now work)) × Ascending (rowsAt (width + right .width) made out (now work)) × Ascending (rowsOf right (now work)) × (number ≤ right .rows) × (length (now high) ≤ right .width) × NoneBehind (right .width) (now high) (sifts entries (now sieve)) ⌝ }
+    ensures { λ r. ⌜ Builds (width + right .width) out made (joined (sifts entries (now (sieve .entry))) (rowIn (now (work .entry)) a width) (rowsAt (right .width) (right .rows - number) (right .base + number * right .width) (now (work .entry)))) (now (work .entry)) (now (work .exit)) r ⌝ }
 {
     let more = right.width;
     let mut at = right.base + number * more;
@@ -178,7 +156,7 @@ fn join_from(
         if stands_behind(work, at, high) {
             return Placed::Rows(total);
         }
-        match join_pair(list, count, work, a, width, at, more, out, total) {
+        match join_pair(sieve, entries, work, a, width, at, more, out, total) {
             Placed::Rows(rows) => {
                 total = rows;
             }
@@ -203,23 +181,24 @@ fn join_row(
     out: usize,
     made: usize,
 ) -> Placed
-    requires { ⌜ (count * 3 ≤ length (now list)) × (0 < width) × (width + right .width ≤ columnLimit) × (a + width ≤ out) × (end right ≤ out) × (out + made * (width + right .width) ≤ length (now work)) × Ascending (rowsAt (width + right .width) made out (now work)) × Ascending (rowsOf right (now work)) ⌝ }
-    ensures { λ r. ⌜ Builds (width + right .width) out made (joined (triplesIn count (now (list .entry))) (rowIn (now (work .entry)) a width) (rowsOf right (now (work .entry)))) (now (work .entry)) (now (work .exit)) r ⌝ }
+    requires { ⌜ (count * 3 ≤ length (now list)) × (0 < width) × (width + right .width ≤ columnLimit) × (a + width ≤ out) × (end right ≤ out) × (out + made * (width + right .width) ≤ length (now work)) × Ascending (rowsAt (width + right .width) made out (now work)) × Ascending (rowsOf right (now work)) × (count ≤ tripleLimit) ⌝ }
+    ensures { λ r. ⌜ Builds (width + right .width) out made (joined (meets (triplesIn count (now (list .entry))) (rowIn (now (work .entry)) a width)) (rowIn (now (work .entry)) a width) (rowsOf right (now (work .entry)))) (now (work .entry)) (now (work .exit)) r ⌝ }
 {
-    let found = partners_at(list, count, work, a, width, right);
+    let mut sieve = [0usize; SIEVE_WORDS];
+    let entries = fill(list, count, row(work, work, true, a, width), &mut sieve);
+    let found = partners_of(&sieve, entries, work, right);
     let number = found.number;
-    let high = found.high;
-    let highs = high.count;
-    let most = high.words;
+    let most = found.most;
+    let highs = found.highs;
     join_from(
-        list,
-        count,
+        &sieve,
+        entries,
         work,
         a,
         width,
         right,
         number,
-        &most[..highs],
+        &highs[..most],
         out,
         made,
     )
@@ -233,7 +212,7 @@ pub fn join(
     right: Value,
     out: usize,
 ) -> Placed
-    requires { ⌜ (count * 3 ≤ length (now list)) × (0 < left .width) × (left .width + right .width ≤ columnLimit) × (end left ≤ out) × (end right ≤ out) × (out ≤ length (now work)) × Ascending (rowsOf right (now work)) ⌝ }
+    requires { ⌜ (count * 3 ≤ length (now list)) × (0 < left .width) × (left .width + right .width ≤ columnLimit) × (end left ≤ out) × (end right ≤ out) × (out ≤ length (now work)) × Ascending (rowsOf right (now work)) × (count ≤ tripleLimit) ⌝ }
     ensures { λ r. ⌜ Builds (left .width + right .width) out 0 (joinCandidates (triplesIn count (now (list .entry))) (rowsOf left (now (work .entry))) (rowsOf right (now (work .entry)))) (now (work .entry)) (now (work .exit)) r ⌝ }
 {
     let width = left.width;

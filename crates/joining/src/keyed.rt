@@ -4,7 +4,7 @@ ghost use mathlib.Core.Path.{_≡_};
 ghost use mathlib.Core.List.{map};
 ghost use Prim.Native.Nat.{ℕ, _+_, _*_, _≤_, _<_};
 ghost use lib.ListN.{length};
-ghost use Rattle.relations.specs.Limits.{columnLimit};
+ghost use Rattle.relations.specs.Limits.{columnLimit, tripleLimit};
 ghost use Rattle.relations.specs.Values.{Ascending};
 ghost use Rattle.relations.specs.Columns.{attribute};
 ghost use Rattle.relations.specs.Operations.{projectCandidates, semijoinCandidates, antijoinCandidates};
@@ -12,7 +12,6 @@ ghost use Rattle.values.specs.Words.{rowsOf, end};
 ghost use Rattle.values.specs.Building.{Blank, Makes};
 ghost use Rattle.operations.specs.Lists.{triplesIn};
 ghost use Rattle.joining.specs.Keys.{renumbers, wantedRows, Tried};
-use crate::bounds::triple_with;
 use crate::wanted::keep_by_rows;
 use operations::columns::column_of;
 use operations::project::project;
@@ -166,7 +165,7 @@ fn keep_by_key(
     wanted: bool,
     out: usize,
 ) -> Placed
-    requires { ⌜ (count * 3 ≤ length (now list)) × (0 < length (now columns)) × (length (now columns) ≤ columnLimit) × (0 < left .width) × (end left ≤ out) × (end right ≤ out) × (out ≤ length (now work)) × Blank out (now work) ⌝ }
+    requires { ⌜ (count * 3 ≤ length (now list)) × (0 < length (now columns)) × (length (now columns) ≤ columnLimit) × (0 < left .width) × (end left ≤ out) × (end right ≤ out) × (out ≤ length (now work)) × Blank out (now work) × (count ≤ tripleLimit) ⌝ }
     ensures { λ r. ⌜ Tried (left .width) out (wantedRows wanted (triplesIn count (now (list .entry))) (rowsOf left (now (work .entry))) (projectCandidates (map attribute (now (columns .entry))) (rowsOf right (now (work .entry))))) (now (work .entry)) (now (work .exit)) r ⌝ }
 {
     let width = left.width;
@@ -199,6 +198,23 @@ fn keep_by_key(
             Placed::Full
         }
     }
+}
+
+// The number, from 0, of the first of so many triples that has the operator and the right attribute, or `count`. It only says what is quicker.
+fn triple_with(list: &[u32], count: usize, operator: u32, right: u32) -> usize
+    requires { ⌜ count * 3 ≤ length (now list) ⌝ }
+{
+    let mut i: usize = 0;
+    while i < count {
+        let at = i * 3;
+        if list[at + 1] == operator {
+            if list[at + 2] == right {
+                return i;
+            }
+        }
+        i += 1;
+    }
+    count
 }
 
 // How many of the first right columns are equated.
@@ -266,7 +282,7 @@ fn try_keys(
     wanted: bool,
     out: usize,
 ) -> Placed
-    requires { ⌜ (count * 3 ≤ length (now list)) × (0 < left .width) × (end left ≤ out) × (end right ≤ out) × (out ≤ length (now work)) × Blank out (now work) ⌝ }
+    requires { ⌜ (count * 3 ≤ length (now list)) × (0 < left .width) × (end left ≤ out) × (end right ≤ out) × (out ≤ length (now work)) × Blank out (now work) × (count ≤ tripleLimit) ⌝ }
     ensures { λ r. ⌜ Tried (left .width) out (wantedRows wanted (triplesIn count (now (list .entry))) (rowsOf left (now (work .entry))) (rowsOf right (now (work .entry)))) (now (work .entry)) (now (work .exit)) r ⌝ }
 {
     if left.rows < 4 {
@@ -311,7 +327,7 @@ fn keep_wanted(
     wanted: bool,
     out: usize,
 ) -> Placed
-    requires { ⌜ (0 < left .width) × (end left ≤ out) × (out ≤ length (now work)) × (end right ≤ out) × (count * 3 ≤ length (now list)) × Ascending (rowsOf right (now work)) × Blank out (now work) ⌝ }
+    requires { ⌜ (0 < left .width) × (end left ≤ out) × (out ≤ length (now work)) × (end right ≤ out) × (count * 3 ≤ length (now list)) × Ascending (rowsOf right (now work)) × Blank out (now work) × (count ≤ tripleLimit) ⌝ }
     ensures { λ r. ⌜ Makes (left .width) out (wantedRows wanted (triplesIn count (now (list .entry))) (rowsOf left (now (work .entry))) (rowsOf right (now (work .entry)))) (now (work .entry)) (now (work .exit)) r ⌝ }
 {
     match try_keys(list, count, work, left, right, wanted, out) {
@@ -333,7 +349,7 @@ pub fn semijoin(
     right: Value,
     out: usize,
 ) -> Placed
-    requires { ⌜ (0 < left .width) × (end left ≤ out) × (out ≤ length (now work)) × (end right ≤ out) × (count * 3 ≤ length (now list)) × Ascending (rowsOf right (now work)) × Blank out (now work) ⌝ }
+    requires { ⌜ (0 < left .width) × (end left ≤ out) × (out ≤ length (now work)) × (end right ≤ out) × (count * 3 ≤ length (now list)) × Ascending (rowsOf right (now work)) × Blank out (now work) × (count ≤ tripleLimit) ⌝ }
     ensures { λ r. ⌜ Makes (left .width) out (semijoinCandidates (triplesIn count (now (list .entry))) (rowsOf left (now (work .entry))) (rowsOf right (now (work .entry)))) (now (work .entry)) (now (work .exit)) r ⌝ }
 {
     keep_wanted(list, count, work, left, right, true, out)
@@ -348,7 +364,7 @@ pub fn antijoin(
     right: Value,
     out: usize,
 ) -> Placed
-    requires { ⌜ (0 < left .width) × (end left ≤ out) × (out ≤ length (now work)) × (end right ≤ out) × (count * 3 ≤ length (now list)) × Ascending (rowsOf right (now work)) × Blank out (now work) ⌝ }
+    requires { ⌜ (0 < left .width) × (end left ≤ out) × (out ≤ length (now work)) × (end right ≤ out) × (count * 3 ≤ length (now list)) × Ascending (rowsOf right (now work)) × Blank out (now work) × (count ≤ tripleLimit) ⌝ }
     ensures { λ r. ⌜ Makes (left .width) out (antijoinCandidates (triplesIn count (now (list .entry))) (rowsOf left (now (work .entry))) (rowsOf right (now (work .entry)))) (now (work .entry)) (now (work .exit)) r ⌝ }
 {
     keep_wanted(list, count, work, left, right, false, out)

@@ -1,7 +1,4 @@
-// The operations that set a left row beside right rows: join, semijoin and antijoin. Which right rows can be its partners is told by bounds.
-pub mod bounds;
+// The operations that set a left row beside right rows: join, semijoin and antijoin. A sieve of the left row tells which right rows it meets, and bounds where they can stand.
 pub mod join;
 pub mod keyed;
-pub mod meeting;
-pub mod partners;
 pub mod wanted;

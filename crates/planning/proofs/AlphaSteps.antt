@@ -6,7 +6,7 @@ use mathlib.Core.List.{List, [], _∷_}
 use native.Mathlib.Omega.{arith}
 use lib.ListN.{length}
 use Rattle.relations.specs.Columns.{Attribute}
-use Rattle.relations.specs.Limits.{columnLimit}
+use Rattle.relations.specs.Limits.{columnLimit, variableCount}
 use Rattle.relations.specs.Lists.{All, flat}
 use Rattle.calculus.specs.Question.{Target, Range, table, alpha, Bindings, noMore, MaybeCondition, rangeNodes, bindingNodes, maybeNodes}
 use Rattle.calculus.specs.Scope as scopes
@@ -88,8 +88,8 @@ module _ {catalogue words plan : List ℕ} {t n target binding condition variabl
       lower-call words (omega (arith, asked .measure)) (asked .link .named, asked .binding-inside) (asked .link .range-below) (record { good = good .0; stored = asked .ready .stored; room = room-less _ (asked .ready .room) (omega (arith, size)) })
 
   module _ {short : Bool} {middle : List ℕ} {made : MadeRange} (r : RangeDone catalogue short plan first n middle made) where
-    pub scope-starts : ScopeFits noVariables × (1 ≤ made .width) × (columnsIn (scopeOf noVariables) + made .width ≤ columnLimit)
-    scope-starts = (empty-fits, omega (arith, r .width, range-wide catalogue (asked .ready .stored) first (good .0)), omega (arith, r .width, good .4))
+    pub scope-starts : (variable < variableCount) × ScopeFits noVariables × (1 ≤ made .width) × (columnsIn (scopeOf noVariables) + made .width ≤ columnLimit)
+    scope-starts = (asked .link .variable-known, empty-fits, omega (arith, r .width, range-wide catalogue (asked .ready .stored) first (good .0)), omega (arith, r .width, good .4))
 
     room-first : Room middle (made .count) (4 * bindingNodes rest + 4 * maybeNodes restriction + 1)
     room-first = room-after _ (asked .ready .room) (r .written) (omega (arith, size, range-size columns short first n))

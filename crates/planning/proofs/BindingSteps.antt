@@ -5,6 +5,7 @@ use mathlib.Core.Bool.{Bool, _||_}
 use mathlib.Core.List.{List, [], _∷_}
 use native.Mathlib.Omega.{arith}
 use lib.Dec.{ltb, eqb}
+use borrow.Author.Tests.{ltb-true}
 use Rattle.relations.specs.Limits.{columnLimit, variableCount}
 use Rattle.relations.specs.Nodes.{join}
 use Rattle.calculus.specs.Question.{Range, Bindings, noMore, bind, rangeNodes, bindingNodes}
@@ -16,7 +17,7 @@ use Rattle.catalogue.specs.Stored.{relationsOf, columnsOf}
 use Rattle.nodes.specs.Kinds.{isBinding, isRange}
 use Rattle.nodes.specs.Nodes.{kindNamed, nodeAt}
 use Rattle.nodes.specs.declared.node.Node.the-variants.{Binding}
-use Rattle.nodes.proofs.Forms.{lower, second-of, references-lower}
+use Rattle.nodes.proofs.Forms.{lower, first-of, second-of, references-lower}
 use Rattle.conditions.specs.Readings.{Inside, Names, rangeAt, bindingsAt}
 use Rattle.conditions.specs.Scopes.{withVariable, scopeOf, ScopeFits, Extended}
 use Rattle.planning.specs.Translating.{withBindings, RangeReady, RangeDone, BindingsReady, BindingsDone}
@@ -29,6 +30,7 @@ use Rattle.emission.proofs.WrittenLaws.{written-nothing, written-then, room-aft
 -- a node that is a binding: where its range and the next binding are, and what it reads as
 pub record Chain (words : List ℕ) (reference variable range next : ℕ) : Type 0 where
   pub named : 1 ≤ reference
+  pub variable-known : variable < variableCount
   pub range-below : Below reference range
   pub next-below : next ≤ reference - 1
   pub reads : bindingsAt words reference ≡ bind variable (rangeAt words range) (bindingsAt words next)
@@ -39,6 +41,7 @@ chain words {reference} {variable} {range} {next} named e =
     let fit = fits-in words i e in
     record {
       named = named;
+      variable-known = ltb-true variable variableCount (first-of (ltb variable variableCount) (isRange (kindNamed words i range)) (eqb next 0 || isBinding (kindNamed words i next)) fit);
       range-below = lower words i range isRange refl (second-of (ltb variable variableCount) (isRange (kindNamed words i range)) (eqb next 0 || isBinding (kindNamed words i next)) fit);
       next-below = references-lower words i (Binding variable range next) fit .second-lower;
       reads = bindings-is words reference (Binding variable range next) named e;
@@ -80,8 +83,8 @@ module _ {words : List ℕ} {reference variable range next : ℕ} (link : Chain 
     pub room-product : Room middle (made .count) 1
     room-product = room-less 1 room-bound (omega arith)
 
-    pub scope-grows : ScopeFits scope × (1 ≤ made .width) × (columnsIn (scopeOf scope) + made .width ≤ columnLimit)
-    scope-grows = (ready .fits, omega (arith, r .width, range-wide catalogue (ready .stored) first (parts ready .range-good)), omega (arith, r .width, parts ready .few-columns))
+    pub scope-grows : (variable < variableCount) × ScopeFits scope × (1 ≤ made .width) × (columnsIn (scopeOf scope) + made .width ≤ columnLimit)
+    scope-grows = (link .variable-known, ready .fits, omega (arith, r .width, range-wide catalogue (ready .stored) first (parts ready .range-good)), omega (arith, r .width, parts ready .few-columns))
 
     module _ {p : ℕ} {later : List ℕ} {count : ℕ} {longer : List ℕ} (w : Written middle (made .count) (join p (made .count - 1) [] ∷ []) later count) (extended : Extended scope variable (made .width) longer) where
       stands : scopeOf longer ≡ extend (scopeOf scope) variable (widthOfRange (columnsOf catalogue) first)

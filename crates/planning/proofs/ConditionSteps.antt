@@ -1,14 +1,14 @@
 -- The steps of a condition: the room that its parts have, and what their nodes are together. Assumes nothing.
-use Prim.Native.Nat.{ℕ, _+_, _*_, _-_, _≤_}
+use Prim.Native.Nat.{ℕ, _+_, _*_, _-_, _≤_, _<_}
 use mathlib.Core.Path.{_≡_, refl, sym, ap, ap₂, subst, _∙_}
 use mathlib.Core.Bool.{Bool, true, false, _&&_, _||_, false≢true}
 use mathlib.Core.List.{List, [], _∷_}
 use native.Mathlib.Omega.{arith}
-use Rattle.relations.specs.Limits.{questionNodeLimit}
+use Rattle.relations.specs.Limits.{questionNodeLimit, variableCount}
 use Rattle.relations.specs.Nodes.{Node, unite, subtract}
 use Rattle.relations.proofs.BoolLaws.{and-right}
 use Rattle.calculus.specs.Question as calculus
-use Rattle.calculus.specs.Question.{Range, MaybeCondition, onCondition, Condition, conditionAnd, conditionOr, conditionNot, maybeNodes, conditionNodes}
+use Rattle.calculus.specs.Question.{MaybeCondition, onCondition, Condition, conditionAnd, conditionOr, conditionNot, maybeNodes, conditionNodes}
 use Rattle.calculus.specs.Scope as scopes
 use Rattle.calculus.specs.Form.{GoodCondition}
 use Rattle.calculus.specs.ShortRules.{shortRule3Fits, shortRule5Fits, shortRule6Fits}
@@ -30,7 +30,7 @@ use Rattle.planning.specs.declared.quantifying.Wanted as code
 use Rattle.planning.specs.declared.quantifying.Wanted.the-variants.{Itself, Opposite, Division}
 use Rattle.planning.specs.declared.quantifying.Quantifier.{Quantifier}
 use Rattle.planning.specs.declared.quantifying.Quantifier.the-variants.{Some as OfSome, Every as OfEvery}
-use Rattle.conditions.proofs.Readings.{Part, and-parts, or-parts, not-part, some-parts, every-parts, restriction-is}
+use Rattle.conditions.proofs.Readings.{Part, and-parts, or-parts, not-part, some-variable, every-variable, some-parts, every-parts, restriction-is}
 use Rattle.conditions.proofs.OtherNodes.{restriction-good}
 use Rattle.conditions.proofs.LeafLaws.{found-narrow}
 use Rattle.emission.proofs.WrittenLaws.{written-then, written-nothing, room-after, room-less, last-is, written-as, going-on}
@@ -195,6 +195,7 @@ pub record OneInner (inner : ℕ) (catalogue words plan scope : List ℕ) (refer
 
 pub record Quantified (quantifier : Quantifier) (variable range condition : ℕ) (catalogue words plan : List ℕ) (wanted : Wanted) (scope : List ℕ) (reference n : ℕ) : Type 0 where
   pub reads : restrictionAt words reference ≡ onCondition (quantified quantifier variable (rangeAt words range) (conditionAt words condition))
+  pub known : variable < variableCount
   pub parts : Part words reference range × Part words reference condition
   pub ready : ConditionReady catalogue plan wanted (onCondition (quantified quantifier variable (rangeAt words range) (conditionAt words condition))) scope n
 
@@ -222,12 +223,12 @@ module _ {catalogue words plan scope : List ℕ} {reference n : ℕ} (wanted : W
   pub some-step : {variable range condition : ℕ} → Some variable range condition ≡ nodeAt words (reference - 1) → Quantified OfSome variable range condition catalogue words plan wanted scope reference n
   some-step {variable} {range} {condition} e =
       let reads = restriction-is words reference (Some variable range condition) (h .0) e in
-      record { reads = reads; parts = some-parts words reference h e; ready = ready-as (sym reads) r }
+      record { reads = reads; known = some-variable words reference h e; parts = some-parts words reference h e; ready = ready-as (sym reads) r }
 
   pub every-step : {variable range condition : ℕ} → Every variable range condition ≡ nodeAt words (reference - 1) → Quantified OfEvery variable range condition catalogue words plan wanted scope reference n
   every-step {variable} {range} {condition} e =
       let reads = restriction-is words reference (Every variable range condition) (h .0) e in
-      record { reads = reads; parts = every-parts words reference h e; ready = ready-as (sym reads) r }
+      record { reads = reads; known = every-variable words reference h e; parts = every-parts words reference h e; ready = ready-as (sym reads) r }
 
 -- the sides of an "and" or an "or", one written behind the other
 module _ {catalogue words plan scope : List ℕ} {join : Condition → Condition → Condition} {reference n left right : ℕ} (b : TwoSides join left right catalogue words plan scope reference n) where

@@ -1,11 +1,11 @@
 -- "Some" and "every": what their calls ask for, from what they are given, and what each way of making their nodes leaves. Assumes nothing.
-use Prim.Native.Nat.{ℕ, suc, pred, _+_, _*_, _-_, _≤_}
+use Prim.Native.Nat.{ℕ, suc, pred, _+_, _*_, _-_, _≤_, _<_}
 use mathlib.Core.Path.{_≡_, refl, sym, ap, subst, _∙_}
 use mathlib.Core.Bool.{Bool, true, false, cond, _&&_, _||_, false≢true}
 use mathlib.Core.List.{List, [], _∷_, _++_, map}
 use native.Mathlib.Omega.{arith}
 use lib.ListN.{length, length-append}
-use Rattle.relations.specs.Limits.{columnLimit, questionNodeLimit}
+use Rattle.relations.specs.Limits.{columnLimit, questionNodeLimit, variableCount}
 use Rattle.relations.specs.Lists.{filter}
 use Rattle.relations.specs.Nodes.{Node, project, join, subtract, semijoin, antijoin, divide, unite}
 use Rattle.relations.proofs.BoolLaws.{and-right}
@@ -19,7 +19,6 @@ use Rattle.calculus.specs.Translation.{itself, divisionBy, translateRange, tran
 use Rattle.calculus.proofs.ScopeLaws.{columns-extend}
 use Rattle.calculus.proofs.SizeTheorem.{range-size, condition-size}
 use Rattle.catalogue.specs.Stored.{relationsOf, columnsOf}
-use Rattle.judgements.specs.Accepted.{HasColumns}
 use Rattle.conditions.specs.Readings.{Names, conditionAt, restrictionAt}
 use Rattle.conditions.specs.Scopes.{scopeOf, ScopeFits, Extended}
 use Rattle.short_rules.specs.Rules.{ruleAtoms, ruleNodes, dividendNodes, RuleReady}
@@ -82,7 +81,7 @@ some-condition (forSome x range f) = omega arith
 some-condition (forEvery x range f) = omega arith
 
 -- What every way asks for: a range that is ready, and room behind it.
-module _ (quantifier : Quantifier) (wanted : Wanted) (x : ℕ) (range : Range) (f : Condition) {catalogue plan scope : List ℕ} {n : ℕ} (r : ConditionReady catalogue plan (wantedIn wanted) (onCondition (quantified quantifier x range f)) scope n) where
+module _ (quantifier : Quantifier) (wanted : Wanted) (x : ℕ) (range : Range) (f : Condition) (known : x < variableCount) {catalogue plan scope : List ℕ} {n : ℕ} (r : ConditionReady catalogue plan (wantedIn wanted) (onCondition (quantified quantifier x range f)) scope n) where
   abbrev columns : ℕ → ℕ
   columns = columnsOf catalogue
 
@@ -108,8 +107,8 @@ module _ (quantifier : Quantifier) (wanted : Wanted) (x : ℕ) (range : Range) (
     room-behind : Room after (made .count) (4 * conditionNodes f + 4)
     room-behind = room-after _ (r .room) (done .written) (omega (arith, quantified-size quantifier x range f, range-size columns short range n))
 
-    pub inner-grows : ScopeFits scope × (1 ≤ made .width) × (columnsIn (scopeOf scope) + made .width ≤ columnLimit)
-    inner-grows = (r .fits, some-columns, few-columns)
+    pub inner-grows : (x < variableCount) × ScopeFits scope × (1 ≤ made .width) × (columnsIn (scopeOf scope) + made .width ≤ columnLimit)
+    inner-grows = (known, r .fits, some-columns, few-columns)
 
     pub room-inner : Room after (made .count) 1
     room-inner = room-less 1 room-behind (omega arith)
@@ -121,6 +120,7 @@ module _ (quantifier : Quantifier) (wanted : Wanted) (x : ℕ) (range : Range) (
           named = named;
           small = omega (arith, few-nodes, ap conditionNodes e);
           atoms = subst (λ (g : Condition). ruleAtoms rule x y (leaves g) ≡ true) e atoms;
+          variable = known;
           scope-fits = r .fits;
           some-columns = some-columns;
           few-columns = omega (arith, few-columns);
@@ -315,7 +315,7 @@ module _ {catalogue : List ℕ} {short : Bool} {plan : List ℕ} {range : Range}
         written-as (way s p n) (written-then behind (written-as (ap (λ (m : ℕ). keptNodes quantifier (columnsIn s) p q m) total ∙ ap (λ (k : ℕ). keptNodes quantifier (columnsIn s) p k meeting) (sym (done .written .counted)) ∙ ap (λ (c : ℕ). keptNodes quantifier c p (made .count) meeting) (sym e)) w))
 
 -- The condition inside: below the division of S5, or on the product of P with the range.
-module _ (quantifier : Quantifier) (wanted : Wanted) (x : ℕ) (range : Range) (words : List ℕ) (condition : ℕ) {catalogue plan scope : List ℕ} {n : ℕ} (r : ConditionReady catalogue plan (wantedIn wanted) (onCondition (quantified quantifier x range (conditionAt words condition))) scope n) {short : Bool} {after : List ℕ} {made : MadeRange} (done : RangeDone catalogue short plan range n after made) where
+module _ (quantifier : Quantifier) (wanted : Wanted) (x : ℕ) (range : Range) (words : List ℕ) (condition : ℕ) (known : x < variableCount) {catalogue plan scope : List ℕ} {n : ℕ} (r : ConditionReady catalogue plan (wantedIn wanted) (onCondition (quantified quantifier x range (conditionAt words condition))) scope n) {short : Bool} {after : List ℕ} {made : MadeRange} (done : RangeDone catalogue short plan range n after made) where
   abbrev inner : Condition
   inner = conditionAt words condition
 
@@ -327,7 +327,7 @@ module _ (quantifier : Quantifier) (wanted : Wanted) (x : ℕ) (range : Range) (
     restricts = restriction-good (columnsOf catalogue) (relationsOf catalogue) (calculus.extend (scopeOf scope) x (widthOfRange (columnsOf catalogue) range)) words condition good-inside
 
     room-inside : Room after (made .count) (4 * conditionNodes inner + 4)
-    room-inside = room-behind quantifier wanted x range inner r done
+    room-inside = room-behind quantifier wanted x range inner known r done
 
     pub divided-ready : (k : ℕ) → shortRule5Fits x inner ≡ true → ConditionReady catalogue after (divisionBy x k) (restrictionAt words condition) scope (made .count)
     unfolding GoodMaybe maybeNodes

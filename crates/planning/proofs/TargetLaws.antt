@@ -1,14 +1,14 @@
 -- The columns of targets, and the targets that are still to be listed. Assumes nothing.
 use Prim.Native.Nat.{ℕ, zero, suc, _+_, _-_, _≤_, _<_}
 use mathlib.Core.Path.{_≡_, refl, sym, ap, subst, _∙_}
-use mathlib.Core.List.{List, [], _∷_, _++_}
+use mathlib.Core.List.{List, [], _∷_}
 use native.Mathlib.Omega.{arith}
 use lib.ListN.{length, length-append, length-map}
 use Rattle.relations.specs.Limits.{listWords}
 use Rattle.relations.specs.Lists.{All, flat}
 use Rattle.relations.specs.Columns.{Attribute, attribute}
 use Rattle.calculus.specs.Question.{Target, wholeRow, oneAttribute}
-use Rattle.calculus.specs.Scope.{Scope, targetColumns}
+use Rattle.calculus.specs.Scope.{targetColumns}
 use Rattle.calculus.specs.Form.{GoodTarget}
 use Rattle.question.specs.Trees.{targetOf}
 use Rattle.nodes.specs.Nodes.{nodeAt}

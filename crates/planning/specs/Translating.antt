@@ -7,7 +7,7 @@ use lib.ListN.{length}
 use Rattle.relations.specs.Limits.{listWords}
 use Rattle.relations.specs.Lists.{All, flat}
 use Rattle.relations.specs.Nodes.{Node}
-use Rattle.calculus.specs.Question.{Range, rangeOr, rangeAnd, rangeAndNot, Bindings, noMore, bind, MaybeCondition, noCondition, onCondition, Condition, rangeNodes, bindingNodes, maybeNodes}
+use Rattle.calculus.specs.Question.{Range, rangeOr, rangeAnd, rangeAndNot, Bindings, noMore, bind, MaybeCondition, noCondition, onCondition, rangeNodes, bindingNodes, maybeNodes}
 use Rattle.calculus.specs.Scope.{Scope, extend, columnsIn, targetColumns}
 use Rattle.calculus.specs.Form.{GoodTarget, widthOfRange, scopeOfBindings, GoodRange, GoodBindings, GoodMaybe}
 use Rattle.calculus.specs.ShortRules.{projectNodes, shortRule3Fits, shortRule5Fits, shortRule6Fits}

@@ -13,7 +13,7 @@ ghost use Rattle.emission.specs.NodeLists.{nodeList, grownBy, numbersOf};
 ghost use Rattle.emission.specs.Written.{Room};
 ghost use Rattle.planning.specs.Translating.{TargetsReady, TargetsDone};
 use crate::translate::MadeRange;
-use conditions::scope::SCOPE_WORDS;
+use conditions::scope::SCOPE_BYTES;
 use conditions::scope::column_number;
 use conditions::scope::columns_in;
 use conditions::scope::width_in;
@@ -26,12 +26,7 @@ use nodes::node::decode;
 use short_rules::rules::write_project;
 
 // A target's columns behind those of the list; attribute 0 is the whole row.
-fn with_target(
-    scope: &[u32; SCOPE_WORDS],
-    variable: u32,
-    attribute: u32,
-    list: NodeList,
-) -> NodeList
+fn with_target(scope: &[u8; SCOPE_BYTES], variable: u32, attribute: u32, list: NodeList) -> NodeList
     requires { ⌜ ScopeFits (now scope) × GoodTarget (scopeOf (now scope)) (targetOf variable attribute) × (list .used + length (targetColumns (scopeOf (now scope)) (targetOf variable attribute)) ≤ listWords) ⌝ }
     ensures { λ r. ⌜ r ≡ grownBy list (numbersOf (targetColumns (scopeOf (now (scope .entry))) (targetOf variable attribute))) ⌝ }
 {
@@ -46,7 +41,7 @@ fn with_target(
 }
 
 // The columns of the targets from a reference on. They follow one another, so this is a loop, and a long chain of them takes no stack.
-fn targets_from(words: &[u32], reference: u32, scope: &[u32; SCOPE_WORDS]) -> NodeList
+fn targets_from(words: &[u32], reference: u32, scope: &[u8; SCOPE_BYTES]) -> NodeList
     requires { ⌜ TargetsReady (now words) reference (now scope) ⌝ }
     ensures { λ r. ⌜ r ≡ nodeList (numbersOf (flat (targetColumns (scopeOf (now (scope .entry)))) (targetsAt (now (words .entry)) reference))) ⌝ }
 {
@@ -76,7 +71,7 @@ pub fn write_targets(
     words: &[u32],
     short: bool,
     target: u32,
-    scope: &[u32; SCOPE_WORDS],
+    scope: &[u8; SCOPE_BYTES],
     plan: &mut [u32],
     n: u32,
 ) -> MadeRange

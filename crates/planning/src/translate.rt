@@ -1,7 +1,8 @@
 // Translation: a range, the parts of an alpha and a condition call each other. Each function has a number of its own that falls at each call:
 // twice the reference of the node that it is handed, or one more than twice the greatest of the references of a node's parts. Nothing that is
 // long stands in these functions' frames but a scope that grows, so that the deepest question takes little stack.
-ghost use mathlib.Core.Path.{_≡_};
+ghost use Prim.Native.Nat.{_<_};
+ghost use Rattle.relations.specs.Limits.{variableCount};
 ghost use Rattle.calculus.specs.Question as calculus;
 ghost use Rattle.calculus.specs.Translation.{itself, translateCondition};
 ghost use Rattle.catalogue.specs.Stored.{columnsOf};
@@ -20,7 +21,7 @@ use crate::quantifying::way_of;
 use crate::quantifying::write_kept;
 use crate::targets::write_targets;
 use catalogue::stored::columns_of;
-use conditions::scope::SCOPE_WORDS;
+use conditions::scope::SCOPE_BYTES;
 use conditions::scope::columns_in;
 use conditions::scope::extend;
 use emission::emit::Pairing;
@@ -157,7 +158,7 @@ fn translate_alpha(
             next,
         } => {
             let first = translate_range(catalogue, words, short, range, plan, n);
-            let mut scope = [0u32; SCOPE_WORDS];
+            let mut scope = [0u8; SCOPE_BYTES];
             extend(&mut scope, variable, first.width);
             let p = first.count - 1;
             let joined = translate_bindings(
@@ -193,7 +194,7 @@ fn translate_bindings(
     words: &[u32],
     short: bool,
     reference: u32,
-    scope: &mut [u32; SCOPE_WORDS],
+    scope: &mut [u8; SCOPE_BYTES],
     p: u32,
     plan: &mut [u32],
     n: u32,
@@ -228,7 +229,7 @@ fn translate_condition(
     short: bool,
     reference: u32,
     wanted: Wanted,
-    scope: &[u32; SCOPE_WORDS],
+    scope: &[u8; SCOPE_BYTES],
     p: u32,
     plan: &mut [u32],
     n: u32,
@@ -324,7 +325,7 @@ fn translate_part(
     words: &[u32],
     short: bool,
     reference: u32,
-    scope: &[u32; SCOPE_WORDS],
+    scope: &[u8; SCOPE_BYTES],
     p: u32,
     plan: &mut [u32],
     n: u32,
@@ -355,12 +356,12 @@ fn translate_quantifier(
     x: u32,
     range: u32,
     condition: u32,
-    scope: &[u32; SCOPE_WORDS],
+    scope: &[u8; SCOPE_BYTES],
     p: u32,
     plan: &mut [u32],
     n: u32,
 ) -> u32
-    requires { ⌜ Names (now words) range × Names (now words) condition × ConditionReady (now catalogue) (now plan) (wantedIn wanted) (calculus.onCondition (quantified quantifier x (rangeAt (now words) range) (conditionAt (now words) condition))) (now scope) n ⌝ }
+    requires { ⌜ (x < variableCount) × Names (now words) range × Names (now words) condition × ConditionReady (now catalogue) (now plan) (wantedIn wanted) (calculus.onCondition (quantified quantifier x (rangeAt (now words) range) (conditionAt (now words) condition))) (now scope) n ⌝ }
     ensures { λ r. ⌜ Written (now (plan .entry)) n (translateCondition (columnsOf (now (catalogue .entry))) short (quantified quantifier x (rangeAt (now (words .entry)) range) (conditionAt (now (words .entry)) condition)) (wantedIn wanted) (scopeOf (now (scope .entry))) p n) (now (plan .exit)) r ⌝ }
 {
     let made = translate_range(catalogue, words, short, range, plan, n);

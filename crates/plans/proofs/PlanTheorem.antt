@@ -13,7 +13,6 @@ use borrow.Author.Tests.{eqb-true, eq-eqb}
 use Rattle.relations.specs.Limits.{planNodeLimit, planNodeWords}
 use Rattle.relations.specs.Lists.{flat}
 use Rattle.relations.specs.Nodes as nodes
-use Rattle.relations.specs.Nodes.{load, project, selectConstant, selectAttribute, join, semijoin, antijoin, divide, unite, intersect, subtract}
 use Rattle.relations.specs.Machine.{run}
 use Rattle.relations.specs.Plan.{widthOfNode}
 use Rattle.relations.specs.Legality.{between, legalNode, legalNodes, legalPlan}

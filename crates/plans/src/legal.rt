@@ -1,13 +1,13 @@
 // A node's legality and width, given the widths of the nodes before it.
 ghost use mathlib.Core.Path.{_≡_};
-ghost use mathlib.Core.Bool.{_&&_, true};
+ghost use mathlib.Core.Bool.{true};
 ghost use Prim.Native.Nat.{_+_, _*_, _≤_, _<_};
-ghost use lib.Dec.{eqb, ltb, leb};
+ghost use lib.Dec.{leb};
 ghost use lib.ListN.{length, drop};
 ghost use Rattle.relations.specs.Limits.{planNodeWords, tripleLimit, pairLimit, columnLimit};
 ghost use Rattle.relations.specs.Columns.{listed};
 ghost use Rattle.relations.specs.Plan.{widthAt};
-ghost use Rattle.relations.specs.Legality.{lower, distinct, legalSides};
+ghost use Rattle.relations.specs.Legality.{distinct, legalSides};
 ghost use Rattle.relations.specs.PlanWords.{readNode};
 ghost use Rattle.catalogue.specs.Stored.{relationsOf, columnsOf};
 ghost use Rattle.plans.specs.Decoding.{spaced, decoded};

@@ -2,11 +2,11 @@
 ghost use mathlib.Core.Path.{_≡_};
 ghost use mathlib.Core.Bool.{cond, _&&_};
 ghost use Prim.Native.Nat.{_+_, _*_, _≤_, _<_};
-ghost use lib.ListN.{length, getD, drop};
-ghost use Rattle.relations.specs.Limits.{planNodeWords, headWords};
+ghost use lib.ListN.{length, drop};
+ghost use Rattle.relations.specs.Limits.{planNodeWords};
 ghost use Rattle.relations.specs.Lists.{all};
 ghost use Rattle.relations.specs.Legality.{between};
-ghost use Rattle.relations.specs.PlanWords.{shapeOf, shapeFits, allZero, readNode};
+ghost use Rattle.relations.specs.PlanWords.{shapeOf, allZero, readNode};
 ghost use Rattle.plans.specs.Decoding.{spaced, operationIn, shapeIn, fits, headIn, operatorsKnown, decoded};
 use catalogue::judging::wide;
 use relations::limits::COLUMNS;

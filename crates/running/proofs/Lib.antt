@@ -1,7 +1,4 @@
 -- In reading order.
-pub mod LoadLaws
-pub mod StandLaws
-pub mod NodeLaws
 pub mod SizeLaws
 pub mod NextLaws
 pub mod RunLaws

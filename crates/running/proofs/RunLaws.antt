@@ -35,14 +35,14 @@ use Rattle.catalogue.specs.Stored.{relationsOf, columnsOf, storedTables}
 use Rattle.plans.specs.Judging.{legalRead, judgePlanNodes, planJudgement, nodesIn, nodesOfPlan}
 use Rattle.plans.specs.declared.judging.PlanJudgement.the-variants.{Legal}
 use Rattle.plans.proofs.PlanTheorem.{judged-exactly}
-use Rattle.running.specs.Standing.{valuesIn, noValue, valueNamed, standing, StandsBefore, Stand}
-use Rattle.running.specs.NodeRun.{placedOf, NodeRun}
+use Rattle.node_values.specs.Standing.{valuesIn, noValue, valueNamed, standing, StandsBefore, Stand}
+use Rattle.node_values.specs.NodeRun.{placedOf, NodeRun}
 use Rattle.running.specs.RunCall.{fits, passesAt, fitOf, lastPlace, planRoom, fitWithin}
 use Rattle.running.specs.PlanRun.{Answered}
-use Rattle.running.specs.declared.node.Made.{Made}
-use Rattle.running.specs.declared.node.Made.the-variants.{Value as Value·made, NoRoom}
+use Rattle.node_values.specs.declared.node.Made.{Made}
+use Rattle.node_values.specs.declared.node.Made.the-variants.{Value as Value·made, NoRoom}
 use Rattle.catalogue.proofs.TableLaws.{tables-wide, has-column}
-use Rattle.running.proofs.StandLaws.{values-many, standing-at, value-inside, value-stands, standing-more, stand-more}
+use Rattle.node_values.proofs.StandLaws.{values-many, standing-at, value-inside, value-stands, standing-more, stand-more}
 use Rattle.running.proofs.SizeLaws.{sizesFrom, sizes-all, sizes-none, sizes-next, fit-none, fit-on, fit-off, total, room-total}
 use Rattle.running.proofs.NextLaws.{Next, next-node, run-next, wide-candidates, Sized, judged-sized}
 

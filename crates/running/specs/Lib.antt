@@ -2,5 +2,3 @@
 pub mod RunCall
 pub mod RunBounds
 pub mod PlanRun
-pub mod Standing
-pub mod NodeRun

@@ -8,9 +8,9 @@ ghost use Rattle.plans.specs.Judging.{planJudgement, nodesOfPlan};
 ghost use Rattle.values.specs.Building.{Blank};
 ghost use Rattle.running.specs.RunCall.{runNumbers, runOutcome, capacityOf, fitWithin, ranOutcome};
 ghost use Rattle.running.specs.PlanRun.{PlanRun};
-use crate::node::Made;
-use crate::node::run_node;
 use catalogue::judging::tables_ok;
+use node_values::node::Made;
+use node_values::node::run_node;
 use plans::judging::PlanJudgement;
 use plans::judging::judge_plan;
 use relations::limits::PLAN_NODE_WORDS;
@@ -19,8 +19,6 @@ use relations::limits::WORDS;
 use values::clearing::clear_from;
 use values::placing::write_row;
 use values::rows::Value;
-
-pub mod node;
 
 pub enum Ran {
     Done {

@@ -159,6 +159,7 @@ module _ {words plan scope : List ℕ} {rule : ShortRule} {x width condition y n
   rule-fits opposite more h e =
       record {
         leaves-fit = f .fit;
+        variable = r .variable;
         some-columns = r .some-columns;
         few-columns = r .few-columns;
         some-nodes = r .some-nodes;

@@ -1,10 +1,10 @@
 -- What the short rules ask for. The nodes that they write are those of calculus' ShortRules; the nodes of a rule's range stand there already, so the rule is given none. Assumes nothing.
-use Prim.Native.Nat.{ℕ, _+_, _≤_}
+use Prim.Native.Nat.{ℕ, _+_, _≤_, _<_}
 use mathlib.Core.Path.{_≡_}
 use mathlib.Core.Bool.{Bool, true, false, cond, _||_}
 use mathlib.Core.List.{List, [], _∷_, _++_}
 use lib.ListN.{length}
-use Rattle.relations.specs.Limits.{columnLimit, tripleLimit, pairLimit, questionNodeLimit}
+use Rattle.relations.specs.Limits.{columnLimit, variableCount, tripleLimit, pairLimit, questionNodeLimit}
 use Rattle.relations.specs.Lists.{filter}
 use Rattle.relations.specs.Nodes.{Node}
 use Rattle.calculus.specs.Question.{Atom, Condition, conditionNodes}
@@ -60,6 +60,7 @@ dividendNodes y z width atoms n =
 -- a rule can write behind a range of x, and so many nodes more than its selects
 pub record RuleFits (words plan : List ℕ) (opposite : Bool) (found : List ℕ) (x width n more : ℕ) : Type 0 where
   pub leaves-fit : LeavesFit words found
+  pub variable : x < variableCount
   pub some-columns : 1 ≤ width
   pub few-columns : width ≤ columnLimit
   pub some-nodes : 1 ≤ n
@@ -77,6 +78,7 @@ pub record RuleReady (words plan scope : List ℕ) (rule : ShortRule) (x width c
   pub small : conditionNodes (conditionAt words condition) ≤ questionNodeLimit
   pub atoms : ruleAtoms rule x y (leaves (conditionAt words condition)) ≡ true
   pub scope-fits : ScopeFits scope
+  pub variable : x < variableCount
   pub some-columns : 1 ≤ width
   pub few-columns : width ≤ columnLimit
   pub some-nodes : 1 ≤ n

@@ -4,7 +4,7 @@ ghost use mathlib.Core.Bool.{false};
 ghost use mathlib.Core.List.{[], _∷_, map};
 ghost use Prim.Native.Nat.{_+_, _≤_, _<_, pred};
 ghost use lib.ListN.{length};
-ghost use Rattle.relations.specs.Limits.{columnLimit, listWords, tripleLimit, pairLimit};
+ghost use Rattle.relations.specs.Limits.{columnLimit, variableCount, listWords, tripleLimit, pairLimit};
 ghost use Rattle.relations.specs.Lists.{flat, filter};
 ghost use Rattle.relations.specs.PlanWords.{tripleWords, pairWords};
 ghost use Rattle.calculus.specs.Leaves.{leaves, aloneOn, comparesWithOther, equatesWith, equatesOutside, ownAttribute};
@@ -33,7 +33,7 @@ use conditions::atom::turned;
 use conditions::leaves::LEAF_WORDS;
 use conditions::leaves::collect;
 use conditions::leaves::leaf;
-use conditions::scope::SCOPE_WORDS;
+use conditions::scope::SCOPE_BYTES;
 use conditions::scope::column_of;
 use conditions::scope::extend;
 use emission::emit::Comparand;
@@ -54,7 +54,7 @@ use nodes::node::Operand;
 use terms::attribute::Attribute;
 
 // Atom: select. A select keeps the atom's sides.
-fn write_select(scope: &[u32; SCOPE_WORDS], atom: Atom, p: u32, plan: &mut [u32], n: u32) -> u32
+fn write_select(scope: &[u8; SCOPE_BYTES], atom: Atom, p: u32, plan: &mut [u32], n: u32) -> u32
     requires { ⌜ ScopeFits (now scope) × AtomNarrow atom × Room (now plan) n 1 ⌝ }
     ensures { λ r. ⌜ Written (now (plan .entry)) n (selectNode (scopeOf (now (scope .entry))) p (atomOf atom) ∷ []) (now (plan .exit)) r ⌝ }
 {
@@ -82,7 +82,7 @@ fn write_select(scope: &[u32; SCOPE_WORDS], atom: Atom, p: u32, plan: &mut [u32]
 }
 
 // The triple of an atom that compares x with another variable: P's column is on the left, and the operator is turned when the sides are.
-fn with_triple_of(list: NodeList, scope: &[u32; SCOPE_WORDS], x: u32, atom: Atom) -> NodeList
+fn with_triple_of(list: NodeList, scope: &[u8; SCOPE_BYTES], x: u32, atom: Atom) -> NodeList
     requires { ⌜ ScopeFits (now scope) × AtomNarrow atom × (list .used + length (flat tripleWords (triplesOf (scopeOf (now scope)) x (atomOf atom ∷ []))) ≤ listWords) ⌝ }
     ensures { λ r. ⌜ r ≡ grownBy list (flat tripleWords (triplesOf (scopeOf (now (scope .entry))) x (atomOf atom ∷ []))) ⌝ }
 {
@@ -99,7 +99,7 @@ fn with_triple_of(list: NodeList, scope: &[u32; SCOPE_WORDS], x: u32, atom: Atom
 
 fn triples_of(
     words: &[u32],
-    scope: &[u32; SCOPE_WORDS],
+    scope: &[u8; SCOPE_BYTES],
     x: u32,
     leaves: &[u32; LEAF_WORDS],
     opposite: bool,
@@ -119,7 +119,7 @@ fn triples_of(
 }
 
 // A select of an atom on x alone, on the value before.
-fn write_if_alone(own: &[u32; SCOPE_WORDS], x: u32, atom: Atom, plan: &mut [u32], n: u32) -> u32
+fn write_if_alone(own: &[u8; SCOPE_BYTES], x: u32, atom: Atom, plan: &mut [u32], n: u32) -> u32
     requires { ⌜ ScopeFits (now own) × AtomNarrow atom × (1 ≤ n) × Room (now plan) n (length (filter (aloneOn x) (atomOf atom ∷ []))) ⌝ }
     ensures { λ r. ⌜ Written (now (plan .entry)) n (selectNodes (scopeOf (now (own .entry))) (filter (aloneOn x) (atomOf atom ∷ [])) (pred n) n) (now (plan .exit)) r ⌝ }
 {
@@ -132,7 +132,7 @@ fn write_if_alone(own: &[u32; SCOPE_WORDS], x: u32, atom: Atom, plan: &mut [u32]
 // A select for each leaf on x alone, each on the value before.
 fn write_selects(
     words: &[u32],
-    own: &[u32; SCOPE_WORDS],
+    own: &[u8; SCOPE_BYTES],
     x: u32,
     leaves: &[u32; LEAF_WORDS],
     opposite: bool,
@@ -163,10 +163,10 @@ fn write_own_selects(
     plan: &mut [u32],
     n: u32,
 ) -> u32
-    requires { ⌜ LeavesFit (now words) (now leaves) × (1 ≤ width) × (width ≤ columnLimit) × (1 ≤ n) × Room (now plan) n (length (filter (aloneOn x) (atomsOf (now words) opposite (now leaves)))) ⌝ }
+    requires { ⌜ (x < variableCount) × LeavesFit (now words) (now leaves) × (1 ≤ width) × (width ≤ columnLimit) × (1 ≤ n) × Room (now plan) n (length (filter (aloneOn x) (atomsOf (now words) opposite (now leaves)))) ⌝ }
     ensures { λ r. ⌜ Written (now (plan .entry)) n (restrictedRange x width (atomsOf (now (words .entry)) opposite (now (leaves .entry))) [] n) (now (plan .exit)) r ⌝ }
 {
-    let mut own = [0u32; SCOPE_WORDS];
+    let mut own = [0u8; SCOPE_BYTES];
     extend(&mut own, x, width);
     write_selects(words, &own, x, leaves, opposite, plan, n)
 }
@@ -174,7 +174,7 @@ fn write_own_selects(
 // A semijoin from P with x's range, restricted to the leaves on x alone, which stands before node n; or an antijoin.
 fn write_join(
     words: &[u32],
-    scope: &[u32; SCOPE_WORDS],
+    scope: &[u8; SCOPE_BYTES],
     anti: bool,
     x: u32,
     width: u32,
@@ -197,7 +197,7 @@ fn write_join(
 
 // Atom: select. S6, not above an atom, selects its opposite.
 pub fn write_atom(
-    scope: &[u32; SCOPE_WORDS],
+    scope: &[u8; SCOPE_BYTES],
     opposite: bool,
     atom: Atom,
     p: u32,
@@ -290,7 +290,7 @@ fn division_pairs(words: &[u32], z: u32, y: u32, leaves: &[u32; LEAF_WORDS], fir
 // Triples (P's column, =, column) for the equations with a variable outside; the columns count up from 1.
 fn outside_triples(
     words: &[u32],
-    scope: &[u32; SCOPE_WORDS],
+    scope: &[u8; SCOPE_BYTES],
     z: u32,
     y: u32,
     leaves: &[u32; LEAF_WORDS],
@@ -336,7 +336,7 @@ fn write_dividend(
 // S5: "every y", whose range is node k, above "some z", whose range stands before node n.
 fn write_division(
     words: &[u32],
-    scope: &[u32; SCOPE_WORDS],
+    scope: &[u8; SCOPE_BYTES],
     y: u32,
     k: u32,
     z: u32,
@@ -363,7 +363,7 @@ fn write_division(
 // holds their leaves and lists.
 pub fn write_rule(
     words: &[u32],
-    scope: &[u32; SCOPE_WORDS],
+    scope: &[u8; SCOPE_BYTES],
     rule: ShortRule,
     x: u32,
     width: u32,

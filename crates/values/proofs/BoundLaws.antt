@@ -3,7 +3,7 @@ use mathlib.Core.Path.{_≡_, refl, sym, ap, _∙_}
 use Prim.Native.Nat.{ℕ, zero, suc, _+_, _-_, _*_, _≤_, _<_}
 use native.Mathlib.Nat.{zero-mul, suc-mul, add-zero}
 use native.Mathlib.Omega.{arith}
-use mathlib.Core.Bool.{Bool, true, false, _&&_, _||_, cond, So, false≢true}
+use mathlib.Core.Bool.{Bool, true, false, _&&_, _||_, So, false≢true}
 use mathlib.Core.Logic.{_⊎_, inl, inr}
 use mathlib.Core.List.{List, [], _∷_}
 use lib.ListN.{length, take, drop}
@@ -15,9 +15,9 @@ use Rattle.relations.specs.Rows.{Row, rowBefore}
 use Rattle.relations.specs.Values.{Rows, Wide, AllAfter, Ascending}
 use Rattle.relations.proofs.BoolLaws.{true-and-false, true-or-false, not-so, and-left, and-right, and-both, or-cases, or-by-left, or-by-right}
 use Rattle.relations.proofs.ListLaws.{any-none, all-zip, all-mono}
-use Rattle.values.specs.Words.{part, rowIn, rowsAt}
+use Rattle.values.specs.Words.{rowIn, rowsAt}
 use Rattle.values.specs.Places.{rowsBefore, NoneBefore, NoneBehind}
-use Rattle.values.proofs.RowsLaws.{rowsAt-row, rowsAt-wide, row-inside, length-row, times-step}
+use Rattle.values.proofs.RowsLaws.{rowsAt-row, rowsAt-wide, row-inside, times-step}
 
 -- a bound that stands before the first words of a row does so for each row behind it
 behind-later : (bound row later : Row) → So (rowBefore bound (take (length bound) row)) → So (rowBefore row later) → So (rowBefore bound (take (length bound) later))

@@ -1,16 +1,16 @@
 -- Laws of `build`: the candidates put in from left to right. From no row they make the canonical value of the candidates, and it is refused
 -- exactly when the whole of that value has no room. Assumes nothing.
-use mathlib.Core.Path.{_≡_, refl, sym, ap, _∙_}
-use Prim.Native.Nat.{ℕ, _+_, _*_, _≤_, _<_}
+use mathlib.Core.Path.{_≡_, refl, _∙_}
+use Prim.Native.Nat.{ℕ, _+_, _≤_, _<_}
 use native.Mathlib.Omega.{arith}
-use mathlib.Core.Bool.{Bool, true, false, _||_, cond}
+use mathlib.Core.Bool.{Bool, true, false, cond}
 use mathlib.Core.Logic.{_⊎_, inl, inr}
 use mathlib.Core.List.{List, [], _∷_, _++_}
 use lib.ListN.{length, length-append}
 use lib.Dec.{leb}
-use borrow.Author.Tests.{le-leb, lt-leb, leb-true, leb-false}
+use borrow.Author.Tests.{le-leb, lt-leb, leb-true}
 use Rattle.relations.specs.Rows.{Row, rowBefore, sameRow}
-use Rattle.relations.specs.Values.{Rows, Wide, Ascending, member, insertRow, placeRows}
+use Rattle.relations.specs.Values.{Rows, Wide, Ascending, insertRow, placeRows}
 use Rattle.relations.proofs.ValueLaws.{ascending-insertRow, all-insertRow}
 use Rattle.values.specs.Words.{wordsOf}
 use Rattle.values.specs.Building.{Built, done, stopped, build, answerOf, leftOf}

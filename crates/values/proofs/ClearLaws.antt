@@ -2,9 +2,8 @@
 use mathlib.Core.Path.{_≡_, refl, sym, ap, ap₂, _∙_}
 use Prim.Native.Nat.{ℕ, zero, suc, _+_, _-_, _≤_, _<_}
 use native.Mathlib.Omega.{arith}
-use native.Mathlib.Numerals.{add-one}
 use mathlib.Core.List.{List, [], _∷_, _++_, append-nil}
-use lib.ListN.{length, getD, set, take, drop, replicate, length-append, length-drop, length-replicate, getD-replicate, drop-of-length-le, take-append-drop, replicate-append-replicate}
+use lib.ListN.{length, getD, set, take, drop, replicate, length-drop, length-replicate, getD-replicate, drop-of-length-le, take-append-drop, replicate-append-replicate}
 use lib.Seq.{sets, length-sets, sets-eq, length-take-le, drop-at, getD-drop, ext-getD}
 use Rattle.relations.proofs.StoreLaws.{sets-append}
 use Rattle.values.specs.Words.{part}

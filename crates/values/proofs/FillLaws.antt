@@ -5,19 +5,19 @@ use native.Mathlib.Nat.{zero-mul}
 use native.Mathlib.Omega.{arith}
 use mathlib.Core.Bool.{Bool, true, false}
 use mathlib.Core.Logic.{_⊎_, inl, inr}
-use mathlib.Core.List.{List, [], _∷_, _++_, append-nil}
+use mathlib.Core.List.{List, [], _++_, append-nil}
 use lib.ListN.{length}
 use lib.Seq.{sets, length-sets}
 use lib.Dec.{leb}
 use borrow.Author.Tests.{leb-true, leb-false}
-use Rattle.relations.specs.Values.{Rows, Wide, Ascending, canonical, placeRows}
+use Rattle.relations.specs.Values.{Rows, Ascending, canonical, placeRows}
 use Rattle.relations.proofs.PlaceLaws.{placeRows-canonical}
 use Rattle.values.specs.Words.{part, rowsAt, wordsOf}
 use Rattle.values.specs.Building.{Built, done, stopped, build, answerOf, leftOf, Builds}
 use Rattle.values.specs.declared.placing.Placed.{Placed}
 use Rattle.values.specs.declared.placing.Placed.the-variants.{Rows as Made, Full}
 use Rattle.values.proofs.WordLaws.{sets-again, part-before}
-use Rattle.values.proofs.RowsLaws.{rowsAt-wide, length-rowsAt, length-words, rowsAt-before, rowsAt-sets, rowsAt-none, value-words, length-value, words-none}
+use Rattle.values.proofs.RowsLaws.{rowsAt-wide, length-rowsAt, length-words, rowsAt-before, rowsAt-sets, rowsAt-none, value-words, length-value}
 use Rattle.values.proofs.BuildLaws.{build-fits, build-cases, build-append, thenBuild, build-grows, build-room, build-ascending, went, refused}
 
 -- Of all candidates, to be put into the value of `rows` rows in `before`, those of `todo` are still to be put into the value of `made` rows in `now`.

@@ -1,7 +1,7 @@
 -- Laws of values in words: rows read, their words, and what stores in front of them or over them do. Assumes nothing.
 use mathlib.Core.Path.{_≡_, refl, sym, ap, ap₂, _∙_}
 use Prim.Native.Nat.{ℕ, zero, suc, _+_, _-_, _*_, _≤_, _<_}
-use native.Mathlib.Nat.{zero-mul, suc-mul, mul-suc, add-comm, add-assoc, add-zero}
+use native.Mathlib.Nat.{zero-mul, suc-mul, mul-suc, add-comm, add-zero}
 use native.Mathlib.Omega.{arith}
 use mathlib.Core.List.{List, [], _∷_, _++_, append-assoc}
 use lib.ListN.{length, getD, take, drop, length-append}

@@ -1,13 +1,12 @@
 -- Laws of the words of a buffer: a part of it, and a run of words stored over it (`sets`). Assumes nothing.
-use mathlib.Core.Path.{_≡_, refl, sym, ap, ap₂, _∙_, subst}
-use Prim.Native.Nat.{ℕ, zero, suc, _+_, _-_, _*_, _≤_, _<_}
-use native.Mathlib.Nat.{add-zero, add-suc, suc-add, add-assoc, add-comm, lt-irrefl, le-of-lt}
+use mathlib.Core.Path.{_≡_, refl, sym, ap, ap₂, _∙_}
+use Prim.Native.Nat.{ℕ, zero, suc, _+_, _-_, _≤_, _<_}
+use native.Mathlib.Nat.{suc-add}
 use native.Mathlib.Numerals.{add-one}
 use native.Mathlib.Omega.{arith}
-use mathlib.Core.Logic.{_≢_}
-use mathlib.Core.List.{List, [], _∷_, _++_, append-assoc, append-nil}
-use lib.ListN.{length, getD, set, take, drop, length-set, length-take, length-drop, length-append, take-append-drop}
-use lib.Seq.{sets, length-sets, sets-eq, take-set-le, drop-set-lt, getD-set-other, getD-set-same, set-comm, set-set, take-append-le, drop-append-le, take-at, drop-at, length-take-le, take-suc, take-suc-set, drop-cons, getD-drop, getD-take, drop-drop, take-take, take-nil, drop-nil, take-add, ext-getD}
+use mathlib.Core.List.{List, [], _∷_, _++_, append-assoc}
+use lib.ListN.{length, getD, set, take, drop, length-drop, take-append-drop}
+use lib.Seq.{sets, length-sets, sets-eq, take-set-le, getD-set-other, set-comm, set-set, take-at, drop-at, length-take-le, take-suc, drop-cons, getD-drop, getD-take, drop-drop, take-add, ext-getD}
 use Rattle.relations.proofs.StoreLaws.{sets-append}
 use Rattle.values.specs.Words.{part}
 

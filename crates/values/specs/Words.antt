@@ -1,7 +1,7 @@
 -- Values in words: rows of one width, one after another, in a part of a buffer.
 use mathlib.Core.Bool.{Bool, cond}
 use mathlib.Core.List.{List, [], _∷_, _++_}
-use Prim.Native.Nat.{ℕ, zero, suc, _+_, _*_, _≤_}
+use Prim.Native.Nat.{ℕ, zero, suc, _+_, _*_}
 use lib.Dec.{leb}
 use lib.ListN.{length, take, drop}
 use Rattle.relations.specs.Rows.{Row}

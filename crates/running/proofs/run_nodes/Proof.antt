@@ -1,12 +1,12 @@
-use Rattle.running.specs.declared.node.Made.the-variants.{Value}
+use Rattle.node_values.specs.declared.node.Made.the-variants.{Value}
 use mathlib.Core.Path.{_≡_, refl, sym}
 use Prim.Native.Nat.{ℕ, _+_, _*_, _<_}
 use lib.ListN.{take, drop, replicate, length-drop}
 use lib.Seq.{length-take-le}
 use Rattle.relations.specs.Limits.{planNodeLimit, planNodeWords}
 use Rattle.relations.specs.PlanWords.{readNode}
-use Rattle.running.specs.Standing.{valuesIn, standing}
-use Rattle.running.specs.NodeRun.{NodeRun}
+use Rattle.node_values.specs.Standing.{valuesIn, standing}
+use Rattle.node_values.specs.NodeRun.{NodeRun}
 use Rattle.running.proofs.RunLaws.{nodes-few, plan-long, running-start, running-legal, running-off, running-fits, running-on, running-heavy, running-end}
 use lib.ListN.{length}
 use Rattle.running.proofs.RunLaws.{Running}
@@ -17,7 +17,7 @@ use Rattle.running.proofs.run_nodes.Statement.{statement}
 use Rattle.running.proofs.run_nodes.Tie as tie
 use Rattle.running.proofs.run_nodes.Reads as reads
 use Rattle.running.proofs.run_nodes.Lts as lts
-use Rattle.running.proofs.node.run_node.Reads as run-node-reads
+use Rattle.node_values.proofs.node.run_node.Reads as run-node-reads
 
 abbrev Inv-loop : tie.InvT-loop
 Inv-loop catalogue tables plan nodes work₀ widths₀ rows₀ bases₀ heavy₀ out₀ place₀ at₀ work widths rows bases heavy out place at =

@@ -3,7 +3,7 @@ use mathlib.Core.Path.{_≡_}
 use Rattle.conditions.specs.Scopes.{variablesCarried, columnsCarried, entryAt, scopeOf}
 use Rattle.conditions.specs.Entries.{entries}
 use Rattle.calculus.specs.Scope.{columnsIn, columnNumber}
-use Prim.Native.Nat.{_+_}
+use Prim.Native.Nat.{_+_, _*_}
 use native.Mathlib.Omega.{arith}
 use Rattle.conditions.proofs.scope.column_number.Statement.{statement}
 use Rattle.conditions.proofs.scope.column_number.Tie as tie
@@ -28,11 +28,11 @@ mul-at c = omega arith
 add-at : tie.Need-add-at Inv-loop μ-loop
 add-at c = omega arith
 
-mul-if1 : tie.Need-mul-if1 Inv-loop μ-loop
-mul-if1 c = omega arith
-
 element-copy-out-if1 : tie.Need-element-copy-out-if1 Inv-loop μ-loop
 element-copy-out-if1 c = omega arith
+
+cast-if1 : tie.Need-cast-if1 Inv-loop μ-loop
+cast-if1 c = omega (arith, c .before .before .before .before .pre .0 .small (2 + 2 * c .before .before .loop .i))
 
 add-result : tie.Need-add-result Inv-loop μ-loop
 add-result c = omega arith
@@ -43,11 +43,11 @@ returns c = omega (arith, c .before .before .before .loop .inv .2, column-here (
 add-passed : tie.Need-add-passed Inv-loop μ-loop
 add-passed c = omega arith
 
-mul-passed : tie.Need-mul-passed Inv-loop μ-loop
-mul-passed c = omega arith
-
 element-copy-out-passed : tie.Need-element-copy-out-passed Inv-loop μ-loop
 element-copy-out-passed c = omega arith
+
+cast-passed : tie.Need-cast-passed Inv-loop μ-loop
+cast-passed c = omega (arith, c .before .before .before .before .before .before .pre .0 .small (2 + 2 * c .before .before .before .before .loop .i + 1))
 
 add-passed-2 : tie.Need-add-passed-2 Inv-loop μ-loop
 add-passed-2 c = omega (arith, columns-here (c .before .before .before .before .before .before .args .scope .now) (c .before .before .before .before .before .before .args .variable) (c .before .before .before .before .loop .i) (c .before .before .before .before .loop .left) (omega arith))
@@ -80,13 +80,13 @@ column-number-spec =
     loop-holds
     mul-at
     add-at
-    mul-if1
     element-copy-out-if1
+    cast-if1
     add-result
     returns
     add-passed
-    mul-passed
     element-copy-out-passed
+    cast-passed
     add-passed-2
     add-i
     sub-left

@@ -19,17 +19,17 @@ mul-at c = search needs
 add-at : tie.Need-add-at
 add-at c = search needs
 
-mul-scope : tie.Need-mul-scope
-mul-scope c = search needs
+cast-scope : tie.Need-cast-scope
+cast-scope c = search needs
 
 element-write-scope : tie.Need-element-write-scope
 element-write-scope c = search needs
 
+cast-scope-2 : tie.Need-cast-scope-2
+cast-scope-2 c = search needs
+
 add-scope : tie.Need-add-scope
 add-scope c = search needs
-
-mul-scope-2 : tie.Need-mul-scope-2
-mul-scope-2 c = search needs
 
 element-write-scope-2 : tie.Need-element-write-scope-2
 element-write-scope-2 c = search needs
@@ -40,6 +40,9 @@ add-scope-2 c = search needs
 element-write-scope-3 : tie.Need-element-write-scope-3
 element-write-scope-3 c = search needs
 
+cast-scope-3 : tie.Need-cast-scope-3
+cast-scope-3 c = search needs
+
 add-scope-3 : tie.Need-add-scope-3
 add-scope-3 c = search needs
 
@@ -49,7 +52,7 @@ element-write-scope-4 c = search needs
 returns : tie.Need-returns
 unfolding withVariable
 returns c = let s = c .before .before in
-    extended (s .args .scope .now) (s .args .variable) (s .args .width) (s .pre .0) (s .pre .1) (s .pre .2)
+    extended (s .args .scope .now) (s .args .variable) (s .args .width) (s .pre .0) (s .pre .1) (s .pre .2) (s .pre .3)
 
 pub extend-spec : {M : Type 1} → statement M
 extend-spec =
@@ -60,13 +63,14 @@ extend-spec =
     cast-at
     mul-at
     add-at
-    mul-scope
+    cast-scope
     element-write-scope
+    cast-scope-2
     add-scope
-    mul-scope-2
     element-write-scope-2
     add-scope-2
     element-write-scope-3
+    cast-scope-3
     add-scope-3
     element-write-scope-4
     returns)

@@ -3,7 +3,7 @@ use mathlib.Core.Path.{_∙_, sym, _≡_, refl}
 use Rattle.conditions.specs.Scopes.{variablesCarried, entryAt, scopeOf}
 use Rattle.conditions.specs.Entries.{entries}
 use Rattle.calculus.specs.Scope.{widthIn}
-use Prim.Native.Nat.{_+_}
+use Prim.Native.Nat.{_+_, _*_}
 use native.Mathlib.Omega.{arith}
 use Rattle.conditions.proofs.scope.width_in.Statement.{statement}
 use Rattle.conditions.proofs.scope.width_in.Tie as tie
@@ -26,20 +26,20 @@ mul-at c = omega arith
 add-at : tie.Need-add-at Inv-loop μ-loop
 add-at c = omega arith
 
-mul-if1 : tie.Need-mul-if1 Inv-loop μ-loop
-mul-if1 c = omega arith
-
 element-copy-out-if1 : tie.Need-element-copy-out-if1 Inv-loop μ-loop
 element-copy-out-if1 c = omega arith
+
+cast-if1 : tie.Need-cast-if1 Inv-loop μ-loop
+cast-if1 c = omega (arith, c .before .before .before .before .pre .small (2 + 2 * c .before .before .loop .i))
 
 add-result : tie.Need-add-result Inv-loop μ-loop
 add-result c = omega arith
 
-mul-result : tie.Need-mul-result Inv-loop μ-loop
-mul-result c = omega arith
-
 element-copy-out-result : tie.Need-element-copy-out-result Inv-loop μ-loop
 element-copy-out-result c = omega arith
+
+cast-result : tie.Need-cast-result Inv-loop μ-loop
+cast-result c = omega (arith, c .before .before .before .before .before .before .pre .small (2 + 2 * c .before .before .before .before .loop .i + 1))
 
 returns : tie.Need-returns Inv-loop μ-loop
 returns c = sym (c .before .before .before .before .loop .inv .1 ∙ width-here (c .before .before .before .before .before .before .args .scope .now) (c .before .before .before .before .before .before .args .variable) (c .before .before .before .before .loop .i) (c .before .before .before .before .loop .left) (omega arith) (c .before .if1 .taken))
@@ -70,11 +70,11 @@ width-in-spec =
     loop-holds
     mul-at
     add-at
-    mul-if1
     element-copy-out-if1
+    cast-if1
     add-result
-    mul-result
     element-copy-out-result
+    cast-result
     returns
     add-i
     sub-left

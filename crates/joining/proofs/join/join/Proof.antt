@@ -1,3 +1,4 @@
+use Rattle.relations.specs.Columns.{meets}
 use Rattle.joining.proofs.JoinLaws.{joined-now}
 use Rattle.operations.proofs.FillSteps.{builds-by}
 use Rattle.operations.proofs.RowSteps.{flat-step, no-rows}
@@ -34,7 +35,7 @@ loop-holds c = let s = c .before .before .args in
 -- src/join.rt:76:15
 join-row-requires : tie.Need-join-row-requires Inv-loop μ-loop
 join-row-requires c κs = let s = c .before .before .before .before .before .args in let l = c .before .before .loop in
-    (c .before .before .before .before .before .pre .0, c .before .before .before .before .before .pre .1, c .before .before .before .before .before .pre .2, omega (arith, times-step (l .more) (s .left .width) (omega arith)), c .before .before .before .before .before .pre .4, l .inv .1 .fits, l .inv .1 .ascending, rw (filled-rows (l .inv .1) (s .right .width) (s .right .rows) (s .right .base) (c .before .before .before .before .before .pre .4)) (c .before .before .before .before .before .pre .6))
+    (c .before .before .before .before .before .pre .0, c .before .before .before .before .before .pre .1, c .before .before .before .before .before .pre .2, omega (arith, times-step (l .more) (s .left .width) (omega arith)), c .before .before .before .before .before .pre .4, l .inv .1 .fits, l .inv .1 .ascending, rw (filled-rows (l .inv .1) (s .right .width) (s .right .rows) (s .right .base) (c .before .before .before .before .before .pre .4)) (c .before .before .before .before .before .pre .6), c .before .before .before .before .before .pre .7)
 
 -- src/join.rt:77:26
 enum-known-rows : tie.Need-enum-known-rows Inv-loop μ-loop
@@ -53,8 +54,8 @@ returns : tie.Need-returns Inv-loop μ-loop
 returns c = let s = c .before .before .before .before .before .before .before .before .before .before .args in let l = c .before .before .before .before .before .before .before .loop in let w = s .left .width in let ts = triplesIn (s .count) (s .list .now) in
     let ahead : l .at + w ≤ s .out = omega (arith, times-step (l .more) w (omega arith)) in
     filled-off (l .inv .1) (joinCandidates ts (rowsAt w (l .more - 1) (l .at + w) (s .work .now)) (rowsOf (s .right) (s .work .now)))
-    (flat-step w (l .more) (l .at) (s .work .now) (omega arith) (omega arith) (λ t. joined ts t (rowsOf (s .right) (s .work .now))))
-    (builds-by (joined-now (l .inv .1) ts (l .at) w ahead (s .right) (c .before .before .before .before .before .before .before .before .before .before .pre .4)) (c .before .before .before .before .join-row .ensures)) (c .enum-told .given .1)
+    (flat-step w (l .more) (l .at) (s .work .now) (omega arith) (omega arith) (λ t. joined (meets ts t) t (rowsOf (s .right) (s .work .now))))
+    (builds-by (joined-now (l .inv .1) (l .at) w ahead ts (s .right) (c .before .before .before .before .before .before .before .before .before .before .pre .4)) (c .before .before .before .before .join-row .ensures)) (c .enum-told .given .1)
 
 -- src/join.rt:84:9
 add-at : tie.Need-add-at Inv-loop μ-loop
@@ -74,8 +75,8 @@ loop-again c = let s = c .before .before .before .before .before .before .before
     let ahead : l .at + w ≤ s .out = omega (arith, times-step (l .more) w (omega arith)) in (
       omega (arith, times-step (l .more) w (omega arith)),
       filled-on (l .inv .1) (joinCandidates ts (rowsAt w (l .more - 1) (l .at + w) (s .work .now)) (rowsOf (s .right) (s .work .now)))
-          (flat-step w (l .more) (l .at) (s .work .now) (omega arith) (omega arith) (λ t. joined ts t (rowsOf (s .right) (s .work .now))))
-          (builds-by (joined-now (l .inv .1) ts (l .at) w ahead (s .right) (c .before .before .before .before .before .before .before .before .before .before .before .pre .4)) (c .before .before .before .before .before .join-row .ensures)) (c .before .rows .given .0 .0) (c .before .rows .given .1),
+          (flat-step w (l .more) (l .at) (s .work .now) (omega arith) (omega arith) (λ t. joined (meets ts t) t (rowsOf (s .right) (s .work .now))))
+          (builds-by (joined-now (l .inv .1) (l .at) w ahead ts (s .right) (c .before .before .before .before .before .before .before .before .before .before .before .pre .4)) (c .before .before .before .before .before .join-row .ensures)) (c .before .rows .given .0 .0) (c .before .rows .given .1),
     )
 
 -- src/join.rt:67:1

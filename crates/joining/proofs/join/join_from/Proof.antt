@@ -9,8 +9,8 @@ use Rattle.values.proofs.FillLaws.{Filled, filled-start, filled-on, filled-off,
 use Rattle.values.proofs.RowsLaws.{times-step, times-most}
 use Rattle.values.proofs.BoundLaws.{ascending-from, ascending-next, filter-behind-words}
 use Rattle.joining.specs.Joins.{joined}
-use Rattle.operations.specs.Lists.{triplesIn}
-use Rattle.joining.proofs.BoundSteps.{times-rest}
+use Rattle.partners.specs.Sieves.{sifts}
+use Rattle.joining.proofs.RestLaws.{times-rest}
 use Rattle.operations.proofs.FillSteps.{builds-by, filled-row}
 use Rattle.joining.proofs.JoinLaws.{joined-step, pair-now}
 use Rattle.operations.proofs.RowSteps.{no-rows}
@@ -24,11 +24,11 @@ use Rattle.joining.proofs.join.join_pair.Reads as join-pair-reads
 use Rattle.values.proofs.search.stands_behind.Reads as stands-behind-reads
 
 abbrev Inv-loop : tie.InvT-loop
-Inv-loop list count work₀ a width number high out made more at₀ left₀ total₀ work at left total = (at + left * more ≤ out) × Ascending (rowsAt more left at work₀)
-    × Filled (width + more) out made total (joined (triplesIn count list) (rowIn work₀ a width) (rowsAt more left₀ at₀ work₀)) (joined (triplesIn count list) (rowIn work₀ a width) (rowsAt more left at work₀)) work₀ work
+Inv-loop sieve entries work₀ a width number high out made more at₀ left₀ total₀ work at left total = (at + left * more ≤ out) × Ascending (rowsAt more left at work₀)
+    × Filled (width + more) out made total (joined (sifts entries sieve) (rowIn work₀ a width) (rowsAt more left₀ at₀ work₀)) (joined (sifts entries sieve) (rowIn work₀ a width) (rowsAt more left at work₀)) work₀ work
 
 abbrev μ-loop : tie.MeasureT-loop
-μ-loop list count work₀ a width number high out made more at₀ left₀ total₀ work at left total = left
+μ-loop sieve entries work₀ a width number high out made more at₀ left₀ total₀ work at left total = left
 
 -- src/join.rt:174:31
 mul-at : tie.Need-mul-at Inv-loop μ-loop
@@ -47,7 +47,7 @@ loop-holds : tie.Need-loop-holds Inv-loop μ-loop
 loop-holds c = let s = c .before .before .before .before .before .args in let p = c .before .before .before .before .before .pre in let v = s .right in (
   omega (arith, times-rest (s .number) (v .rows) (v .width) (omega arith)),
   ascending-from (v .width) (v .rows) (v .base) (s .work .now) (omega arith) (s .number) (p .8) (p .7),
-  filled-start (s .width + v .width) (s .out) (s .made) (joined (triplesIn (s .count) (s .list .now)) (rowIn (s .work .now) (s .a) (s .width)) (rowsAt (v .width) (v .rows - s .number) (v .base + s .number * v .width) (s .work .now))) (s .work .now) (p .5) (p .6),
+  filled-start (s .width + v .width) (s .out) (s .made) (joined (sifts (s .entries) (s .sieve .now)) (rowIn (s .work .now) (s .a) (s .width)) (rowsAt (v .width) (v .rows - s .number) (v .base + s .number * v .width) (s .work .now))) (s .work .now) (p .5) (p .6),
 )
 
 -- src/join.rt:178:12
@@ -86,9 +86,9 @@ same-length-2 c = omega (arith, c .before .before .before .before .join-pair .ke
 returns-2 : tie.Need-returns-2 Inv-loop μ-loop
 returns-2 c = let s = c .before .before .before .before .before .before .before .before .before .before .before .before .before .before .before .before .args in let l = c .before .before .before .before .before .before .before .before .before .before .loop in let m = s .right .width in
     let ahead : l .at + m ≤ s .out = omega (arith, times-step (l .left) m (omega arith)) in
-    filled-off (l .inv .2) (joined (triplesIn (s .count) (s .list .now)) (rowIn (s .work .now) (s .a) (s .width)) (rowsAt m (l .left - 1) (l .at + m) (s .work .now)))
-    (joined-step (triplesIn (s .count) (s .list .now)) (rowIn (s .work .now) (s .a) (s .width)) m (l .left) (l .at) (s .work .now) (omega arith) (omega (arith, l .inv .2 .fits, l .inv .2 .size)))
-    (builds-by (pair-now (l .inv .2) (triplesIn (s .count) (s .list .now)) (s .a) (s .width) (c .before .before .before .before .before .before .before .before .before .before .before .before .before .before .before .before .pre .3) (l .at) m ahead) (c .before .before .before .before .join-pair .ensures)) (c .enum-told .given .1)
+    filled-off (l .inv .2) (joined (sifts (s .entries) (s .sieve .now)) (rowIn (s .work .now) (s .a) (s .width)) (rowsAt m (l .left - 1) (l .at + m) (s .work .now)))
+    (joined-step (sifts (s .entries) (s .sieve .now)) (rowIn (s .work .now) (s .a) (s .width)) m (l .left) (l .at) (s .work .now) (omega arith) (omega (arith, l .inv .2 .fits, l .inv .2 .size)))
+    (builds-by (pair-now (l .inv .2) (s .a) (s .width) (c .before .before .before .before .before .before .before .before .before .before .before .before .before .before .before .before .pre .3) (sifts (s .entries) (s .sieve .now)) (l .at) m ahead) (c .before .before .before .before .join-pair .ensures)) (c .enum-told .given .1)
 
 -- src/join.rt:189:9
 add-at-2 : tie.Need-add-at-2 Inv-loop μ-loop
@@ -108,9 +108,9 @@ loop-again c = let s = c .before .before .before .before .before .before .before
     let ahead : l .at + m ≤ s .out = omega (arith, times-step (l .left) m (omega arith)) in (
       omega (arith, times-step (l .left) m (omega arith)),
       ascending-next m (l .left) (l .at) (s .work .now) (omega (arith, l .inv .2 .fits, l .inv .2 .size)) (omega arith) (l .inv .1),
-      filled-on (l .inv .2) (joined (triplesIn (s .count) (s .list .now)) (rowIn (s .work .now) (s .a) (s .width)) (rowsAt m (l .left - 1) (l .at + m) (s .work .now)))
-          (joined-step (triplesIn (s .count) (s .list .now)) (rowIn (s .work .now) (s .a) (s .width)) m (l .left) (l .at) (s .work .now) (omega arith) (omega (arith, l .inv .2 .fits, l .inv .2 .size)))
-          (builds-by (pair-now (l .inv .2) (triplesIn (s .count) (s .list .now)) (s .a) (s .width) (c .before .before .before .before .before .before .before .before .before .before .before .before .before .before .before .before .before .pre .3) (l .at) m ahead) (c .before .before .before .before .before .join-pair .ensures)) (c .before .rows .given .0 .0) (c .before .rows .given .1),
+      filled-on (l .inv .2) (joined (sifts (s .entries) (s .sieve .now)) (rowIn (s .work .now) (s .a) (s .width)) (rowsAt m (l .left - 1) (l .at + m) (s .work .now)))
+          (joined-step (sifts (s .entries) (s .sieve .now)) (rowIn (s .work .now) (s .a) (s .width)) m (l .left) (l .at) (s .work .now) (omega arith) (omega (arith, l .inv .2 .fits, l .inv .2 .size)))
+          (builds-by (pair-now (l .inv .2) (s .a) (s .width) (c .before .before .before .before .before .before .before .before .before .before .before .before .before .before .before .before .before .pre .3) (sifts (s .entries) (s .sieve .now)) (l .at) m ahead) (c .before .before .before .before .before .join-pair .ensures)) (c .before .rows .given .0 .0) (c .before .rows .given .1),
     )
 
 -- src/join.rt:158:1
@@ -120,7 +120,7 @@ same-length-3 c = omega (arith, c .before .loop .inv .2 .size)
 -- src/join.rt:158:1
 returns-3 : tie.Need-returns-3 Inv-loop μ-loop
 returns-3 c = let s = c .before .before .before .before .before .before .before .args in let l = c .before .loop in
-    filled-end (l .inv .2) (no-rows (joined (triplesIn (s .count) (s .list .now)) (rowIn (s .work .now) (s .a) (s .width))) (s .right .width) (l .at) (s .work .now) (omega arith))
+    filled-end (l .inv .2) (no-rows (joined (sifts (s .entries) (s .sieve .now)) (rowIn (s .work .now) (s .a) (s .width))) (s .right .width) (l .at) (s .work .now) (omega arith))
 
 pub join-from-spec : {M : Type 1} → statement M
 join-from-spec =

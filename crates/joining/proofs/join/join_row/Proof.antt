@@ -1,11 +1,11 @@
-use mathlib.Core.Path.{_≡_, refl, sym, ap, ap₂, _∙_}
-use Prim.Native.Nat.{ℕ, _+_, _*_, _-_, _≤_, _<_}
-use lib.ListN.{length}
-use lib.Seq.{length-take-le}
+use mathlib.Core.Path.{_≡_, sym, ap}
 use mathlib.Core.List.{_++_, map}
+use Prim.Native.Nat.{_+_, _-_, _*_}
+use lib.Seq.{length-take-le}
 use Rattle.relations.specs.Rows.{Row}
-use Rattle.values.specs.Words.{rowIn}
+use Rattle.values.specs.Words.{rowIn, rowsAt, rowsOf}
 use Rattle.operations.proofs.FillSteps.{builds-by}
+use Rattle.joining.proofs.RestLaws.{filter-through}
 use native.Mathlib.Omega.{arith}
 use borrow.Author.Needs.{needs}
 use Rattle.joining.proofs.join.join_row.Statement.{statement}
@@ -13,41 +13,70 @@ use Rattle.joining.proofs.join.join_row.Tie as tie
 use Rattle.joining.proofs.join.join_row.Reads as reads
 use Rattle.joining.proofs.join.join_row.Lts as lts
 use Rattle.joining.proofs.join.join_from.Reads as join-from-reads
-use Rattle.joining.proofs.partners.partners_at.Reads as partners-at-reads
+use Rattle.partners.proofs.finding.partners_of.Reads as partners-of-reads
+use Rattle.partners.proofs.sieve.fill.Reads as fill-reads
+use Rattle.values.proofs.rows.row.Reads as row-reads
 
--- src/join.rt:209:9
-partners-at-requires : tie.Need-partners-at-requires
-partners-at-requires c κs = search needs
+-- src/join.rt:198:37
+row-requires : tie.Need-row-requires
+row-requires c κs = search needs
 
--- src/join.rt:222:9
-array-share-prefix-most : tie.Need-array-share-prefix-most
-array-share-prefix-most c = search needs
+-- src/join.rt:198:70
+slice-aggregate-fill : tie.Need-slice-aggregate-fill
+slice-aggregate-fill c = search needs
 
--- src/join.rt:222:9
+-- src/join.rt:198:9
+fill-requires : tie.Need-fill-requires
+fill-requires c κs = search needs
+
+-- src/join.rt:199:29
+slice-aggregate-partners-of : tie.Need-slice-aggregate-partners-of
+slice-aggregate-partners-of c = search needs
+
+-- src/join.rt:199:9
+partners-of-requires : tie.Need-partners-of-requires
+partners-of-requires c κs = search needs
+
+-- src/join.rt:204:9
 slice-aggregate-join-from : tie.Need-slice-aggregate-join-from
-slice-aggregate-join-from c = sym (length-take-le (c .before .before .before .before .partners-at .result .high .count) (c .before .before .before .before .partners-at .result .high .words) (c .before .before .before .before .partners-at .ensures .most .room))
+slice-aggregate-join-from c = search needs
 
--- src/join.rt:214:5
+-- src/join.rt:211:9
+array-share-prefix-highs : tie.Need-array-share-prefix-highs
+array-share-prefix-highs c = search needs
+
+-- src/join.rt:211:9
+slice-aggregate-join-from-2 : tie.Need-slice-aggregate-join-from-2
+slice-aggregate-join-from-2 c = sym (length-take-le (c .before .before .before .before .partners-of .result .most) (c .before .before .before .before .partners-of .result .highs) (c .before .before .before .before .partners-of .ensures .room))
+
+-- src/join.rt:203:5
 join-from-requires : tie.Need-join-from-requires
-join-from-requires c κs = let p = c .before .before .before .before .before .before .before .before .pre in let f = c .before .before .before .before .partners-at .ensures in
-    (p .0, p .1, p .2, p .3, p .4, p .5, p .6, p .7, f .inside, omega (arith, (length-take-le (c .before .before .before .before .partners-at .result .high .count) (c .before .before .before .before .partners-at .result .high .words) (c .before .before .before .before .partners-at .ensures .most .room)), f .most .inside), f .most .none)
+join-from-requires c κs = let p = c .before .before .before .before .before .before .before .before .before .before .before .before .before .before .pre in let f = c .before .before .before .before .partners-of .ensures in
+    (c .before .before .before .before .before .before .before .before .fill .ensures .room, p .1, p .2, p .3, p .4, p .5, p .6, p .7, f .inside, omega (arith, length-take-le (c .before .before .before .before .partners-of .result .most) (c .before .before .before .before .partners-of .result .highs) (c .before .before .before .before .partners-of .ensures .room), f .short), f .none-behind)
 
--- src/join.rt:196:1
+-- src/join.rt:184:1
 same-length : tie.Need-same-length
 same-length c = search needs
 
--- src/join.rt:196:1
+-- src/join.rt:184:1
 returns : tie.Need-returns
-returns c = let s = c .before .before .before .before .before .before .before .before .before .before .before .args in
-    builds-by (ap (map (λ (r : Row). rowIn (s .work .now) (s .a) (s .width) ++ r)) (sym (c .before .before .before .before .before .before .before .partners-at .ensures .all))) (c .before .before .join-from .ensures)
+returns c = let s = c .before .before .before .before .before .before .before .before .before .before .before .before .before .before .before .before .before .args in let n = c .before .before .before .before .before .before .before .partners-of .result .number in
+    builds-by
+    (ap (map (λ (r : Row). rowIn (s .work .now) (s .a) (s .width) ++ r)) (filter-through (rw (c .before .before .before .before .before .before .before .before .before .before .before .before .before .row .ensures) at (c .before .before .before .before .before .before .before .before .before .before .before .fill .ensures)) (rowsOf (s .right) (s .work .now)) (rowsAt (s .right .width) (s .right .rows - n) (s .right .base + n * s .right .width) (s .work .now)) (c .before .before .before .before .before .before .before .partners-of .ensures .all)))
+    (c .before .before .join-from .ensures)
 
 pub join-row-spec : {M : Type 1} → statement M
 join-row-spec =
     tie.close
     (tie.spec
-    partners-at-requires
-    array-share-prefix-most
+    row-requires
+    slice-aggregate-fill
+    fill-requires
+    slice-aggregate-partners-of
+    partners-of-requires
     slice-aggregate-join-from
+    array-share-prefix-highs
+    slice-aggregate-join-from-2
     join-from-requires
     same-length
     returns)

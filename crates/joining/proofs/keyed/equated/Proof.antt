@@ -8,7 +8,7 @@ use Rattle.joining.proofs.keyed.equated.Statement.{statement}
 use Rattle.joining.proofs.keyed.equated.Tie as tie
 use Rattle.joining.proofs.keyed.equated.Reads as reads
 use Rattle.joining.proofs.keyed.equated.Lts as lts
-use Rattle.joining.proofs.bounds.triple_with.Reads as triple-with-reads
+use Rattle.joining.proofs.keyed.triple_with.Reads as triple-with-reads
 
 abbrev Inv-loop : tie.InvT-loop
 Inv-loop list count number₀ number = number ≤ columnLimit

@@ -35,7 +35,7 @@ add-behind c = let p = c .before .before .before .before .before .before .before
 -- src/keyed.rt:173:19
 keep-by-rows-requires : tie.Need-keep-by-rows-requires
 keep-by-rows-requires c κs = let p = c .before .before .before .before .before .before .before .before .before .before .before .pre in let s = c .before .before .before .before .before .before .before .before .before .before .before .args in
-    (p .3, omega arith, made-room (p .6) (c .before .before .keys .given .1) (c .before .before .before .before .before .before .project .ensures), omega arith, p .0, keys-made (rowsOf (s .right) (s .work .now)) (p .6) (take-length (s .columns .now)) (c .before .before .keys .given .1) (c .before .before .before .before .before .before .project .ensures) .1)
+    (p .3, omega arith, made-room (p .6) (c .before .before .keys .given .1) (c .before .before .before .before .before .before .project .ensures), omega arith, p .0, keys-made (rowsOf (s .right) (s .work .now)) (p .6) (take-length (s .columns .now)) (c .before .before .keys .given .1) (c .before .before .before .before .before .before .project .ensures) .1, p .8)
 
 -- src/keyed.rt:174:30
 enum-known-rows : tie.Need-enum-known-rows

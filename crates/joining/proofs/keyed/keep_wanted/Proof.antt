@@ -27,7 +27,7 @@ enum-told c = search needs
 
 -- src/keyed.rt:278:25
 keep-by-rows-requires : tie.Need-keep-by-rows-requires
-keep-by-rows-requires c κs = let p = c .before .before .before .before .before .before .before .before .before .pre in let e = rw (c .before .enum-told .given .1) at (c .before .before .before .before .before .try-keys .ensures) in (p .0, p .1, rw e (p .2), p .3, p .4, rw e (p .5))
+keep-by-rows-requires c κs = let p = c .before .before .before .before .before .before .before .before .before .pre in let e = rw (c .before .enum-told .given .1) at (c .before .before .before .before .before .try-keys .ensures) in (p .0, p .1, rw e (p .2), p .3, p .4, rw e (p .5), p .7)
 
 -- src/keyed.rt:264:1
 finish-requires : tie.Need-finish-requires

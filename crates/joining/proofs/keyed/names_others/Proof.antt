@@ -8,7 +8,7 @@ use Rattle.joining.proofs.keyed.names_others.Statement.{statement}
 use Rattle.joining.proofs.keyed.names_others.Tie as tie
 use Rattle.joining.proofs.keyed.names_others.Reads as reads
 use Rattle.joining.proofs.keyed.names_others.Lts as lts
-use Rattle.joining.proofs.bounds.triple_with.Reads as triple-with-reads
+use Rattle.joining.proofs.keyed.triple_with.Reads as triple-with-reads
 use Rattle.joining.proofs.keyed.are_all.Reads as are-all-reads
 use Rattle.joining.proofs.keyed.equated.Reads as equated-reads
 use Rattle.joining.proofs.keyed.named_columns.Reads as named-columns-reads

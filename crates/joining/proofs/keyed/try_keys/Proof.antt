@@ -84,7 +84,7 @@ slice-aggregate-keep-by-key-2 c = sym (length-take-le (c .before .before .before
 keep-by-key-requires : tie.Need-keep-by-key-requires
 keep-by-key-requires c κs = let p = c .before .before .before .before .before .before .before .before .before .before .before .before .before .before .before .before .before .before .pre in let n = c .before .before .before .before .before .before .before .before .before .before .named-columns .result .count in
     let e : length (take n (c .before .before .before .before .before .before .before .before .numbers-of .result)) ≡ n = length-take-le n (c .before .before .before .before .before .before .before .before .numbers-of .result) (omega (arith, c .before .before .before .before .before .before .before .before .before .before .named-columns .ensures)) in
-    (omega arith, omega arith, omega (arith, c .before .before .before .before .before .before .before .before .before .before .named-columns .ensures), p .1, p .2, p .3, p .4, p .5)
+    (omega arith, omega arith, omega (arith, c .before .before .before .before .before .before .before .before .before .before .named-columns .ensures), p .1, p .2, p .3, p .4, p .5, p .6)
 
 -- src/keyed.rt:219:1
 same-length : tie.Need-same-length

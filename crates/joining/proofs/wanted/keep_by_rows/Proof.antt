@@ -33,7 +33,7 @@ loop-holds c = let s = c .before .before .args in
 
 keep-row-requires : tie.Need-keep-row-requires Inv-loop μ-loop
 keep-row-requires c κs = let s = c .before .before .before .before .before .args in let p = c .before .before .before .before .before .pre in let l = c .before .before .loop in
-    (omega arith, omega (arith, times-step (l .more) (s .left .width) (omega arith)), p .4, p .3, l .inv .1 .fits, l .inv .1 .ascending, rw (filled-rows (l .inv .1) (s .right .width) (s .right .rows) (s .right .base) (p .3)) (p .5))
+    (omega arith, omega (arith, times-step (l .more) (s .left .width) (omega arith)), p .4, p .3, l .inv .1 .fits, l .inv .1 .ascending, rw (filled-rows (l .inv .1) (s .right .width) (s .right .rows) (s .right .base) (p .3)) (p .5), p .6)
 
 enum-known-rows : tie.Need-enum-known-rows Inv-loop μ-loop
 enum-known-rows c = search needs

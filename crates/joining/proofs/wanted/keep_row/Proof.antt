@@ -10,7 +10,7 @@ use Rattle.joining.proofs.wanted.is_wanted.Reads as is-wanted-reads
 use Rattle.values.proofs.placing.place_row.Reads as place-row-reads
 
 is-wanted-requires : tie.Need-is-wanted-requires
-is-wanted-requires c κs = let p = c .before .before .before .pre in (p .2, omega arith, p .6)
+is-wanted-requires c κs = let p = c .before .before .before .pre in (p .2, omega arith, p .6, p .7)
 
 slice-aggregate-place-row : tie.Need-slice-aggregate-place-row
 slice-aggregate-place-row c = search needs

@@ -1,48 +1,57 @@
-use mathlib.Core.Path.{_≡_, refl, sym, ap, ap₂, _∙_}
-use Prim.Native.Nat.{ℕ, _+_, _*_, _-_, _≤_, _<_}
-use lib.ListN.{length}
-use lib.Seq.{length-take-le}
-use Rattle.relations.specs.Columns.{meets}
-use Rattle.values.specs.Words.{rowsAt, rowsOf}
-use Rattle.operations.specs.Lists.{triplesIn}
-use Rattle.joining.proofs.BoundSteps.{any-by-filter}
+use mathlib.Core.Path.{_≡_, sym, _∙_}
+use Prim.Native.Nat.{_+_, _-_, _*_}
 use native.Mathlib.Omega.{arith}
 use borrow.Author.Needs.{needs}
+use lib.Seq.{length-take-le}
+use Rattle.values.specs.Words.{rowsAt, rowsOf}
+use Rattle.joining.proofs.RestLaws.{any-through}
 use Rattle.joining.proofs.wanted.meets_some.Statement.{statement}
 use Rattle.joining.proofs.wanted.meets_some.Tie as tie
 use Rattle.joining.proofs.wanted.meets_some.Reads as reads
 use Rattle.joining.proofs.wanted.meets_some.Lts as lts
-use Rattle.joining.proofs.wanted.meets_from.Reads as meets-from-reads
-use Rattle.joining.proofs.partners.partners_of.Reads as partners-of-reads
+use Rattle.joining.proofs.wanted.some_through.Reads as some-through-reads
+use Rattle.partners.proofs.finding.partners_of.Reads as partners-of-reads
+use Rattle.partners.proofs.sieve.fill.Reads as fill-reads
 
--- src/keep.rt:87:9
+slice-aggregate-fill : tie.Need-slice-aggregate-fill
+slice-aggregate-fill c = search needs
+
+fill-requires : tie.Need-fill-requires
+fill-requires c κs = search needs
+
+slice-aggregate-partners-of : tie.Need-slice-aggregate-partners-of
+slice-aggregate-partners-of c = search needs
+
 partners-of-requires : tie.Need-partners-of-requires
-partners-of-requires c κs = search needs
+partners-of-requires c κs = let p = c .before .before .before .before .before .before .before .pre in (c .before .before .fill .ensures .room, p .1, p .2)
 
--- src/keep.rt:92:58
-array-share-prefix-most : tie.Need-array-share-prefix-most
-array-share-prefix-most c = search needs
+slice-aggregate-some-through : tie.Need-slice-aggregate-some-through
+slice-aggregate-some-through c = search needs
 
--- src/keep.rt:92:58
-slice-aggregate-meets-from : tie.Need-slice-aggregate-meets-from
-slice-aggregate-meets-from c = sym (length-take-le (c .before .before .before .partners-of .result .high .count) (c .before .before .before .partners-of .result .high .words) (c .before .before .before .partners-of .ensures .most .room))
+array-share-prefix-highs : tie.Need-array-share-prefix-highs
+array-share-prefix-highs c = search needs
 
--- src/keep.rt:92:5
-meets-from-requires : tie.Need-meets-from-requires
-meets-from-requires c κs = let p = c .before .before .before .before .before .before .before .pre in let f = c .before .before .before .partners-of .ensures in
-    (p .0, p .1, p .2, f .inside, omega (arith, (length-take-le (c .before .before .before .partners-of .result .high .count) (c .before .before .before .partners-of .result .high .words) (c .before .before .before .partners-of .ensures .most .room)), f .most .inside), f .most .none)
+slice-aggregate-some-through-2 : tie.Need-slice-aggregate-some-through-2
+slice-aggregate-some-through-2 c = sym (length-take-le (c .before .before .before .partners-of .result .most) (c .before .before .before .partners-of .result .highs) (c .before .before .before .partners-of .ensures .room))
 
--- src/keep.rt:83:1
+some-through-requires : tie.Need-some-through-requires
+some-through-requires c κs = let p = c .before .before .before .before .before .before .before .before .before .before .before .pre in let f = c .before .before .before .partners-of .ensures in
+    (c .before .before .before .before .before .before .fill .ensures .room, p .1, p .2, f .inside, omega (arith, length-take-le (c .before .before .before .partners-of .result .most) (c .before .before .before .partners-of .result .highs) (c .before .before .before .partners-of .ensures .room), f .short), f .none-behind)
+
 returns : tie.Need-returns
-returns c = let s = c .before .before .before .before .before .before .before .before .args in let n = c .before .before .before .before .partners-of .result .number in let v = s .right in
-    c .meets-from .ensures ∙ sym (any-by-filter (meets (triplesIn (s .count) (s .list .now)) (s .sought .now)) (rowsOf v (s .work .now)) (rowsAt (v .width) (v .rows - n) (v .base + n * v .width) (s .work .now)) (c .before .before .before .before .partners-of .ensures .all))
+returns c = let s = c .before .before .before .before .before .before .before .before .before .before .before .before .args in let n = c .before .before .before .before .partners-of .result .number in
+    c .some-through .ensures ∙ any-through (c .before .before .before .before .before .before .before .fill .ensures) (rowsOf (s .right) (s .work .now)) (rowsAt (s .right .width) (s .right .rows - n) (s .right .base + n * s .right .width) (s .work .now)) (c .before .before .before .before .partners-of .ensures .all)
 
 pub meets-some-spec : {M : Type 1} → statement M
 meets-some-spec =
     tie.close
     (tie.spec
+    slice-aggregate-fill
+    fill-requires
+    slice-aggregate-partners-of
     partners-of-requires
-    array-share-prefix-most
-    slice-aggregate-meets-from
-    meets-from-requires
+    slice-aggregate-some-through
+    array-share-prefix-highs
+    slice-aggregate-some-through-2
+    some-through-requires
     returns)

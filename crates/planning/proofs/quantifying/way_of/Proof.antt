@@ -11,7 +11,6 @@ use Rattle.planning.specs.declared.quantifying.Wanted.the-variants.{Itse
 use Rattle.planning.specs.declared.quantifying.Quantifier.{Quantifier}
 use Rattle.planning.specs.declared.quantifying.Quantifier.the-variants.{Some, Every}
 use Rattle.planning.specs.declared.quantifying.Way.the-variants.{ByRule, ByDivision, Plain}
-use native.Mathlib.Omega.{arith}
 use borrow.Author.Needs.{needs}
 use Rattle.planning.proofs.quantifying.way_of.Statement.{statement}
 use Rattle.planning.proofs.quantifying.way_of.Tie as tie

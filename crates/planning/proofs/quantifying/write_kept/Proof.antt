@@ -5,7 +5,6 @@ use Rattle.relations.specs.Nodes.{subtract}
 use Rattle.emission.proofs.WrittenLaws.{written-then, written-as}
 use Rattle.planning.specs.Quantifying.{keptNodes}
 use Rattle.planning.specs.declared.quantifying.Quantifier.{Quantifier}
-use native.Mathlib.Omega.{arith}
 use borrow.Author.Needs.{needs}
 use Rattle.planning.proofs.quantifying.write_kept.Statement.{statement}
 use Rattle.planning.proofs.quantifying.write_kept.Tie as tie

@@ -2,7 +2,6 @@ use mathlib.Core.Path.{sym, _∙_}
 use Rattle.conditions.proofs.Readings.{targets-is}
 use Rattle.conditions.proofs.OtherNodes.{no-targets}
 use Rattle.planning.proofs.TargetLaws.{TargetsLeft, targets-start, next-lower, target-ready, targets-on, targets-end, targets-done}
-use borrow.Author.Needs.{needs}
 use native.Mathlib.Omega.{arith}
 use Rattle.planning.proofs.targets.targets_from.Statement.{statement}
 use Rattle.planning.proofs.targets.targets_from.Tie as tie

@@ -11,7 +11,6 @@ use Rattle.conditions.specs.Scopes.{scopeOf}
 use Rattle.emission.specs.declared.node_list.NodeList.{NodeList}
 use Rattle.emission.proofs.NodeListLaws.{names-attributes, lists-attributes}
 use Rattle.emission.proofs.WrittenLaws.{written-as}
-use native.Mathlib.Omega.{arith}
 use borrow.Author.Needs.{needs}
 use Rattle.planning.proofs.targets.write_targets.Statement.{statement}
 use Rattle.planning.proofs.targets.write_targets.Tie as tie

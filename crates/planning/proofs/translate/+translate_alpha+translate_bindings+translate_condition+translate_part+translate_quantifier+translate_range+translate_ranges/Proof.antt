@@ -320,14 +320,14 @@ translate-condition-enum-known-node-5 t c = c .match .keys5
 
 translate-condition-translate-quantifier-requires : (t : ℕ) → translate-condition-lts.Need-translate-quantifier-requires (translate-condition-calls t) (translate-condition-at t) translate-condition.Post
 translate-condition-translate-quantifier-requires t c κs = let b = some-step (wantedIn (c .before .before .before .before .before .before .before .before .before .args .wanted)) (named (c .before .before .before .before .before .if1 .left), c .before .before .before .before .before .before .before .before .before .pre .1 .0) (c .before .before .before .before .before .before .before .before .before .pre .1 .1) (sym (c .before .before .node5 .given .1) ∙ c .before .before .before .before .decode .ensures) in
-    (omega (arith, c .before .before .before .before .before .before .before .before .before .pre .0, b .parts .0 .1, b .parts .1 .1), (b .parts .0 .0, b .parts .1 .0, b .ready))
+    (omega (arith, c .before .before .before .before .before .before .before .before .before .pre .0, b .parts .0 .1, b .parts .1 .1), (b .known, b .parts .0 .0, b .parts .1 .0, b .ready))
 
 translate-condition-enum-known-node-6 : (t : ℕ) → translate-condition-lts.Need-enum-known-node-6 (translate-condition-calls t) (translate-condition-at t) translate-condition.Post
 translate-condition-enum-known-node-6 t c = c .match .keys6
 
 translate-condition-translate-quantifier-requires-2 : (t : ℕ) → translate-condition-lts.Need-translate-quantifier-requires-2 (translate-condition-calls t) (translate-condition-at t) translate-condition.Post
 translate-condition-translate-quantifier-requires-2 t c κs = let b = every-step (wantedIn (c .before .before .before .before .before .before .before .before .before .args .wanted)) (named (c .before .before .before .before .before .if1 .left), c .before .before .before .before .before .before .before .before .before .pre .1 .0) (c .before .before .before .before .before .before .before .before .before .pre .1 .1) (sym (c .before .before .node6 .given .1) ∙ c .before .before .before .before .decode .ensures) in
-    (omega (arith, c .before .before .before .before .before .before .before .before .before .pre .0, b .parts .0 .1, b .parts .1 .1), (b .parts .0 .0, b .parts .1 .0, b .ready))
+    (omega (arith, c .before .before .before .before .before .before .before .before .before .pre .0, b .parts .0 .1, b .parts .1 .1), (b .known, b .parts .0 .0, b .parts .1 .0, b .ready))
 
 translate-condition-same-length-2 : (t : ℕ) → translate-condition-lts.Need-same-length-2 (translate-condition-calls t) (translate-condition-at t) translate-condition.Post
 translate-condition-same-length-2 t c = search needs
@@ -384,22 +384,22 @@ translate-part-returns : (t : ℕ) → translate-part-lts.Need-returns (translat
 translate-part-returns t c = c .before .before .translate-condition .ensures
 
 translate-quantifier-translate-range-requires : (t : ℕ) → translate-quantifier-lts.Need-translate-range-requires (translate-quantifier-calls t) (translate-quantifier-at t) translate-quantifier.Post
-translate-quantifier-translate-range-requires t c κs = (omega (arith, c .before .before .before .before .pre .0), (c .before .before .before .before .pre .1 .0, range-ready (c .before .before .before .before .args .quantifier) (c .before .before .before .before .args .wanted) (c .before .before .before .before .args .x) (rangeAt (c .before .before .before .before .args .words .now) (c .before .before .before .before .args .range)) (conditionAt (c .before .before .before .before .args .words .now) (c .before .before .before .before .args .condition)) (c .before .before .before .before .pre .1 .2)))
+translate-quantifier-translate-range-requires t c κs = (omega (arith, c .before .before .before .before .pre .0), (c .before .before .before .before .pre .1 .1, range-ready (c .before .before .before .before .args .quantifier) (c .before .before .before .before .args .wanted) (c .before .before .before .before .args .x) (rangeAt (c .before .before .before .before .args .words .now) (c .before .before .before .before .args .range)) (conditionAt (c .before .before .before .before .args .words .now) (c .before .before .before .before .args .condition)) (c .before .before .before .before .pre .1 .0) (c .before .before .before .before .pre .1 .3)))
 
 translate-quantifier-way-of-requires : (t : ℕ) → translate-quantifier-lts.Need-way-of-requires (translate-quantifier-calls t) (translate-quantifier-at t) translate-quantifier.Post
-translate-quantifier-way-of-requires t c κs = (c .before .before .before .before .before .before .before .pre .1 .1, few-nodes (c .before .before .before .before .before .before .before .args .quantifier) (c .before .before .before .before .before .before .before .args .wanted) (c .before .before .before .before .before .before .before .args .x) (rangeAt (c .before .before .before .before .before .before .before .args .words .now) (c .before .before .before .before .before .before .before .args .range)) (conditionAt (c .before .before .before .before .before .before .before .args .words .now) (c .before .before .before .before .before .before .before .args .condition)) (c .before .before .before .before .before .before .before .pre .1 .2))
+translate-quantifier-way-of-requires t c κs = (c .before .before .before .before .before .before .before .pre .1 .2, few-nodes (c .before .before .before .before .before .before .before .args .quantifier) (c .before .before .before .before .before .before .before .args .wanted) (c .before .before .before .before .before .before .before .args .x) (rangeAt (c .before .before .before .before .before .before .before .args .words .now) (c .before .before .before .before .before .before .before .args .range)) (conditionAt (c .before .before .before .before .before .before .before .args .words .now) (c .before .before .before .before .before .before .before .args .condition)) (c .before .before .before .before .before .before .before .pre .1 .0) (c .before .before .before .before .before .before .before .pre .1 .3))
 
 translate-quantifier-enum-known-way : (t : ℕ) → translate-quantifier-lts.Need-enum-known-way (translate-quantifier-calls t) (translate-quantifier-at t) translate-quantifier.Post
 translate-quantifier-enum-known-way t c = c .match .keys1
 
 translate-quantifier-write-rule-requires : (t : ℕ) → translate-quantifier-lts.Need-write-rule-requires (translate-quantifier-calls t) (translate-quantifier-at t) translate-quantifier.Post
-translate-quantifier-write-rule-requires t c κs = rule-ready (c .before .before .before .before .before .before .before .before .before .before .before .before .args .quantifier) (c .before .before .before .before .before .before .before .before .before .before .before .before .args .wanted) (c .before .before .before .before .before .before .before .before .before .before .before .before .args .x) (rangeAt (c .before .before .before .before .before .before .before .before .before .before .before .before .args .words .now) (c .before .before .before .before .before .before .before .before .before .before .before .before .args .range)) (conditionAt (c .before .before .before .before .before .before .before .before .before .before .before .before .args .words .now) (c .before .before .before .before .before .before .before .before .before .before .before .before .args .condition)) (c .before .before .before .before .before .before .before .before .before .before .before .before .pre .1 .2) (c .before .before .before .before .before .before .before .translate-range .ensures) (c .before .before .before .before .before .before .before .before .before .before .before .before .args .words .now) (c .before .before .before .before .before .before .before .before .before .before .before .before .args .condition) refl (c .before .before .before .before .before .before .before .before .before .before .before .before .pre .1 .1) (c .before .before .way .given .0 .0) 0 ((rule-way (c .before .before .before .before .before .before .before .before .before .before .before .before .args .catalogue .now) (scopeOf (c .before .before .before .before .before .before .before .before .before .before .before .before .args .scope .now)) (c .before .before .before .before .before .before .before .before .before .before .before .before .args .quantifier) (c .before .before .before .before .before .before .before .before .before .before .before .before .args .wanted) (c .before .before .way .given .0 .0) (c .before .before .before .before .before .before .before .before .before .before .before .before .pre .1 .2 .good) (sym (c .before .before .before .before .way-of .ensures) ∙ c .before .before .way .given .1)) .atoms)
+translate-quantifier-write-rule-requires t c κs = rule-ready (c .before .before .before .before .before .before .before .before .before .before .before .before .args .quantifier) (c .before .before .before .before .before .before .before .before .before .before .before .before .args .wanted) (c .before .before .before .before .before .before .before .before .before .before .before .before .args .x) (rangeAt (c .before .before .before .before .before .before .before .before .before .before .before .before .args .words .now) (c .before .before .before .before .before .before .before .before .before .before .before .before .args .range)) (conditionAt (c .before .before .before .before .before .before .before .before .before .before .before .before .args .words .now) (c .before .before .before .before .before .before .before .before .before .before .before .before .args .condition)) (c .before .before .before .before .before .before .before .before .before .before .before .before .pre .1 .0) (c .before .before .before .before .before .before .before .before .before .before .before .before .pre .1 .3) (c .before .before .before .before .before .before .before .translate-range .ensures) (c .before .before .before .before .before .before .before .before .before .before .before .before .args .words .now) (c .before .before .before .before .before .before .before .before .before .before .before .before .args .condition) refl (c .before .before .before .before .before .before .before .before .before .before .before .before .pre .1 .2) (c .before .before .way .given .0 .0) 0 ((rule-way (c .before .before .before .before .before .before .before .before .before .before .before .before .args .catalogue .now) (scopeOf (c .before .before .before .before .before .before .before .before .before .before .before .before .args .scope .now)) (c .before .before .before .before .before .before .before .before .before .before .before .before .args .quantifier) (c .before .before .before .before .before .before .before .before .before .before .before .before .args .wanted) (c .before .before .way .given .0 .0) (c .before .before .before .before .before .before .before .before .before .before .before .before .pre .1 .3 .good) (sym (c .before .before .before .before .way-of .ensures) ∙ c .before .before .way .given .1)) .atoms)
 
 translate-quantifier-enum-known-way-2 : (t : ℕ) → translate-quantifier-lts.Need-enum-known-way-2 (translate-quantifier-calls t) (translate-quantifier-at t) translate-quantifier.Post
 translate-quantifier-enum-known-way-2 t c = c .match .keys2
 
 translate-quantifier-write-rule-requires-2 : (t : ℕ) → translate-quantifier-lts.Need-write-rule-requires-2 (translate-quantifier-calls t) (translate-quantifier-at t) translate-quantifier.Post
-translate-quantifier-write-rule-requires-2 t c κs = rule-ready (c .before .before .before .before .before .before .before .before .before .before .before .before .args .quantifier) (c .before .before .before .before .before .before .before .before .before .before .before .before .args .wanted) (c .before .before .before .before .before .before .before .before .before .before .before .before .args .x) (rangeAt (c .before .before .before .before .before .before .before .before .before .before .before .before .args .words .now) (c .before .before .before .before .before .before .before .before .before .before .before .before .args .range)) (conditionAt (c .before .before .before .before .before .before .before .before .before .before .before .before .args .words .now) (c .before .before .before .before .before .before .before .before .before .before .before .before .args .condition)) (c .before .before .before .before .before .before .before .before .before .before .before .before .pre .1 .2) (c .before .before .before .before .before .before .before .translate-range .ensures) (c .before .before .before .before .before .before .before .before .before .before .before .before .args .words .now) (c .before .before .before .before .before .before .before .before .before .before .before .before .args .condition) refl (c .before .before .before .before .before .before .before .before .before .before .before .before .pre .1 .1) S5 (c .before .before .way2 .given .0 .0) ((divisor-way (c .before .before .before .before .before .before .before .before .before .before .before .before .args .catalogue .now) (scopeOf (c .before .before .before .before .before .before .before .before .before .before .before .before .args .scope .now)) (c .before .before .before .before .before .before .before .before .before .before .before .before .args .quantifier) (c .before .before .before .before .before .before .before .before .before .before .before .before .args .wanted) (c .before .before .way2 .given .0 .0) (c .before .before .way2 .given .0 .1 .0) (c .before .before .before .before .before .before .before .before .before .before .before .before .pre .1 .2 .good) (sym (c .before .before .before .before .way-of .ensures) ∙ c .before .before .way2 .given .1)) .atoms)
+translate-quantifier-write-rule-requires-2 t c κs = rule-ready (c .before .before .before .before .before .before .before .before .before .before .before .before .args .quantifier) (c .before .before .before .before .before .before .before .before .before .before .before .before .args .wanted) (c .before .before .before .before .before .before .before .before .before .before .before .before .args .x) (rangeAt (c .before .before .before .before .before .before .before .before .before .before .before .before .args .words .now) (c .before .before .before .before .before .before .before .before .before .before .before .before .args .range)) (conditionAt (c .before .before .before .before .before .before .before .before .before .before .before .before .args .words .now) (c .before .before .before .before .before .before .before .before .before .before .before .before .args .condition)) (c .before .before .before .before .before .before .before .before .before .before .before .before .pre .1 .0) (c .before .before .before .before .before .before .before .before .before .before .before .before .pre .1 .3) (c .before .before .before .before .before .before .before .translate-range .ensures) (c .before .before .before .before .before .before .before .before .before .before .before .before .args .words .now) (c .before .before .before .before .before .before .before .before .before .before .before .before .args .condition) refl (c .before .before .before .before .before .before .before .before .before .before .before .before .pre .1 .2) S5 (c .before .before .way2 .given .0 .0) ((divisor-way (c .before .before .before .before .before .before .before .before .before .before .before .before .args .catalogue .now) (scopeOf (c .before .before .before .before .before .before .before .before .before .before .before .before .args .scope .now)) (c .before .before .before .before .before .before .before .before .before .before .before .before .args .quantifier) (c .before .before .before .before .before .before .before .before .before .before .before .before .args .wanted) (c .before .before .way2 .given .0 .0) (c .before .before .way2 .given .0 .1 .0) (c .before .before .before .before .before .before .before .before .before .before .before .before .pre .1 .3 .good) (sym (c .before .before .before .before .way-of .ensures) ∙ c .before .before .way2 .given .1)) .atoms)
 
 translate-quantifier-enum-told : (t : ℕ) → translate-quantifier-lts.Need-enum-told (translate-quantifier-calls t) (translate-quantifier-at t) translate-quantifier.Post
 translate-quantifier-enum-told t c = c .match .keys3
@@ -408,52 +408,52 @@ translate-quantifier-sub-t30 : (t : ℕ) → translate-quantifier-lts.Need-sub-t
 translate-quantifier-sub-t30 t c = omega (arith, c .before .before .before .before .before .translate-range .ensures .more)
 
 translate-quantifier-translate-condition-requires : (t : ℕ) → translate-quantifier-lts.Need-translate-condition-requires (translate-quantifier-calls t) (translate-quantifier-at t) translate-quantifier.Post
-translate-quantifier-translate-condition-requires t c κs = (omega (arith, c .before .before .before .before .before .before .before .before .before .before .before .pre .0), (c .before .before .before .before .before .before .before .before .before .before .before .pre .1 .1 .1, divided-ready (c .before .before .before .before .before .before .before .before .before .before .before .args .quantifier) (c .before .before .before .before .before .before .before .before .before .before .before .args .wanted) (c .before .before .before .before .before .before .before .before .before .before .before .args .x) (rangeAt (c .before .before .before .before .before .before .before .before .before .before .before .args .words .now) (c .before .before .before .before .before .before .before .before .before .before .before .args .range)) (c .before .before .before .before .before .before .before .before .before .before .before .args .words .now) (c .before .before .before .before .before .before .before .before .before .before .before .args .condition) (c .before .before .before .before .before .before .before .before .before .before .before .pre .1 .2) (c .before .before .before .before .before .before .translate-range .ensures) (sym (c .before .before .before .way-of .ensures) ∙ c .before .enum-told .given .1) tt (c .before .before .before .before .before .before .translate-range .result .count - 1) ((division-way (columnsOf (c .before .before .before .before .before .before .before .before .before .before .before .args .catalogue .now)) (c .before .before .before .before .before .before .before .before .before .before .before .args .short) (c .before .before .before .before .before .before .before .before .before .before .before .args .x) (rangeAt (c .before .before .before .before .before .before .before .before .before .before .before .args .words .now) (c .before .before .before .before .before .before .before .before .before .before .before .args .range)) (conditionAt (c .before .before .before .before .before .before .before .before .before .before .before .args .words .now) (c .before .before .before .before .before .before .before .before .before .before .before .args .condition)) (c .before .before .before .before .before .before .before .before .before .before .before .args .quantifier) (c .before .before .before .before .before .before .before .before .before .before .before .args .wanted) (sym (c .before .before .before .way-of .ensures) ∙ c .before .enum-told .given .1)) .fits)))
+translate-quantifier-translate-condition-requires t c κs = (omega (arith, c .before .before .before .before .before .before .before .before .before .before .before .pre .0), (c .before .before .before .before .before .before .before .before .before .before .before .pre .1 .2 .1, divided-ready (c .before .before .before .before .before .before .before .before .before .before .before .args .quantifier) (c .before .before .before .before .before .before .before .before .before .before .before .args .wanted) (c .before .before .before .before .before .before .before .before .before .before .before .args .x) (rangeAt (c .before .before .before .before .before .before .before .before .before .before .before .args .words .now) (c .before .before .before .before .before .before .before .before .before .before .before .args .range)) (c .before .before .before .before .before .before .before .before .before .before .before .args .words .now) (c .before .before .before .before .before .before .before .before .before .before .before .args .condition) (c .before .before .before .before .before .before .before .before .before .before .before .pre .1 .0) (c .before .before .before .before .before .before .before .before .before .before .before .pre .1 .3) (c .before .before .before .before .before .before .translate-range .ensures) (sym (c .before .before .before .way-of .ensures) ∙ c .before .enum-told .given .1) tt (c .before .before .before .before .before .before .translate-range .result .count - 1) ((division-way (columnsOf (c .before .before .before .before .before .before .before .before .before .before .before .args .catalogue .now)) (c .before .before .before .before .before .before .before .before .before .before .before .args .short) (c .before .before .before .before .before .before .before .before .before .before .before .args .x) (rangeAt (c .before .before .before .before .before .before .before .before .before .before .before .args .words .now) (c .before .before .before .before .before .before .before .before .before .before .before .args .range)) (conditionAt (c .before .before .before .before .before .before .before .before .before .before .before .args .words .now) (c .before .before .before .before .before .before .before .before .before .before .before .args .condition)) (c .before .before .before .before .before .before .before .before .before .before .before .args .quantifier) (c .before .before .before .before .before .before .before .before .before .before .before .args .wanted) (sym (c .before .before .before .way-of .ensures) ∙ c .before .enum-told .given .1)) .fits)))
 
 translate-quantifier-enum-told-2 : (t : ℕ) → translate-quantifier-lts.Need-enum-told-2 (translate-quantifier-calls t) (translate-quantifier-at t) translate-quantifier.Post
 translate-quantifier-enum-told-2 t c = c .match .keys4
 
 translate-quantifier-extend-requires : (t : ℕ) → translate-quantifier-lts.Need-extend-requires (translate-quantifier-calls t) (translate-quantifier-at t) translate-quantifier.Post
-translate-quantifier-extend-requires t c κs = inner-grows (c .before .before .before .before .before .before .before .before .before .before .before .before .args .quantifier) (c .before .before .before .before .before .before .before .before .before .before .before .before .args .wanted) (c .before .before .before .before .before .before .before .before .before .before .before .before .args .x) (rangeAt (c .before .before .before .before .before .before .before .before .before .before .before .before .args .words .now) (c .before .before .before .before .before .before .before .before .before .before .before .before .args .range)) (conditionAt (c .before .before .before .before .before .before .before .before .before .before .before .before .args .words .now) (c .before .before .before .before .before .before .before .before .before .before .before .before .args .condition)) (c .before .before .before .before .before .before .before .before .before .before .before .before .pre .1 .2) (c .before .before .before .before .before .before .before .translate-range .ensures)
+translate-quantifier-extend-requires t c κs = inner-grows (c .before .before .before .before .before .before .before .before .before .before .before .before .args .quantifier) (c .before .before .before .before .before .before .before .before .before .before .before .before .args .wanted) (c .before .before .before .before .before .before .before .before .before .before .before .before .args .x) (rangeAt (c .before .before .before .before .before .before .before .before .before .before .before .before .args .words .now) (c .before .before .before .before .before .before .before .before .before .before .before .before .args .range)) (conditionAt (c .before .before .before .before .before .before .before .before .before .before .before .before .args .words .now) (c .before .before .before .before .before .before .before .before .before .before .before .before .args .condition)) (c .before .before .before .before .before .before .before .before .before .before .before .before .pre .1 .0) (c .before .before .before .before .before .before .before .before .before .before .before .before .pre .1 .3) (c .before .before .before .before .before .before .before .translate-range .ensures)
 
 translate-quantifier-sub-product : (t : ℕ) → translate-quantifier-lts.Need-sub-product (translate-quantifier-calls t) (translate-quantifier-at t) translate-quantifier.Post
 translate-quantifier-sub-product t c = omega (arith, c .before .before .before .before .before .before .before .before .before .translate-range .ensures .more)
 
 translate-quantifier-product-requires : (t : ℕ) → translate-quantifier-lts.Need-product-requires (translate-quantifier-calls t) (translate-quantifier-at t) translate-quantifier.Post
-translate-quantifier-product-requires t c κs = room-inner (c .before .before .before .before .before .before .before .before .before .before .before .before .before .before .args .quantifier) (c .before .before .before .before .before .before .before .before .before .before .before .before .before .before .args .wanted) (c .before .before .before .before .before .before .before .before .before .before .before .before .before .before .args .x) (rangeAt (c .before .before .before .before .before .before .before .before .before .before .before .before .before .before .args .words .now) (c .before .before .before .before .before .before .before .before .before .before .before .before .before .before .args .range)) (conditionAt (c .before .before .before .before .before .before .before .before .before .before .before .before .before .before .args .words .now) (c .before .before .before .before .before .before .before .before .before .before .before .before .before .before .args .condition)) (c .before .before .before .before .before .before .before .before .before .before .before .before .before .before .pre .1 .2) (c .before .before .before .before .before .before .before .before .before .translate-range .ensures)
+translate-quantifier-product-requires t c κs = room-inner (c .before .before .before .before .before .before .before .before .before .before .before .before .before .before .args .quantifier) (c .before .before .before .before .before .before .before .before .before .before .before .before .before .before .args .wanted) (c .before .before .before .before .before .before .before .before .before .before .before .before .before .before .args .x) (rangeAt (c .before .before .before .before .before .before .before .before .before .before .before .before .before .before .args .words .now) (c .before .before .before .before .before .before .before .before .before .before .before .before .before .before .args .range)) (conditionAt (c .before .before .before .before .before .before .before .before .before .before .before .before .before .before .args .words .now) (c .before .before .before .before .before .before .before .before .before .before .before .before .before .before .args .condition)) (c .before .before .before .before .before .before .before .before .before .before .before .before .before .before .pre .1 .0) (c .before .before .before .before .before .before .before .before .before .before .before .before .before .before .pre .1 .3) (c .before .before .before .before .before .before .before .before .before .translate-range .ensures)
 
 translate-quantifier-translate-condition-requires-2 : (t : ℕ) → translate-quantifier-lts.Need-translate-condition-requires-2 (translate-quantifier-calls t) (translate-quantifier-at t) translate-quantifier.Post
-translate-quantifier-translate-condition-requires-2 t c κs = (omega (arith, c .before .before .before .before .before .before .before .before .before .before .before .before .before .before .before .before .before .before .before .pre .0), (c .before .before .before .before .before .before .before .before .before .before .before .before .before .before .before .before .before .before .before .pre .1 .1 .1, inside-ready (c .before .before .before .before .before .before .before .before .before .before .before .before .before .before .before .before .before .before .before .args .quantifier) (c .before .before .before .before .before .before .before .before .before .before .before .before .before .before .before .before .before .before .before .args .wanted) (c .before .before .before .before .before .before .before .before .before .before .before .before .before .before .before .before .before .before .before .args .x) (rangeAt (c .before .before .before .before .before .before .before .before .before .before .before .before .before .before .before .before .before .before .before .args .words .now) (c .before .before .before .before .before .before .before .before .before .before .before .before .before .before .before .before .before .before .before .args .range)) (c .before .before .before .before .before .before .before .before .before .before .before .before .before .before .before .before .before .before .before .args .words .now) (c .before .before .before .before .before .before .before .before .before .before .before .before .before .before .before .before .before .before .before .args .condition) (c .before .before .before .before .before .before .before .before .before .before .before .before .before .before .before .before .before .before .before .pre .1 .2) (c .before .before .before .before .before .before .before .before .before .before .before .before .before .before .translate-range .ensures) (sym (c .before .before .before .before .before .before .before .before .before .before .before .way-of .ensures) ∙ c .before .before .before .before .before .before .before .before .before .enum-told2 .given .1) tt (c .before .before .before .before .before .before .extend .ensures) (c .before .before .before .before .product .ensures)))
+translate-quantifier-translate-condition-requires-2 t c κs = (omega (arith, c .before .before .before .before .before .before .before .before .before .before .before .before .before .before .before .before .before .before .before .pre .0), (c .before .before .before .before .before .before .before .before .before .before .before .before .before .before .before .before .before .before .before .pre .1 .2 .1, inside-ready (c .before .before .before .before .before .before .before .before .before .before .before .before .before .before .before .before .before .before .before .args .quantifier) (c .before .before .before .before .before .before .before .before .before .before .before .before .before .before .before .before .before .before .before .args .wanted) (c .before .before .before .before .before .before .before .before .before .before .before .before .before .before .before .before .before .before .before .args .x) (rangeAt (c .before .before .before .before .before .before .before .before .before .before .before .before .before .before .before .before .before .before .before .args .words .now) (c .before .before .before .before .before .before .before .before .before .before .before .before .before .before .before .before .before .before .before .args .range)) (c .before .before .before .before .before .before .before .before .before .before .before .before .before .before .before .before .before .before .before .args .words .now) (c .before .before .before .before .before .before .before .before .before .before .before .before .before .before .before .before .before .before .before .args .condition) (c .before .before .before .before .before .before .before .before .before .before .before .before .before .before .before .before .before .before .before .pre .1 .0) (c .before .before .before .before .before .before .before .before .before .before .before .before .before .before .before .before .before .before .before .pre .1 .3) (c .before .before .before .before .before .before .before .before .before .before .before .before .before .before .translate-range .ensures) (sym (c .before .before .before .before .before .before .before .before .before .before .before .way-of .ensures) ∙ c .before .before .before .before .before .before .before .before .before .enum-told2 .given .1) tt (c .before .before .before .before .before .before .extend .ensures) (c .before .before .before .before .product .ensures)))
 
 translate-quantifier-columns-in-requires : (t : ℕ) → translate-quantifier-lts.Need-columns-in-requires (translate-quantifier-calls t) (translate-quantifier-at t) translate-quantifier.Post
-translate-quantifier-columns-in-requires t c κs = c .before .before .before .before .before .before .before .before .before .before .before .before .before .before .before .before .before .before .before .before .before .before .pre .1 .2 .fits
+translate-quantifier-columns-in-requires t c κs = c .before .before .before .before .before .before .before .before .before .before .before .before .before .before .before .before .before .before .before .before .before .before .pre .1 .3 .fits
 
 translate-quantifier-write-kept-requires : (t : ℕ) → translate-quantifier-lts.Need-write-kept-requires (translate-quantifier-calls t) (translate-quantifier-at t) translate-quantifier.Post
-translate-quantifier-write-kept-requires t c κs = (omega (arith, c .before .columns-in .ensures, c .before .before .before .before .before .before .before .before .before .before .before .before .before .before .before .before .before .before .before .before .before .before .before .before .pre .1 .2 .fits .counted, c .before .before .before .before .before .before .before .before .before .before .before .before .before .before .before .before .before .before .before .before .before .before .before .before .pre .1 .2 .fits .narrow), some-met (c .before .before .before .before .before .before .before .before .before .before .before .before .before .before .before .before .before .before .before .before .before .before .before .before .args .quantifier) (c .before .before .before .before .before .before .before .before .before .before .before .before .before .before .before .before .before .before .before .before .before .before .before .before .args .wanted) (c .before .before .before .before .before .before .before .before .before .before .before .before .before .before .before .before .before .before .before .before .before .before .before .before .args .x) (rangeAt (c .before .before .before .before .before .before .before .before .before .before .before .before .before .before .before .before .before .before .before .before .before .before .before .before .args .words .now) (c .before .before .before .before .before .before .before .before .before .before .before .before .before .before .before .before .before .before .before .before .before .before .before .before .args .range)) (c .before .before .before .before .before .before .before .before .before .before .before .before .before .before .before .before .before .before .before .before .before .before .before .before .args .words .now) (c .before .before .before .before .before .before .before .before .before .before .before .before .before .before .before .before .before .before .before .before .before .before .before .before .args .condition) (c .before .before .before .before .before .before .before .before .before .before .before .before .before .before .before .before .before .before .before .before .before .before .before .before .pre .1 .2) (c .before .before .before .before .before .before .before .before .before .before .before .before .before .before .before .before .before .before .before .translate-range .ensures) (sym (c .before .before .before .before .before .before .before .before .before .before .before .before .before .before .before .before .way-of .ensures) ∙ c .before .before .before .before .before .before .before .before .before .before .before .before .before .before .enum-told2 .given .1) tt (c .before .before .before .before .before .before .before .before .before .before .before .extend .ensures) (c .before .before .before .before .before .before .before .before .before .product .ensures) (c .before .before .before .before .translate-condition2 .ensures), room-kept (c .before .before .before .before .before .before .before .before .before .before .before .before .before .before .before .before .before .before .before .before .before .before .before .before .args .quantifier) (c .before .before .before .before .before .before .before .before .before .before .before .before .before .before .before .before .before .before .before .before .before .before .before .before .args .wanted) (c .before .before .before .before .before .before .before .before .before .before .before .before .before .before .before .before .before .before .before .before .before .before .before .before .args .x) (rangeAt (c .before .before .before .before .before .before .before .before .before .before .before .before .before .before .before .before .before .before .before .before .before .before .before .before .args .words .now) (c .before .before .before .before .before .before .before .before .before .before .before .before .before .before .before .before .before .before .before .before .before .before .before .before .args .range)) (c .before .before .before .before .before .before .before .before .before .before .before .before .before .before .before .before .before .before .before .before .before .before .before .before .args .words .now) (c .before .before .before .before .before .before .before .before .before .before .before .before .before .before .before .before .before .before .before .before .before .before .before .before .args .condition) (c .before .before .before .before .before .before .before .before .before .before .before .before .before .before .before .before .before .before .before .before .before .before .before .before .pre .1 .2) (c .before .before .before .before .before .before .before .before .before .before .before .before .before .before .before .before .before .before .before .translate-range .ensures) (sym (c .before .before .before .before .before .before .before .before .before .before .before .before .before .before .before .before .way-of .ensures) ∙ c .before .before .before .before .before .before .before .before .before .before .before .before .before .before .enum-told2 .given .1) tt (c .before .before .before .before .before .before .before .before .before .before .before .extend .ensures) (c .before .before .before .before .before .before .before .before .before .product .ensures) (c .before .before .before .before .translate-condition2 .ensures))
+translate-quantifier-write-kept-requires t c κs = (omega (arith, c .before .columns-in .ensures, c .before .before .before .before .before .before .before .before .before .before .before .before .before .before .before .before .before .before .before .before .before .before .before .before .pre .1 .3 .fits .counted, c .before .before .before .before .before .before .before .before .before .before .before .before .before .before .before .before .before .before .before .before .before .before .before .before .pre .1 .3 .fits .narrow), some-met (c .before .before .before .before .before .before .before .before .before .before .before .before .before .before .before .before .before .before .before .before .before .before .before .before .args .quantifier) (c .before .before .before .before .before .before .before .before .before .before .before .before .before .before .before .before .before .before .before .before .before .before .before .before .args .wanted) (c .before .before .before .before .before .before .before .before .before .before .before .before .before .before .before .before .before .before .before .before .before .before .before .before .args .x) (rangeAt (c .before .before .before .before .before .before .before .before .before .before .before .before .before .before .before .before .before .before .before .before .before .before .before .before .args .words .now) (c .before .before .before .before .before .before .before .before .before .before .before .before .before .before .before .before .before .before .before .before .before .before .before .before .args .range)) (c .before .before .before .before .before .before .before .before .before .before .before .before .before .before .before .before .before .before .before .before .before .before .before .before .args .words .now) (c .before .before .before .before .before .before .before .before .before .before .before .before .before .before .before .before .before .before .before .before .before .before .before .before .args .condition) (c .before .before .before .before .before .before .before .before .before .before .before .before .before .before .before .before .before .before .before .before .before .before .before .before .pre .1 .0) (c .before .before .before .before .before .before .before .before .before .before .before .before .before .before .before .before .before .before .before .before .before .before .before .before .pre .1 .3) (c .before .before .before .before .before .before .before .before .before .before .before .before .before .before .before .before .before .before .before .translate-range .ensures) (sym (c .before .before .before .before .before .before .before .before .before .before .before .before .before .before .before .before .way-of .ensures) ∙ c .before .before .before .before .before .before .before .before .before .before .before .before .before .before .enum-told2 .given .1) tt (c .before .before .before .before .before .before .before .before .before .before .before .extend .ensures) (c .before .before .before .before .before .before .before .before .before .product .ensures) (c .before .before .before .before .translate-condition2 .ensures), room-kept (c .before .before .before .before .before .before .before .before .before .before .before .before .before .before .before .before .before .before .before .before .before .before .before .before .args .quantifier) (c .before .before .before .before .before .before .before .before .before .before .before .before .before .before .before .before .before .before .before .before .before .before .before .before .args .wanted) (c .before .before .before .before .before .before .before .before .before .before .before .before .before .before .before .before .before .before .before .before .before .before .before .before .args .x) (rangeAt (c .before .before .before .before .before .before .before .before .before .before .before .before .before .before .before .before .before .before .before .before .before .before .before .before .args .words .now) (c .before .before .before .before .before .before .before .before .before .before .before .before .before .before .before .before .before .before .before .before .before .before .before .before .args .range)) (c .before .before .before .before .before .before .before .before .before .before .before .before .before .before .before .before .before .before .before .before .before .before .before .before .args .words .now) (c .before .before .before .before .before .before .before .before .before .before .before .before .before .before .before .before .before .before .before .before .before .before .before .before .args .condition) (c .before .before .before .before .before .before .before .before .before .before .before .before .before .before .before .before .before .before .before .before .before .before .before .before .pre .1 .0) (c .before .before .before .before .before .before .before .before .before .before .before .before .before .before .before .before .before .before .before .before .before .before .before .before .pre .1 .3) (c .before .before .before .before .before .before .before .before .before .before .before .before .before .before .before .before .before .before .before .translate-range .ensures) (sym (c .before .before .before .before .before .before .before .before .before .before .before .before .before .before .before .before .way-of .ensures) ∙ c .before .before .before .before .before .before .before .before .before .before .before .before .before .before .enum-told2 .given .1) tt (c .before .before .before .before .before .before .before .before .before .before .before .extend .ensures) (c .before .before .before .before .before .before .before .before .before .product .ensures) (c .before .before .before .before .translate-condition2 .ensures))
 
 translate-quantifier-same-length : (t : ℕ) → translate-quantifier-lts.Need-same-length (translate-quantifier-calls t) (translate-quantifier-at t) translate-quantifier.Post
 translate-quantifier-same-length t c = search needs
 
 translate-quantifier-returns : (t : ℕ) → translate-quantifier-lts.Need-returns (translate-quantifier-calls t) (translate-quantifier-at t) translate-quantifier.Post
-translate-quantifier-returns t c = rule-done (c .before .before .before .before .before .before .before .before .before .before .translate-range .ensures) (c .before .before .before .before .before .before .before .before .before .before .before .before .before .before .before .args .quantifier) (c .before .before .before .before .before .before .before .before .before .before .before .before .before .before .before .args .wanted) (c .before .before .before .before .before .before .before .before .before .before .before .before .before .before .before .args .x) (conditionAt (c .before .before .before .before .before .before .before .before .before .before .before .before .before .before .before .args .words .now) (c .before .before .before .before .before .before .before .before .before .before .before .before .before .before .before .args .condition)) (scopeOf (c .before .before .before .before .before .before .before .before .before .before .before .before .before .before .before .args .scope .now)) (c .before .before .before .before .before .before .before .before .before .before .before .before .before .before .before .args .p) (rule-way (c .before .before .before .before .before .before .before .before .before .before .before .before .before .before .before .args .catalogue .now) (scopeOf (c .before .before .before .before .before .before .before .before .before .before .before .before .before .before .before .args .scope .now)) (c .before .before .before .before .before .before .before .before .before .before .before .before .before .before .before .args .quantifier) (c .before .before .before .before .before .before .before .before .before .before .before .before .before .before .before .args .wanted) (c .before .before .before .before .before .way .given .0 .0) (c .before .before .before .before .before .before .before .before .before .before .before .before .before .before .before .pre .1 .2 .good) (sym (c .before .before .before .before .before .before .before .way-of .ensures) ∙ c .before .before .before .before .before .way .given .1)) (c .before .before .write-rule .ensures)
+translate-quantifier-returns t c = rule-done (c .before .before .before .before .before .before .before .before .before .before .translate-range .ensures) (c .before .before .before .before .before .before .before .before .before .before .before .before .before .before .before .args .quantifier) (c .before .before .before .before .before .before .before .before .before .before .before .before .before .before .before .args .wanted) (c .before .before .before .before .before .before .before .before .before .before .before .before .before .before .before .args .x) (conditionAt (c .before .before .before .before .before .before .before .before .before .before .before .before .before .before .before .args .words .now) (c .before .before .before .before .before .before .before .before .before .before .before .before .before .before .before .args .condition)) (scopeOf (c .before .before .before .before .before .before .before .before .before .before .before .before .before .before .before .args .scope .now)) (c .before .before .before .before .before .before .before .before .before .before .before .before .before .before .before .args .p) (rule-way (c .before .before .before .before .before .before .before .before .before .before .before .before .before .before .before .args .catalogue .now) (scopeOf (c .before .before .before .before .before .before .before .before .before .before .before .before .before .before .before .args .scope .now)) (c .before .before .before .before .before .before .before .before .before .before .before .before .before .before .before .args .quantifier) (c .before .before .before .before .before .before .before .before .before .before .before .before .before .before .before .args .wanted) (c .before .before .before .before .before .way .given .0 .0) (c .before .before .before .before .before .before .before .before .before .before .before .before .before .before .before .pre .1 .3 .good) (sym (c .before .before .before .before .before .before .before .way-of .ensures) ∙ c .before .before .before .before .before .way .given .1)) (c .before .before .write-rule .ensures)
 
 translate-quantifier-same-length-2 : (t : ℕ) → translate-quantifier-lts.Need-same-length-2 (translate-quantifier-calls t) (translate-quantifier-at t) translate-quantifier.Post
 translate-quantifier-same-length-2 t c = search needs
 
 translate-quantifier-returns-2 : (t : ℕ) → translate-quantifier-lts.Need-returns-2 (translate-quantifier-calls t) (translate-quantifier-at t) translate-quantifier.Post
-translate-quantifier-returns-2 t c = rule-done (c .before .before .before .before .before .before .before .before .before .before .translate-range .ensures) (c .before .before .before .before .before .before .before .before .before .before .before .before .before .before .before .args .quantifier) (c .before .before .before .before .before .before .before .before .before .before .before .before .before .before .before .args .wanted) (c .before .before .before .before .before .before .before .before .before .before .before .before .before .before .before .args .x) (conditionAt (c .before .before .before .before .before .before .before .before .before .before .before .before .before .before .before .args .words .now) (c .before .before .before .before .before .before .before .before .before .before .before .before .before .before .before .args .condition)) (scopeOf (c .before .before .before .before .before .before .before .before .before .before .before .before .before .before .before .args .scope .now)) (c .before .before .before .before .before .before .before .before .before .before .before .before .before .before .before .args .p) (divisor-way (c .before .before .before .before .before .before .before .before .before .before .before .before .before .before .before .args .catalogue .now) (scopeOf (c .before .before .before .before .before .before .before .before .before .before .before .before .before .before .before .args .scope .now)) (c .before .before .before .before .before .before .before .before .before .before .before .before .before .before .before .args .quantifier) (c .before .before .before .before .before .before .before .before .before .before .before .before .before .before .before .args .wanted) (c .before .before .before .before .before .way2 .given .0 .0) (c .before .before .before .before .before .way2 .given .0 .1 .0) (c .before .before .before .before .before .before .before .before .before .before .before .before .before .before .before .pre .1 .2 .good) (sym (c .before .before .before .before .before .before .before .way-of .ensures) ∙ c .before .before .before .before .before .way2 .given .1)) (c .before .before .write-rule2 .ensures)
+translate-quantifier-returns-2 t c = rule-done (c .before .before .before .before .before .before .before .before .before .before .translate-range .ensures) (c .before .before .before .before .before .before .before .before .before .before .before .before .before .before .before .args .quantifier) (c .before .before .before .before .before .before .before .before .before .before .before .before .before .before .before .args .wanted) (c .before .before .before .before .before .before .before .before .before .before .before .before .before .before .before .args .x) (conditionAt (c .before .before .before .before .before .before .before .before .before .before .before .before .before .before .before .args .words .now) (c .before .before .before .before .before .before .before .before .before .before .before .before .before .before .before .args .condition)) (scopeOf (c .before .before .before .before .before .before .before .before .before .before .before .before .before .before .before .args .scope .now)) (c .before .before .before .before .before .before .before .before .before .before .before .before .before .before .before .args .p) (divisor-way (c .before .before .before .before .before .before .before .before .before .before .before .before .before .before .before .args .catalogue .now) (scopeOf (c .before .before .before .before .before .before .before .before .before .before .before .before .before .before .before .args .scope .now)) (c .before .before .before .before .before .before .before .before .before .before .before .before .before .before .before .args .quantifier) (c .before .before .before .before .before .before .before .before .before .before .before .before .before .before .before .args .wanted) (c .before .before .before .before .before .way2 .given .0 .0) (c .before .before .before .before .before .way2 .given .0 .1 .0) (c .before .before .before .before .before .before .before .before .before .before .before .before .before .before .before .pre .1 .3 .good) (sym (c .before .before .before .before .before .before .before .way-of .ensures) ∙ c .before .before .before .before .before .way2 .given .1)) (c .before .before .write-rule2 .ensures)
 
 translate-quantifier-same-length-3 : (t : ℕ) → translate-quantifier-lts.Need-same-length-3 (translate-quantifier-calls t) (translate-quantifier-at t) translate-quantifier.Post
 translate-quantifier-same-length-3 t c = search needs
 
 translate-quantifier-returns-3 : (t : ℕ) → translate-quantifier-lts.Need-returns-3 (translate-quantifier-calls t) (translate-quantifier-at t) translate-quantifier.Post
-translate-quantifier-returns-3 t c = division-done (c .before .before .before .before .before .before .before .before .before .translate-range .ensures) (c .before .before .before .before .before .before .before .before .before .before .before .before .before .before .args .quantifier) (c .before .before .before .before .before .before .before .before .before .before .before .before .before .before .args .wanted) (c .before .before .before .before .before .before .before .before .before .before .before .before .before .before .args .x) (conditionAt (c .before .before .before .before .before .before .before .before .before .before .before .before .before .before .args .words .now) (c .before .before .before .before .before .before .before .before .before .before .before .before .before .before .args .condition)) (scopeOf (c .before .before .before .before .before .before .before .before .before .before .before .before .before .before .args .scope .now)) (c .before .before .before .before .before .before .before .before .before .before .before .before .before .before .args .p) (division-way (columnsOf (c .before .before .before .before .before .before .before .before .before .before .before .before .before .before .args .catalogue .now)) (c .before .before .before .before .before .before .before .before .before .before .before .before .before .before .args .short) (c .before .before .before .before .before .before .before .before .before .before .before .before .before .before .args .x) (rangeAt (c .before .before .before .before .before .before .before .before .before .before .before .before .before .before .args .words .now) (c .before .before .before .before .before .before .before .before .before .before .before .before .before .before .args .range)) (conditionAt (c .before .before .before .before .before .before .before .before .before .before .before .before .before .before .args .words .now) (c .before .before .before .before .before .before .before .before .before .before .before .before .before .before .args .condition)) (c .before .before .before .before .before .before .before .before .before .before .before .before .before .before .args .quantifier) (c .before .before .before .before .before .before .before .before .before .before .before .before .before .before .args .wanted) (sym (c .before .before .before .before .before .before .way-of .ensures) ∙ c .before .before .before .before .enum-told .given .1)) (written-condition (columnsOf (c .before .before .before .before .before .before .before .before .before .before .before .before .before .before .args .catalogue .now)) (c .before .before .before .before .before .before .before .before .before .before .before .before .before .before .args .short) (divisionBy (c .before .before .before .before .before .before .before .before .before .before .before .before .before .before .args .x) (c .before .before .before .before .before .before .before .before .before .translate-range .result .count - 1)) (scopeOf (c .before .before .before .before .before .before .before .before .before .before .before .before .before .before .args .scope .now)) (c .before .before .before .before .before .before .before .before .before .before .before .before .before .before .args .p) (restricts (c .before .before .before .before .before .before .before .before .before .before .before .before .before .before .args .quantifier) (c .before .before .before .before .before .before .before .before .before .before .before .before .before .before .args .wanted) (c .before .before .before .before .before .before .before .before .before .before .before .before .before .before .args .x) (rangeAt (c .before .before .before .before .before .before .before .before .before .before .before .before .before .before .args .words .now) (c .before .before .before .before .before .before .before .before .before .before .before .before .before .before .args .range)) (c .before .before .before .before .before .before .before .before .before .before .before .before .before .before .args .words .now) (c .before .before .before .before .before .before .before .before .before .before .before .before .before .before .args .condition) (c .before .before .before .before .before .before .before .before .before .before .before .before .before .before .pre .1 .2) (c .before .before .before .before .before .before .before .before .before .translate-range .ensures) (sym (c .before .before .before .before .before .before .way-of .ensures) ∙ c .before .before .before .before .enum-told .given .1) tt) (c .before .before .translate-condition .ensures))
+translate-quantifier-returns-3 t c = division-done (c .before .before .before .before .before .before .before .before .before .translate-range .ensures) (c .before .before .before .before .before .before .before .before .before .before .before .before .before .before .args .quantifier) (c .before .before .before .before .before .before .before .before .before .before .before .before .before .before .args .wanted) (c .before .before .before .before .before .before .before .before .before .before .before .before .before .before .args .x) (conditionAt (c .before .before .before .before .before .before .before .before .before .before .before .before .before .before .args .words .now) (c .before .before .before .before .before .before .before .before .before .before .before .before .before .before .args .condition)) (scopeOf (c .before .before .before .before .before .before .before .before .before .before .before .before .before .before .args .scope .now)) (c .before .before .before .before .before .before .before .before .before .before .before .before .before .before .args .p) (division-way (columnsOf (c .before .before .before .before .before .before .before .before .before .before .before .before .before .before .args .catalogue .now)) (c .before .before .before .before .before .before .before .before .before .before .before .before .before .before .args .short) (c .before .before .before .before .before .before .before .before .before .before .before .before .before .before .args .x) (rangeAt (c .before .before .before .before .before .before .before .before .before .before .before .before .before .before .args .words .now) (c .before .before .before .before .before .before .before .before .before .before .before .before .before .before .args .range)) (conditionAt (c .before .before .before .before .before .before .before .before .before .before .before .before .before .before .args .words .now) (c .before .before .before .before .before .before .before .before .before .before .before .before .before .before .args .condition)) (c .before .before .before .before .before .before .before .before .before .before .before .before .before .before .args .quantifier) (c .before .before .before .before .before .before .before .before .before .before .before .before .before .before .args .wanted) (sym (c .before .before .before .before .before .before .way-of .ensures) ∙ c .before .before .before .before .enum-told .given .1)) (written-condition (columnsOf (c .before .before .before .before .before .before .before .before .before .before .before .before .before .before .args .catalogue .now)) (c .before .before .before .before .before .before .before .before .before .before .before .before .before .before .args .short) (divisionBy (c .before .before .before .before .before .before .before .before .before .before .before .before .before .before .args .x) (c .before .before .before .before .before .before .before .before .before .translate-range .result .count - 1)) (scopeOf (c .before .before .before .before .before .before .before .before .before .before .before .before .before .before .args .scope .now)) (c .before .before .before .before .before .before .before .before .before .before .before .before .before .before .args .p) (restricts (c .before .before .before .before .before .before .before .before .before .before .before .before .before .before .args .quantifier) (c .before .before .before .before .before .before .before .before .before .before .before .before .before .before .args .wanted) (c .before .before .before .before .before .before .before .before .before .before .before .before .before .before .args .x) (rangeAt (c .before .before .before .before .before .before .before .before .before .before .before .before .before .before .args .words .now) (c .before .before .before .before .before .before .before .before .before .before .before .before .before .before .args .range)) (c .before .before .before .before .before .before .before .before .before .before .before .before .before .before .args .words .now) (c .before .before .before .before .before .before .before .before .before .before .before .before .before .before .args .condition) (c .before .before .before .before .before .before .before .before .before .before .before .before .before .before .pre .1 .0) (c .before .before .before .before .before .before .before .before .before .before .before .before .before .before .pre .1 .3) (c .before .before .before .before .before .before .before .before .before .translate-range .ensures) (sym (c .before .before .before .before .before .before .way-of .ensures) ∙ c .before .before .before .before .enum-told .given .1) tt) (c .before .before .translate-condition .ensures))
 
 translate-quantifier-same-length-4 : (t : ℕ) → translate-quantifier-lts.Need-same-length-4 (translate-quantifier-calls t) (translate-quantifier-at t) translate-quantifier.Post
 translate-quantifier-same-length-4 t c = search needs
 
 translate-quantifier-returns-4 : (t : ℕ) → translate-quantifier-lts.Need-returns-4 (translate-quantifier-calls t) (translate-quantifier-at t) translate-quantifier.Post
-translate-quantifier-returns-4 t c = plain-done (c .before .before .before .before .before .before .before .before .before .before .before .before .before .before .before .before .before .before .before .before .before .before .translate-range .ensures) (c .before .before .before .before .before .before .before .before .before .before .before .before .before .before .before .before .before .before .before .before .before .before .before .before .before .before .before .args .quantifier) (c .before .before .before .before .before .before .before .before .before .before .before .before .before .before .before .before .before .before .before .before .before .before .before .before .before .before .before .args .wanted) (c .before .before .before .before .before .before .before .before .before .before .before .before .before .before .before .before .before .before .before .before .before .before .before .before .before .before .before .args .x) (conditionAt (c .before .before .before .before .before .before .before .before .before .before .before .before .before .before .before .before .before .before .before .before .before .before .before .before .before .before .before .args .words .now) (c .before .before .before .before .before .before .before .before .before .before .before .before .before .before .before .before .before .before .before .before .before .before .before .before .before .before .before .args .condition)) (scopeOf (c .before .before .before .before .before .before .before .before .before .before .before .before .before .before .before .before .before .before .before .before .before .before .before .before .before .before .before .args .scope .now)) (c .before .before .before .before .before .before .before .before .before .before .before .before .before .before .before .before .before .before .before .before .before .before .before .before .before .before .before .args .p) (plain-way (columnsOf (c .before .before .before .before .before .before .before .before .before .before .before .before .before .before .before .before .before .before .before .before .before .before .before .before .before .before .before .args .catalogue .now)) (c .before .before .before .before .before .before .before .before .before .before .before .before .before .before .before .before .before .before .before .before .before .before .before .before .before .before .before .args .short) (c .before .before .before .before .before .before .before .before .before .before .before .before .before .before .before .before .before .before .before .before .before .before .before .before .before .before .before .args .x) (rangeAt (c .before .before .before .before .before .before .before .before .before .before .before .before .before .before .before .before .before .before .before .before .before .before .before .before .before .before .before .args .words .now) (c .before .before .before .before .before .before .before .before .before .before .before .before .before .before .before .before .before .before .before .before .before .before .before .before .before .before .before .args .range)) (conditionAt (c .before .before .before .before .before .before .before .before .before .before .before .before .before .before .before .before .before .before .before .before .before .before .before .before .before .before .before .args .words .now) (c .before .before .before .before .before .before .before .before .before .before .before .before .before .before .before .before .before .before .before .before .before .before .before .before .before .before .before .args .condition)) (c .before .before .before .before .before .before .before .before .before .before .before .before .before .before .before .before .before .before .before .before .before .before .before .before .before .before .before .args .quantifier) (c .before .before .before .before .before .before .before .before .before .before .before .before .before .before .before .before .before .before .before .before .before .before .before .before .before .before .before .args .wanted) (sym (c .before .before .before .before .before .before .before .before .before .before .before .before .before .before .before .before .before .before .before .way-of .ensures) ∙ c .before .before .before .before .before .before .before .before .before .before .before .before .before .before .before .before .before .enum-told2 .given .1)) (inside-written (c .before .before .before .before .before .before .before .before .before .before .before .before .before .before .before .before .before .before .before .before .before .before .before .before .before .before .before .args .quantifier) (c .before .before .before .before .before .before .before .before .before .before .before .before .before .before .before .before .before .before .before .before .before .before .before .before .before .before .before .args .wanted) (c .before .before .before .before .before .before .before .before .before .before .before .before .before .before .before .before .before .before .before .before .before .before .before .before .before .before .before .args .x) (rangeAt (c .before .before .before .before .before .before .before .before .before .before .before .before .before .before .before .before .before .before .before .before .before .before .before .before .before .before .before .args .words .now) (c .before .before .before .before .before .before .before .before .before .before .before .before .before .before .before .before .before .before .before .before .before .before .before .before .before .before .before .args .range)) (c .before .before .before .before .before .before .before .before .before .before .before .before .before .before .before .before .before .before .before .before .before .before .before .before .before .before .before .args .words .now) (c .before .before .before .before .before .before .before .before .before .before .before .before .before .before .before .before .before .before .before .before .before .before .before .before .before .before .before .args .condition) (c .before .before .before .before .before .before .before .before .before .before .before .before .before .before .before .before .before .before .before .before .before .before .before .before .before .before .before .pre .1 .2) (c .before .before .before .before .before .before .before .before .before .before .before .before .before .before .before .before .before .before .before .before .before .before .translate-range .ensures) (sym (c .before .before .before .before .before .before .before .before .before .before .before .before .before .before .before .before .before .before .before .way-of .ensures) ∙ c .before .before .before .before .before .before .before .before .before .before .before .before .before .before .before .before .before .enum-told2 .given .1) tt (c .before .before .before .before .before .before .before .before .before .before .before .before .before .before .extend .ensures) (c .before .before .before .before .before .before .before .before .before .before .before .before .product .ensures) (c .before .before .before .before .before .before .before .translate-condition2 .ensures)) (c .before .before .before .before .columns-in .ensures) (c .before .before .write-kept .ensures)
+translate-quantifier-returns-4 t c = plain-done (c .before .before .before .before .before .before .before .before .before .before .before .before .before .before .before .before .before .before .before .before .before .before .translate-range .ensures) (c .before .before .before .before .before .before .before .before .before .before .before .before .before .before .before .before .before .before .before .before .before .before .before .before .before .before .before .args .quantifier) (c .before .before .before .before .before .before .before .before .before .before .before .before .before .before .before .before .before .before .before .before .before .before .before .before .before .before .before .args .wanted) (c .before .before .before .before .before .before .before .before .before .before .before .before .before .before .before .before .before .before .before .before .before .before .before .before .before .before .before .args .x) (conditionAt (c .before .before .before .before .before .before .before .before .before .before .before .before .before .before .before .before .before .before .before .before .before .before .before .before .before .before .before .args .words .now) (c .before .before .before .before .before .before .before .before .before .before .before .before .before .before .before .before .before .before .before .before .before .before .before .before .before .before .before .args .condition)) (scopeOf (c .before .before .before .before .before .before .before .before .before .before .before .before .before .before .before .before .before .before .before .before .before .before .before .before .before .before .before .args .scope .now)) (c .before .before .before .before .before .before .before .before .before .before .before .before .before .before .before .before .before .before .before .before .before .before .before .before .before .before .before .args .p) (plain-way (columnsOf (c .before .before .before .before .before .before .before .before .before .before .before .before .before .before .before .before .before .before .before .before .before .before .before .before .before .before .before .args .catalogue .now)) (c .before .before .before .before .before .before .before .before .before .before .before .before .before .before .before .before .before .before .before .before .before .before .before .before .before .before .before .args .short) (c .before .before .before .before .before .before .before .before .before .before .before .before .before .before .before .before .before .before .before .before .before .before .before .before .before .before .before .args .x) (rangeAt (c .before .before .before .before .before .before .before .before .before .before .before .before .before .before .before .before .before .before .before .before .before .before .before .before .before .before .before .args .words .now) (c .before .before .before .before .before .before .before .before .before .before .before .before .before .before .before .before .before .before .before .before .before .before .before .before .before .before .before .args .range)) (conditionAt (c .before .before .before .before .before .before .before .before .before .before .before .before .before .before .before .before .before .before .before .before .before .before .before .before .before .before .before .args .words .now) (c .before .before .before .before .before .before .before .before .before .before .before .before .before .before .before .before .before .before .before .before .before .before .before .before .before .before .before .args .condition)) (c .before .before .before .before .before .before .before .before .before .before .before .before .before .before .before .before .before .before .before .before .before .before .before .before .before .before .before .args .quantifier) (c .before .before .before .before .before .before .before .before .before .before .before .before .before .before .before .before .before .before .before .before .before .before .before .before .before .before .before .args .wanted) (sym (c .before .before .before .before .before .before .before .before .before .before .before .before .before .before .before .before .before .before .before .way-of .ensures) ∙ c .before .before .before .before .before .before .before .before .before .before .before .before .before .before .before .before .before .enum-told2 .given .1)) (inside-written (c .before .before .before .before .before .before .before .before .before .before .before .before .before .before .before .before .before .before .before .before .before .before .before .before .before .before .before .args .quantifier) (c .before .before .before .before .before .before .before .before .before .before .before .before .before .before .before .before .before .before .before .before .before .before .before .before .before .before .before .args .wanted) (c .before .before .before .before .before .before .before .before .before .before .before .before .before .before .before .before .before .before .before .before .before .before .before .before .before .before .before .args .x) (rangeAt (c .before .before .before .before .before .before .before .before .before .before .before .before .before .before .before .before .before .before .before .before .before .before .before .before .before .before .before .args .words .now) (c .before .before .before .before .before .before .before .before .before .before .before .before .before .before .before .before .before .before .before .before .before .before .before .before .before .before .before .args .range)) (c .before .before .before .before .before .before .before .before .before .before .before .before .before .before .before .before .before .before .before .before .before .before .before .before .before .before .before .args .words .now) (c .before .before .before .before .before .before .before .before .before .before .before .before .before .before .before .before .before .before .before .before .before .before .before .before .before .before .before .args .condition) (c .before .before .before .before .before .before .before .before .before .before .before .before .before .before .before .before .before .before .before .before .before .before .before .before .before .before .before .pre .1 .0) (c .before .before .before .before .before .before .before .before .before .before .before .before .before .before .before .before .before .before .before .before .before .before .before .before .before .before .before .pre .1 .3) (c .before .before .before .before .before .before .before .before .before .before .before .before .before .before .before .before .before .before .before .before .before .before .translate-range .ensures) (sym (c .before .before .before .before .before .before .before .before .before .before .before .before .before .before .before .before .before .before .before .way-of .ensures) ∙ c .before .before .before .before .before .before .before .before .before .before .before .before .before .before .before .before .before .enum-told2 .given .1) tt (c .before .before .before .before .before .before .before .before .before .before .before .before .before .before .extend .ensures) (c .before .before .before .before .before .before .before .before .before .before .before .before .product .ensures) (c .before .before .before .before .before .before .before .translate-condition2 .ensures)) (c .before .before .before .before .columns-in .ensures) (c .before .before .write-kept .ensures)
 
 translate-range-sub-decode : (t : ℕ) → translate-range-lts.Need-sub-decode (translate-range-calls t) (translate-range-at t) translate-range.Post
 translate-range-sub-decode t c = c .before .before .before .pre .1 .0 .0

@@ -35,7 +35,7 @@ with-own-columns-requires-2 c κs = let s = c .before .before .before .before in
 
 write-own-selects-requires : tie.Need-write-own-selects-requires
 write-own-selects-requires c κs = let s = c .before .before .before .before .before .before in
-    (s .pre .rule .leaves-fit, s .pre .rule .some-columns, s .pre .rule .few-columns, s .pre .rule .some-nodes, room-less _ (s .pre .rule .room) (omega arith))
+    (s .pre .rule .variable, s .pre .rule .leaves-fit, s .pre .rule .some-columns, s .pre .rule .few-columns, s .pre .rule .some-nodes, room-less _ (s .pre .rule .room) (omega arith))
 
 sub-write-project : tie.Need-sub-write-project
 sub-write-project c = omega (arith, c .before .before .before .before .before .before .before .before .before .pre .rule .some-nodes, c .before .before .write-own-selects .ensures .counted)

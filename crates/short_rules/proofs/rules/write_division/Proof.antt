@@ -46,7 +46,7 @@ division-pairs-requires c κs = let s = c .before .before .before .before in
 write-dividend-requires : tie.Need-write-dividend-requires
 write-dividend-requires c κs = let d = c .before .before .before .before .before .before .pre .1 in
     record {
-      rule = record { leaves-fit = d .rule .leaves-fit; some-columns = d .rule .some-columns; few-columns = d .rule .few-columns; some-nodes = d .rule .some-nodes; room = room-less _ (d .rule .room) (omega arith) };
+      rule = record { leaves-fit = d .rule .leaves-fit; variable = d .rule .variable; some-columns = d .rule .some-columns; few-columns = d .rule .few-columns; some-nodes = d .rule .some-nodes; room = room-less _ (d .rule .room) (omega arith) };
       few-shared = d .few-shared;
       few-outside = d .few-outside;
     }

@@ -19,7 +19,7 @@ triples-of-requires c κs = let s = c .before .before in
 
 write-own-selects-requires : tie.Need-write-own-selects-requires
 write-own-selects-requires c κs = let s = c .before .before .before .before in
-    (s .pre .1 .leaves-fit, s .pre .1 .some-columns, s .pre .1 .few-columns, s .pre .1 .some-nodes, room-less _ (s .pre .1 .room) (omega arith))
+    (s .pre .1 .variable, s .pre .1 .leaves-fit, s .pre .1 .some-columns, s .pre .1 .few-columns, s .pre .1 .some-nodes, room-less _ (s .pre .1 .room) (omega arith))
 
 sub-link : tie.Need-sub-link
 sub-link c = omega arith

@@ -14,7 +14,7 @@ use Rattle.short_rules.proofs.rules.write_own_selects.Statement.{statem
 use Rattle.short_rules.proofs.rules.write_own_selects.Tie as tie
 
 extend-requires : tie.Need-extend-requires
-extend-requires c κs = (empty-fits, c .before .before .before .pre .1, omega (arith, c .before .before .before .pre .2))
+extend-requires c κs = (c .before .before .before .pre .0, empty-fits, c .before .before .before .pre .2, omega (arith, c .before .before .before .pre .3))
 
 write-selects-requires : tie.Need-write-selects-requires
 write-selects-requires c κs = search needs

@@ -1,6 +1,4 @@
-use borrow.Author.Tests.{ne-eqb}
-use mathlib.Core.Path.{ap, sym}
-use Rattle.relations.specs.Comparison.{operatorNamed}
+use mathlib.Core.Path.{sym}
 use Rattle.terms.proofs.NumberLaws.{no-operator}
 use Rattle.terms.proofs.operator.operator_of.Statement.{statement}
 use Rattle.terms.proofs.operator.operator_of.Tie as tie

@@ -1,12 +1,8 @@
 use Rattle.values.proofs.ClearLaws.{clear-all}
 use mathlib.Core.Path.{_∙_}
-use native.Mathlib.Omega.{arith}
 use borrow.Author.Needs.{needs}
 use Rattle.values.proofs.clearing.clear_from.Statement.{statement}
 use Rattle.values.proofs.clearing.clear_from.Tie as tie
-use Rattle.values.proofs.clearing.clear_from.Reads as reads
-use Rattle.values.proofs.clearing.clear_from.Lts as lts
-use Rattle.values.proofs.clearing.clear_words.Reads as clear-words-reads
 
 -- src/clearing.rt:27:5
 clear-words-requires : tie.Need-clear-words-requires

@@ -3,12 +3,9 @@ use mathlib.Core.Path.{_≡_, refl, _∙_}
 use lib.ListN.{length, replicate, length-set}
 use lib.Seq.{sets}
 use Rattle.values.proofs.ClearLaws.{clear-turn}
-use borrow.Author.Needs.{needs}
 use native.Mathlib.Omega.{arith}
 use Rattle.values.proofs.clearing.clear_words.Statement.{statement}
 use Rattle.values.proofs.clearing.clear_words.Tie as tie
-use Rattle.values.proofs.clearing.clear_words.Reads as reads
-use Rattle.values.proofs.clearing.clear_words.Lts as lts
 
 abbrev Inv-loop : tie.InvT-loop
 Inv-loop work₀ from to i₀ work i = (from ≤ i) × (i ≤ to) × (length work ≡ length work₀) × (work ≡ sets work₀ from (replicate (i - from) 0))

@@ -1,11 +1,7 @@
-use mathlib.Core.Path.{_≡_, refl, sym, _∙_}
-use native.Mathlib.Omega.{arith}
+use mathlib.Core.Path.{refl, sym}
 use borrow.Author.Needs.{needs}
 use Rattle.values.proofs.clearing.finish.Statement.{statement}
 use Rattle.values.proofs.clearing.finish.Tie as tie
-use Rattle.values.proofs.clearing.finish.Reads as reads
-use Rattle.values.proofs.clearing.finish.Lts as lts
-use Rattle.values.proofs.clearing.clear_from.Reads as clear-from-reads
 
 -- src/clearing.rt:36:22
 enum-known-placed : tie.Need-enum-known-placed

@@ -3,12 +3,9 @@ use Rattle.values.specs.Orders.{orderOf}
 use lib.ListN.{length, drop}
 use Prim.Native.Nat.{_≤_, _-_}
 use mathlib.Core.Path.{_≡_, refl, sym, _∙_}
-use borrow.Author.Needs.{needs}
 use native.Mathlib.Omega.{arith}
 use Rattle.values.proofs.rows.compare_rows.Statement.{statement}
 use Rattle.values.proofs.rows.compare_rows.Tie as tie
-use Rattle.values.proofs.rows.compare_rows.Reads as reads
-use Rattle.values.proofs.rows.compare_rows.Lts as lts
 
 abbrev Inv-loop : tie.InvT-loop
 Inv-loop a b i₀ i = (i ≤ length a) × (i ≤ length b) × (orderOf a b ≡ orderOf (drop i a) (drop i b))

@@ -6,8 +6,6 @@ use native.Mathlib.Omega.{arith}
 use borrow.Author.Needs.{needs}
 use Rattle.values.proofs.rows.part_of.Statement.{statement}
 use Rattle.values.proofs.rows.part_of.Tie as tie
-use Rattle.values.proofs.rows.part_of.Reads as reads
-use Rattle.values.proofs.rows.part_of.Lts as lts
 
 -- src/rows.rt:24:16
 sub-result : tie.Need-sub-result

@@ -1,10 +1,6 @@
-use native.Mathlib.Omega.{arith}
 use borrow.Author.Needs.{needs}
 use Rattle.values.proofs.rows.row.Statement.{statement}
 use Rattle.values.proofs.rows.row.Tie as tie
-use Rattle.values.proofs.rows.row.Reads as reads
-use Rattle.values.proofs.rows.row.Lts as lts
-use Rattle.values.proofs.rows.part_of.Reads as part-of-reads
 
 -- src/rows.rt:44:9
 part-of-requires : tie.Need-part-of-requires

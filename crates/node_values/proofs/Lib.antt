@@ -1,0 +1,5 @@
+-- In reading order.
+pub mod LoadLaws
+pub mod StandLaws
+pub mod NodeLaws
+pub mod Once

@@ -1,0 +1,4 @@
+-- In reading order.
+pub mod RangeLaws
+pub mod SieveLaws
+pub mod BoundSteps

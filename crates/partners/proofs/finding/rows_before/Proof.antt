@@ -1,0 +1,25 @@
+use mathlib.Core.Path.{sym}
+use Rattle.values.specs.Words.{rowsOf}
+use Rattle.partners.proofs.BoundSteps.{none-before-nothing}
+use native.Mathlib.Omega.{arith}
+use borrow.Author.Needs.{needs}
+use Rattle.partners.proofs.finding.rows_before.Statement.{statement}
+use Rattle.partners.proofs.finding.rows_before.Tie as tie
+use Rattle.partners.proofs.finding.rows_before.Reads as reads
+use Rattle.partners.proofs.finding.rows_before.Lts as lts
+use Rattle.values.proofs.search.count_before.Reads as count-before-reads
+
+-- src/finding.rt:27:9
+returns : tie.Need-returns
+returns c = let s = c .before .before .before .args in sym (none-before-nothing (s .bound .now) (rowsOf (s .value) (s .work .now)) (c .if1 .taken))
+
+-- src/finding.rt:29:5
+count-before-requires : tie.Need-count-before-requires
+count-before-requires c κs = search needs
+
+-- src/finding.rt:22:1
+returns-2 : tie.Need-returns-2
+returns-2 c = search needs
+
+pub rows-before-spec : {M : Type 1} → statement M
+rows-before-spec = tie.close (tie.spec returns count-before-requires returns-2)

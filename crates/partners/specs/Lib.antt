@@ -1,0 +1,4 @@
+-- In reading order.
+pub mod Ranges
+pub mod Sieves
+pub mod Bounds
