@@ -1,7 +1,7 @@
 -- A sorted tree in which the walk finds no fault is in `calculus`' good form, and the walk's widths are its widths. Assumes nothing.
-use mathlib.Core.Path.{_≡_, refl, sym, _∙_, ap}
-use mathlib.Core.Bool.{Bool, true, false, cond, not, _&&_, _||_, true≢false}
-use mathlib.Core.List.{List, [], _∷_, _++_}
+use mathlib.Core.Path.{_≡_, refl, sym, _∙_}
+use mathlib.Core.Bool.{Bool, true, false, not, _&&_, _||_, true≢false}
+use mathlib.Core.List.{List, []}
 use Prim.Native.Nat.{ℕ, zero, suc, _+_, _≤_, _<_, min}
 use native.Mathlib.Omega.{arith}
 use lib.Dec.{ltb, leb, eqb}
@@ -10,7 +10,7 @@ use borrow.Author.Tests.{ltb-true, ltb-false, leb-true, eqb-true, eqb-false, ne-
 use Rattle.relations.specs.Limits.{columnLimit, questionNodeLimit, variableCount, operatorCount}
 use Rattle.relations.specs.Lists.{All}
 use Rattle.relations.specs.Comparison.{Operator, operatorOf, operatorFor}
-use Rattle.relations.specs.Columns.{Attribute, attribute}
+use Rattle.relations.specs.Columns.{attribute}
 use Rattle.relations.proofs.BoolLaws.{and-left, and-right}
 use Rattle.calculus.specs.Question as calculus
 use Rattle.calculus.specs.Scope as scopes
@@ -20,13 +20,13 @@ use Rattle.calculus.specs.Form as form
 use Rattle.calculus.proofs.ScopeLaws.{targets-width}
 use Rattle.calculus.proofs.LegalColumns.{targets-columns}
 use Rattle.question.specs.Trees.{Tree, nothing, branch, operandOf, targetOf, atomOf, alphaOf, reading}
-use Rattle.question.specs.Walk.{widthKept, columnsKept, noWidths, addWidths, bind, opening, inside, operandUnboundAt, unboundAt, operandUnfitAt, unfitAt, targetWidthKept, lowestOf, foundAt, walk, Found}
+use Rattle.question.specs.Walk.{widthKept, columnsKept, noWidths, addWidths, bind, opening, inside, unboundAt, operandUnfitAt, unfitAt, targetWidthKept, lowestOf, foundAt, walk, Found}
 use Rattle.nodes.specs.declared.node.Operand.{Operand}
 use Rattle.nodes.specs.declared.node.Operand.the-variants.{Of, Fixed}
 use Rattle.nodes.specs.declared.node.Atom.{Atom}
 use Rattle.nodes.specs.declared.node.Node.{Node}
-use Rattle.nodes.specs.declared.node.Node.the-variants.{Table, Alpha, Target, Binding, RangeOr, RangeAnd, RangeAndNot, Atom as AtomNode, And, Or, Not, Some, Every, IllFormed}
-use Rattle.nodes.proofs.Forms.{operandFits, atomFits, first-of, second-of, operand-variable, variable-fits}
+use Rattle.nodes.specs.declared.node.Node.the-variants.{Alpha, Target, Binding, RangeOr, RangeAnd, RangeAndNot, Atom as AtomNode, And, Or, Not, Some, Every}
+use Rattle.nodes.proofs.Forms.{operandFits, atomFits, first-of, second-of}
 use Rattle.judgements.proofs.SortedTrees.{RangeTree, tableTree, alphaTree, orTree, andTree, andNotTree, TargetTree, targetTree, TargetsIfAny, noTarget, moreTargets, BindingTree, bindingTree, BindingsIfAny, noBinding, moreBindings, ConditionTree, atomTree, bothTree, eitherTree, notTree, someTree, everyTree, ConditionIfAny, withoutCondition, withCondition}
 use Rattle.judgements.proofs.ScopesShown.{Shows, shows-empty, fresh, shows-bind}
 use Rattle.judgements.proofs.TreeSizes.{restriction-is}

@@ -1,17 +1,17 @@
 -- A table with no ill-formed node and no unknown relation is a tree whose parts are all of the sorts that their places ask for. Assumes nothing.
-use mathlib.Core.Path.{_≡_, refl, sym, _∙_, ap}
+use mathlib.Core.Path.{_≡_, refl, sym, _∙_}
 use mathlib.Core.Bool.{Bool, true, false, cond, _&&_, _||_, true≢false, false≢true}
 use mathlib.Core.List.{List}
-use mathlib.Core.Logic.{_⊎_, inl, inr, ⊎-elim}
-use Prim.Native.Nat.{ℕ, zero, suc, _+_, _*_, _-_, _≤_, _<_}
+use mathlib.Core.Logic.{_⊎_, ⊎-elim}
+use Prim.Native.Nat.{ℕ, zero, suc, _*_, _-_, _≤_, _<_}
 use native.Mathlib.Omega.{arith}
 use lib.Dec.{ltb, leb, eqb}
 use lib.ListN.{getD}
-use borrow.Author.Tests.{leb-false, leb-true, ltb-true, eqb-true, le-leb}
-use Rattle.relations.specs.Limits.{columnLimit, questionNodeLimit, questionNodeWords, variableCount, operatorCount}
+use borrow.Author.Tests.{leb-false, ltb-true, eqb-true, le-leb}
+use Rattle.relations.specs.Limits.{columnLimit, questionNodeLimit, questionNodeWords, variableCount}
 use Rattle.relations.proofs.BoolLaws.{and-left, and-right, or-cases, true-or-false}
 use Rattle.nodes.specs.Kinds.{isTarget, isBinding, isRange, isCondition, fieldsOf, wordsFit}
-use Rattle.nodes.specs.Nodes.{nodeCount, kindNamed, spelled, nodeAt, wordOf, isIllFormed}
+use Rattle.nodes.specs.Nodes.{kindNamed, spelled, nodeAt, wordOf, isIllFormed}
 use Rattle.nodes.specs.References.{references}
 use Rattle.question.specs.Trees.{Tree, nothing, branch, treeOf}
 use Rattle.question.specs.Judgement.{isUnknown}
@@ -20,7 +20,7 @@ use Rattle.nodes.specs.declared.node.Operand.the-variants.{Of, Fixed}
 use Rattle.nodes.specs.declared.node.Atom.{Atom}
 use Rattle.nodes.specs.declared.node.Node.{Node}
 use Rattle.nodes.specs.declared.node.Node.the-variants.{Table, Alpha, Target, Binding, RangeOr, RangeAnd, RangeAndNot, Atom as AtomNode, And, Or, Not, Some, Every, IllFormed}
-use Rattle.nodes.proofs.Forms.{operandFits, atomFits, fits, node-fits, lower, first-of, second-of, third-of}
+use Rattle.nodes.proofs.Forms.{atomFits, fits, node-fits, lower, first-of, second-of, third-of}
 use Rattle.question.proofs.TreeLaws.{tree-is}
 
 -- trees of each sort, whose nodes have numbers below the limit

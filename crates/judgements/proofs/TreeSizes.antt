@@ -1,14 +1,14 @@
 -- Where every node but the last is referred to exactly once, the last node's tree has as many nodes as the table;
 -- and `calculus` counts the nodes of a sorted tree as they are. Assumes nothing.
 use mathlib.Core.Path.{_≡_, refl, sym, _∙_, ap, ap₂}
-use mathlib.Core.Bool.{Bool, true, false, cond}
+use mathlib.Core.Bool.{true, false, cond}
 use mathlib.Core.Logic.{_⊎_, inl, inr}
 use mathlib.Core.List.{List, [], _∷_, _++_}
 use Prim.Native.Nat.{ℕ, zero, suc, _+_, _*_, _≤_, _<_}
 use native.Mathlib.Omega.{arith}
 use lib.Dec.{eqb}
 use lib.ListN.{length}
-use borrow.Author.Tests.{eqb-true, eqb-false, ne-eqb, eq-eqb}
+use borrow.Author.Tests.{eqb-true, eqb-false, ne-eqb}
 use Rattle.relations.specs.Lists.{All}
 use Rattle.relations.proofs.BoolLaws.{true-or-false}
 use Rattle.relations.proofs.ListLaws.{all-append, all-mono}

@@ -5,7 +5,7 @@ use mathlib.Core.List.{List, [], _∷_, _++_, append-assoc}
 use mathlib.Core.Bool.{Bool, true, false, cond, not}
 use mathlib.Core.Logic.{_⊎_, inl, inr, ⊎-elim}
 use native.Mathlib.Omega.{arith}
-use native.Mathlib.Nat.{mod-lt, mod-eq-of-lt, div-eq-of-lt, div-self, div-one, eq-or-lt-of-le, add-comm, add-suc, add-zero, suc-add, one-mul}
+use native.Mathlib.Nat.{mod-lt, mod-eq-of-lt, div-eq-of-lt, div-self, div-one, eq-or-lt-of-le, add-zero, one-mul}
 use native.Mathlib.Numerals.{add-one}
 use lib.Arith.{digits-mod, dbl-pred}
 use lib.Pow.{pow-pos, pow-lt, pow-add, shl-shr, shr-shr, ones-split, ones-lt, high}

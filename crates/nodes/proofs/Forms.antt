@@ -1,13 +1,13 @@
 -- What the form of a decoded node gives: its variables are there, and its references are lower. Assumes nothing.
-use mathlib.Core.Path.{_≡_, refl, sym, _∙_, ap}
+use mathlib.Core.Path.{_≡_, refl, sym, _∙_}
 use mathlib.Core.Bool.{Bool, true, false, cond, _&&_, _||_, true≢false}
 use mathlib.Core.List.{List}
-use mathlib.Core.Logic.{_⊎_, inl, inr, ⊎-elim}
-use Prim.Native.Nat.{ℕ, _*_, _≤_, _<_}
+use mathlib.Core.Logic.{_⊎_, ⊎-elim}
+use Prim.Native.Nat.{ℕ, _*_, _≤_}
 use native.Mathlib.Omega.{arith}
 use lib.Dec.{ltb, leb, eqb}
 use lib.ListN.{getD}
-use borrow.Author.Tests.{ltb-true, leb-true, eqb-true}
+use borrow.Author.Tests.{ltb-true, eqb-true}
 use Rattle.relations.specs.Limits.{columnLimit, questionNodeWords, variableCount, operatorCount}
 use Rattle.relations.proofs.BoolLaws.{and-left, and-right, and-both, or-cases, true-or-false}
 use Rattle.nodes.specs.Kinds.{isTarget, isBinding, isRange, isCondition, fieldsOf, wordsFit}

@@ -1,6 +1,6 @@
 -- Tests that hold, taken apart. Assumes nothing.
 use mathlib.Core.Path.{_≡_}
-use mathlib.Core.Bool.{Bool, true, _&&_}
+use mathlib.Core.Bool.{true, _&&_}
 use Prim.Native.Nat.{ℕ, _≤_}
 use lib.Dec.{leb}
 use borrow.Author.Tests.{leb-true}

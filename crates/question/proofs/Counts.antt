@@ -1,13 +1,13 @@
 -- How many nodes there are, and that no node refers to the last: so the search for a node that is not referred to once ends there. Assumes nothing.
-use mathlib.Core.Path.{_≡_, refl, sym, _∙_, ap}
-use mathlib.Core.Bool.{Bool, true, false, cond, not, _&&_}
-use mathlib.Core.List.{List, _∷_, []}
-use Prim.Native.Nat.{ℕ, zero, suc, _+_, _*_, _-_, _/_, _%_, _≤_, _<_}
+use mathlib.Core.Path.{_≡_, refl, _∙_, ap}
+use mathlib.Core.Bool.{Bool, true}
+use mathlib.Core.List.{List}
+use Prim.Native.Nat.{ℕ, zero, suc, _+_, _*_, _-_, _%_, _≤_}
 use native.Mathlib.Nat.{div-add-mod'}
 use native.Mathlib.Omega.{arith}
 use lib.Dec.{leb, eqb}
 use lib.ListN.{length}
-use borrow.Author.Tests.{leb-true, eqb-true, ne-eqb, eq-eqb}
+use borrow.Author.Tests.{leb-true, eqb-true, ne-eqb}
 use Rattle.relations.specs.Limits.{questionNodeLimit, questionNodeWords}
 use Rattle.nodes.specs.Nodes.{nodeCount, nodeAt}
 use Rattle.nodes.specs.References.{references, referenceList, referencesTo, hit, seen, firstFrom, lowest, notOnce}

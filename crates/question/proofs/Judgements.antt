@@ -1,20 +1,14 @@
 -- Each judgement is the case of its definition that the tests before it decide. Assumes nothing.
-use mathlib.Core.Path.{_≡_, refl, sym, _∙_, ap}
-use mathlib.Core.Bool.{Bool, true, false}
+use mathlib.Core.Path.{_≡_}
+use mathlib.Core.Bool.{true, false}
 use mathlib.Core.List.{List}
 use Prim.Native.Nat.{ℕ, _≤_, _<_}
-use native.Mathlib.Omega.{arith}
-use lib.Dec.{ltb}
 use borrow.Author.Tests.{lt-ltb, le-ltb}
 use Rattle.relations.specs.Limits.{questionNodeLimit}
-use Rattle.catalogue.specs.Stored.{relationsOf}
 use Rattle.nodes.specs.Nodes.{nodeCount, nodeAt}
-use Rattle.nodes.specs.References.{lowest, notOnce, referencesTo}
-use Rattle.question.specs.Judgement.{isAlpha, isUnknown, lowestIllFormed, lastNode, lowestNotOnce, lowestUnknown}
+use Rattle.question.specs.Judgement.{isAlpha, lowestIllFormed, lastNode, lowestNotOnce, lowestUnknown}
 use Rattle.question.specs.Walk.{faultsFound, judgeTree, judgeNodes}
-use Rattle.question.specs.declared.judgement.Judgement.{Judgement}
 use Rattle.question.specs.declared.judgement.Judgement.the-variants.{Accepted, Refused}
-use Rattle.question.proofs.Counts.{Counted, lowest-not-once}
 
 module _ (catalogue words : List ℕ) {unknown : ℕ} (u : unknown ≡ lowestUnknown catalogue words) where
   pub unknown-refused : unknown < nodeCount words → Refused 4 unknown ≡ judgeTree catalogue words

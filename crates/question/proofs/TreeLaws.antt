@@ -1,6 +1,6 @@
 -- A reference's tree is its node over the trees of that node's references. Assumes nothing.
-use mathlib.Core.Path.{_≡_, refl, ap, _∙_}
-use mathlib.Core.List.{List, [], _∷_, _++_}
+use mathlib.Core.Path.{_≡_, refl, _∙_}
+use mathlib.Core.List.{List, [], _∷_}
 use mathlib.Core.Logic.{⊎-elim}
 use Prim.Native.Nat.{ℕ, zero, suc, _-_, _≤_, _<_}
 use native.Mathlib.Nat.{eq-or-lt-of-le}
@@ -9,7 +9,7 @@ use lib.ListN.{length, getD, length-append, List·getD-append}
 use lib.Seq.{getD-at}
 use Rattle.nodes.specs.Nodes.{nodeAt}
 use Rattle.nodes.specs.References.{references}
-use Rattle.question.specs.Trees.{Tree, nothing, branch, named, grown, treesBelow, treeOf}
+use Rattle.question.specs.Trees.{nothing, branch, named, grown, treesBelow, treeOf}
 use Rattle.nodes.proofs.Forms.{node-lower}
 
 module _ (words : List ℕ) where

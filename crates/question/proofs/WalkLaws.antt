@@ -68,6 +68,9 @@ within-limit x p limit h = omega arith
 parts-first : (x a b c p : ℕ) → min (min (min (min x a) b) c) p ≡ min x (min p (min a (min b c)))
 parts-first x a b c p = ap (λ (y : ℕ). min y p) (three-in-line x a b c) ∙ own-first x (min a (min b c)) p
 
+own-behind : (x q p : ℕ) → min (min x q) p ≡ min (min x p) q
+own-behind x q p = omega arith
+
 all-lowered : (l : List ℕ) (p q a b c d e g : ℕ) → lowered (lowered (lowered (lowered l a b) c d) e g) p q ≡ lowered l (min p (min a (min c e))) (min q (min b (min d g)))
 all-lowered l p q a b c d e g = ap₂ (λ (x y : ℕ). x ∷ y ∷ []) (parts-first (getD l 0 0) a c e p) (parts-first (getD l 1 0) b d g q)
 
@@ -76,6 +79,12 @@ between : (x a p c limit : ℕ) → x ≤ limit → min (min (min x a) p) c ≡ 
 between x a p c limit h =
     own-second x a p c
     ∙ sym (ap (λ (y : ℕ). min x (min p y)) (none-last a c limit) ∙ ap (λ (y : ℕ). min x y) (none-last p (min a c) limit) ∙ within-limit x (min p (min a c)) limit h)
+
+both-lowered : (l : List ℕ) (p q a b c d : ℕ) → PlacesSoFar l → lowered (lowered (lowered l a b) c d) p q ≡ lowered l (min p (min a (min c questionNodeLimit))) (min q (min b (min d questionNodeLimit)))
+both-lowered l p q a b c d so-far =
+    ap₂ (λ (x y : ℕ). x ∷ y ∷ [])
+    (own-behind (min (getD l 0 0) a) c p ∙ between (getD l 0 0) a p c questionNodeLimit (so-far .unbound-so-far))
+    (own-behind (min (getD l 1 0) b) d q ∙ between (getD l 1 0) b q d questionNodeLimit (so-far .unfit-so-far))
 
 binding-lowered : (l : List ℕ) (p q a b c d : ℕ) → PlacesSoFar l → lowered (lowered (lowered l a b) p q) c d ≡ lowered l (min p (min a (min c questionNodeLimit))) (min q (min b (min d questionNodeLimit)))
 binding-lowered l p q a b c d so-far =
@@ -176,22 +185,22 @@ module _ (s : List ℕ) where
   binds-inside : (role : Role) (v : ℕ) → role ≡ Binds v → (first : Found) → stepOf s role .inside first ≡ bind s v (first .width)
   binds-inside role v h first = ap (λ (r : Role). stepOf s r .inside first) h
 
--- a binder has no third part
-pub binder-third : (node : Node) (v : ℕ) → roleOf node ≡ Binds v → references node .third ≡ 0
-binder-third (Table relation) v h = refl
-binder-third (Alpha target binding condition) v h = let z : _≡_ {A = ℕ} 0 1 = cc in absurd (omega arith)
-binder-third (Target variable attribute next) v h = refl
-binder-third (Binding variable range next) v h = refl
-binder-third (RangeOr left right) v h = refl
-binder-third (RangeAnd left right) v h = refl
-binder-third (RangeAndNot left right) v h = refl
-binder-third (AtomNode atom) v h = refl
-binder-third (And left right) v h = refl
-binder-third (Or left right) v h = refl
-binder-third (Not inner) v h = refl
-binder-third (Some variable range condition) v h = refl
-binder-third (Every variable range condition) v h = refl
-binder-third IllFormed v h = refl
+-- only an alpha has a third part
+pub no-third : (node : Node) → isAlphaRole (roleOf node) ≡ false → references node .third ≡ 0
+no-third (Table relation) h = refl
+no-third (Alpha target binding condition) h = absurd (true≢false h)
+no-third (Target variable attribute next) h = refl
+no-third (Binding variable range next) h = refl
+no-third (RangeOr left right) h = refl
+no-third (RangeAnd left right) h = refl
+no-third (RangeAndNot left right) h = refl
+no-third (AtomNode atom) h = refl
+no-third (And left right) h = refl
+no-third (Or left right) h = refl
+no-third (Not inner) h = refl
+no-third (Some variable range condition) h = refl
+no-third (Every variable range condition) h = refl
+no-third IllFormed h = refl
 
 module _ (columns : ℕ → ℕ) (s : List ℕ) where
   none-is : walk columns nothing s ≡ record { unbound = questionNodeLimit; unfit = questionNodeLimit; width = 0; scope = s }
@@ -247,30 +256,27 @@ module _ (columns : ℕ → ℕ) (s l : List ℕ) (so-far : PlacesSoFar l) where
         let k : result ≡ stepOf s (roleOf node) .width columns (F .width) (S .width) = ap (λ (j : JudgedAt). j .width) judged ∙ rw w (opens-width s (roleOf node) h columns (F .width) (S .width)) in
         rw (D, k, all-lowered l p q (F .unbound) (F .unfit) (S .unbound) (S .unfit) (T .unbound) (T .unfit), alpha-is columns s i node x y z h)
 
-    -- any other node: the parts behind the first see what it binds
-    pub node-walked : {after after' after″ inner back : List ℕ} {a b c d : List ℕ} {first second third result : ℕ} → isAlphaRole (roleOf node) ≡ false → RoleFits (roleOf node)
-        → record { width = first; scope = after; lowest = a } ≡ walked columns x s l
-        → inner ≡ entered after (boundBy (roleOf node)) first
-        → record { width = second; scope = after'; lowest = b } ≡ walked columns y inner a
-        → record { width = third; scope = after″; lowest = c } ≡ walked columns z after' b
-        → back ≡ s
-        → record { width = result; lowest = d } ≡ judgedAt columns (roleOf node) i back first second c
-        → record { width = result; scope = back; lowest = d } ≡ walked columns (branch i node x y z) s l
-    node-walked {after} {after'} {after″} {inner} {back} {a} {b} {c} {d} {first} {second} {third} {result} other fits one enters two three same judged =
-        let F : Found = walk columns x s in
-        let S : Found = walk columns y inner in
-        let T : Found = walk columns z inner in
-        let f : first ≡ F .width = ap (λ (w : Walked). w .width) one in
-        let g : second ≡ S .width = ap (λ (w : Walked). w .width) two in
-        let e : inner ≡ entered s (boundBy (roleOf node)) (F .width) = enters ∙ rw (ap (λ (w : Walked). w .scope) one, f) in
-        let A : a ≡ lowered l (F .unbound) (F .unfit) = ap (λ (w : Walked). w .lowest) one in
-        let B : b ≡ lowered a (S .unbound) (S .unfit) = ap (λ (w : Walked). w .lowest) two in
-        let C : c ≡ lowered b (T .unbound) (T .unfit) = ap (λ (w : Walked). w .lowest) three ∙ rw (ap (λ (w : Walked). w .scope) two) in
-        let p : ℕ = placeOf (stepOf s (roleOf node) .unbound) i in
-        let q : ℕ = placeOf (stepOf s (roleOf node) .unfit (F .width) (S .width)) i in
-        let D : d ≡ lowered (lowered (lowered (lowered l (F .unbound) (F .unfit)) (S .unbound) (S .unfit)) (T .unbound) (T .unfit)) p q = ap (λ (j : JudgedAt). j .lowest) judged ∙ rw (same, f, g, C, B, A) in
-        let k : result ≡ stepOf s (roleOf node) .width columns (F .width) (S .width) = ap (λ (j : JudgedAt). j .width) judged ∙ rw (same, f, g) in
-        rw (D, k, same, all-lowered l p q (F .unbound) (F .unfit) (S .unbound) (S .unfit) (T .unbound) (T .unfit), node-is columns s i node x y z other fits e)
+  -- any other node: the part behind the first sees what it binds
+  pub node-walked : (i : ℕ) (node : Node) (x y : Tree) {after after' inner back : List ℕ} {a b c : List ℕ} {first second result : ℕ} → isAlphaRole (roleOf node) ≡ false → RoleFits (roleOf node)
+      → record { width = first; scope = after; lowest = a } ≡ walked columns x s l
+      → inner ≡ entered after (boundBy (roleOf node)) first
+      → record { width = second; scope = after'; lowest = b } ≡ walked columns y inner a
+      → back ≡ s
+      → record { width = result; lowest = c } ≡ judgedAt columns (roleOf node) i back first second b
+      → record { width = result; scope = back; lowest = c } ≡ walked columns (branch i node x y nothing) s l
+  node-walked i node x y {after} {after'} {inner} {back} {a} {b} {c} {first} {second} {result} other fits one enters two same judged =
+      let F : Found = walk columns x s in
+      let S : Found = walk columns y inner in
+      let f : first ≡ F .width = ap (λ (w : Walked). w .width) one in
+      let g : second ≡ S .width = ap (λ (w : Walked). w .width) two in
+      let e : inner ≡ entered s (boundBy (roleOf node)) (F .width) = enters ∙ rw (ap (λ (w : Walked). w .scope) one, f) in
+      let A : a ≡ lowered l (F .unbound) (F .unfit) = ap (λ (w : Walked). w .lowest) one in
+      let B : b ≡ lowered a (S .unbound) (S .unfit) = ap (λ (w : Walked). w .lowest) two in
+      let p : ℕ = placeOf (stepOf s (roleOf node) .unbound) i in
+      let q : ℕ = placeOf (stepOf s (roleOf node) .unfit (F .width) (S .width)) i in
+      let C : c ≡ lowered (lowered (lowered l (F .unbound) (F .unfit)) (S .unbound) (S .unfit)) p q = ap (λ (j : JudgedAt). j .lowest) judged ∙ rw (same, f, g, B, A) in
+      let k : result ≡ stepOf s (roleOf node) .width columns (F .width) (S .width) = ap (λ (j : JudgedAt). j .width) judged ∙ rw (same, f, g) in
+      rw (C, k, same, both-lowered l p q (F .unbound) (F .unfit) (S .unbound) (S .unfit) so-far, node-is columns s i node x y nothing other fits e, none-is columns inner)
 
   -- a binding, and those behind it
   pub binding-walked : (i : ℕ) (node : Node) (x y : Tree) {v first result : ℕ} {after after' inner : List ℕ} {a b c : List ℕ} → roleOf node ≡ Binds v
@@ -310,15 +316,13 @@ module _ (columns : ℕ → ℕ) (s l : List ℕ) (so-far : PlacesSoFar l) where
   pub so-far-judged : (role : Role) (i first second : ℕ) {result : ℕ} {a : List ℕ} → record { width = result; lowest = a } ≡ judgedAt columns role i s first second l → PlacesSoFar a
   so-far-judged role i first second one = still-so-far _ _ so-far (ap (λ (j : JudgedAt). j .lowest) one)
 
-  -- what a binder set is set back behind its parts
-  pub back-again : (x y z : Tree) (v : ℕ) {first second third : ℕ} {after inner after' after″ a b c : List ℕ}
+  -- what a binder set is set back behind its part
+  pub back-again : (x y : Tree) (v : ℕ) {first second : ℕ} {after inner after' a b : List ℕ}
       → record { width = first; scope = after; lowest = a } ≡ walked columns x s l
       → inner ≡ entered after v first
       → record { width = second; scope = after'; lowest = b } ≡ walked columns y inner a
-      → record { width = third; scope = after″; lowest = c } ≡ walked columns z after' b
-      → set (set after″ v (getD after v 0)) variableCount (getD after variableCount 0) ≡ s
-  back-again x y z v {first = first} {after = after} one enters two three =
-      rw (ap (λ (w : Walked). w .scope) three, ap (λ (w : Walked). w .scope) two, enters) (set-back after v first) ∙ ap (λ (w : Walked). w .scope) one
+      → set (set after' v (getD after v 0)) variableCount (getD after variableCount 0) ≡ s
+  back-again x y v {first = first} {after = after} one enters two = rw (ap (λ (w : Walked). w .scope) two, enters) (set-back after v first) ∙ ap (λ (w : Walked). w .scope) one
 
 part-within : (p a b : ℕ) → a ≤ questionNodeLimit → min p (min a b) ≤ questionNodeLimit
 part-within p a b h = omega arith

@@ -2,9 +2,6 @@
 -- The trees of all nodes below n are one list, each made from those before it.
 use Prim.Native.Nat.{ℕ, zero, suc, _+_}
 use mathlib.Core.List.{List, [], _∷_, _++_}
-use mathlib.Core.Bool.{cond}
-use mathlib.Core.Option.{Option, some, none}
-use lib.Dec.{eqb}
 use lib.ListN.{getD}
 use Rattle.relations.specs.Comparison.{equal, operatorNamed}
 use Rattle.relations.specs.Columns.{attribute, constant}

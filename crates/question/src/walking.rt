@@ -302,7 +302,6 @@ pub fn walk(
     let columns = scope[ALL_COLUMNS];
     enter(scope, variable, first);
     let second = walk(catalogue, words, named.second, scope, lowest);
-    walk(catalogue, words, named.third, scope, lowest);
     scope[variable as usize] = width;
     scope[ALL_COLUMNS] = columns;
     judge_at(catalogue, words, i, scope, first, second, lowest)

@@ -1,15 +1,9 @@
+-- `nodes::kinds::fields_of` meets its contract. Each return is the line of the table that the tests before it decide. Assumes nothing.
 use borrow.Author.Tests.{eq-eqb, ne-eqb}
 use Rattle.nodes.specs.Kinds.{fieldsOf}
-use native.Mathlib.Omega.{arith}
 use borrow.Author.Needs.{needs}
 use Rattle.nodes.proofs.kinds.fields_of.Statement.{statement}
 use Rattle.nodes.proofs.kinds.fields_of.Tie as tie
-use Rattle.nodes.proofs.kinds.fields_of.Reads as reads
-use Rattle.nodes.proofs.kinds.fields_of.Lts as lts
-use Rattle.nodes.proofs.kinds.five.Reads as five-reads
-use Rattle.nodes.proofs.kinds.one.Reads as one-reads
-use Rattle.nodes.proofs.kinds.three.Reads as three-reads
-use Rattle.nodes.proofs.kinds.two.Reads as two-reads
 
 one-requires : tie.Need-one-requires
 one-requires c κs = search needs

@@ -1,9 +1,7 @@
-use native.Mathlib.Omega.{arith}
+-- `nodes::kinds::is_of` meets its contract. In each arm the sort is the one that the arm names. Assumes nothing.
 use borrow.Author.Needs.{needs}
 use Rattle.nodes.proofs.kinds.is_of.Statement.{statement}
 use Rattle.nodes.proofs.kinds.is_of.Tie as tie
-use Rattle.nodes.proofs.kinds.is_of.Reads as reads
-use Rattle.nodes.proofs.kinds.is_of.Lts as lts
 
 enum-told : tie.Need-enum-told
 enum-told c = search needs

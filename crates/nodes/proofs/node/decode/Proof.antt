@@ -1,13 +1,8 @@
+-- `nodes::node::decode` meets its contract. The six words are read, and the tests of five of them decide whether the node that they spell stands. Assumes nothing.
 use Rattle.nodes.specs.Nodes.{nodeAt}
-use native.Mathlib.Omega.{arith}
 use borrow.Author.Needs.{needs}
 use Rattle.nodes.proofs.node.decode.Statement.{statement}
 use Rattle.nodes.proofs.node.decode.Tie as tie
-use Rattle.nodes.proofs.node.decode.Reads as reads
-use Rattle.nodes.proofs.node.decode.Lts as lts
-use Rattle.nodes.proofs.kinds.fields_of.Reads as fields-of-reads
-use Rattle.nodes.proofs.node.field_fits.Reads as field-fits-reads
-use Rattle.nodes.proofs.node.spell.Reads as spell-reads
 
 mul-at : tie.Need-mul-at
 mul-at c = search needs

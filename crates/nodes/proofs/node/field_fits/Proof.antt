@@ -1,11 +1,7 @@
-use native.Mathlib.Omega.{arith}
+-- `nodes::node::field_fits` meets its contract. In each arm the field is the one that the arm names; a reference's kind is asked of the node that it names. Assumes nothing.
 use borrow.Author.Needs.{needs}
 use Rattle.nodes.proofs.node.field_fits.Statement.{statement}
 use Rattle.nodes.proofs.node.field_fits.Tie as tie
-use Rattle.nodes.proofs.node.field_fits.Reads as reads
-use Rattle.nodes.proofs.node.field_fits.Lts as lts
-use Rattle.nodes.proofs.kinds.is_of.Reads as is-of-reads
-use Rattle.nodes.proofs.node.kind_named.Reads as kind-named-reads
 
 enum-told : tie.Need-enum-told
 enum-told c = search needs

@@ -1,9 +1,7 @@
-use native.Mathlib.Omega.{arith}
+-- `nodes::roles::role_of` meets its contract. In each arm the node is the one that the arm names. Assumes nothing.
 use borrow.Author.Needs.{needs}
 use Rattle.nodes.proofs.roles.role_of.Statement.{statement}
 use Rattle.nodes.proofs.roles.role_of.Tie as tie
-use Rattle.nodes.proofs.roles.role_of.Reads as reads
-use Rattle.nodes.proofs.roles.role_of.Lts as lts
 
 enum-known-node : tie.Need-enum-known-node
 enum-known-node c = search needs

@@ -1,67 +1,50 @@
-use native.Mathlib.Omega.{arith}
+-- `question::judgement::is_unknown` meets its contract. In each arm the role is the one that the arm names. Assumes nothing.
 use borrow.Author.Needs.{needs}
 use Rattle.question.proofs.judgement.is_unknown.Statement.{statement}
 use Rattle.question.proofs.judgement.is_unknown.Tie as tie
-use Rattle.question.proofs.judgement.is_unknown.Reads as reads
-use Rattle.question.proofs.judgement.is_unknown.Lts as lts
 
--- src/judgement.rt:109:22
 enum-known-role : tie.Need-enum-known-role
 enum-known-role c = search needs
 
--- src/judgement.rt:109:49
 cast-result : tie.Need-cast-result
 cast-result c = search needs
 
--- src/judgement.rt:110:24
 enum-told : tie.Need-enum-told
 enum-told c = search needs
 
--- src/judgement.rt:111:27
 enum-told-2 : tie.Need-enum-told-2
 enum-told-2 c = search needs
 
--- src/judgement.rt:112:27
 enum-told-3 : tie.Need-enum-told-3
 enum-told-3 c = search needs
 
--- src/judgement.rt:113:24
 enum-told-4 : tie.Need-enum-told-4
 enum-told-4 c = search needs
 
--- src/judgement.rt:114:49
 enum-told-5 : tie.Need-enum-told-5
 enum-told-5 c = search needs
 
--- src/judgement.rt:115:24
 enum-told-6 : tie.Need-enum-told-6
 enum-told-6 c = search needs
 
--- src/judgement.rt:105:1
 returns : tie.Need-returns
 returns c = simp (c .before .role .given .1)
 
--- src/judgement.rt:105:1
 returns-2 : tie.Need-returns-2
 returns-2 c = search needs
 
--- src/judgement.rt:105:1
 returns-3 : tie.Need-returns-3
 returns-3 c = search needs
 
--- src/judgement.rt:105:1
 returns-4 : tie.Need-returns-4
 returns-4 c = search needs
 
--- src/judgement.rt:105:1
 returns-5 : tie.Need-returns-5
 returns-5 c = search needs
 
--- src/judgement.rt:105:1
 returns-6 : tie.Need-returns-6
 returns-6 c = search needs
 
--- src/judgement.rt:105:1
 returns-7 : tie.Need-returns-7
 returns-7 c = search needs
 

@@ -1,3 +1,4 @@
+-- `question::judgement::judge_tree` meets its contract. Each return is the case of `judgeTree` that the tests before it decide; the lowest places are those that the walk found. Assumes nothing.
 use Rattle.question.proofs.WalkLaws.{lowest-found}
 use Rattle.question.proofs.Judgements.{unknown-refused, unbound-refused, unfit-refused, all-accepted}
 use Rattle.question.specs.Walk.{noWidths}
@@ -8,81 +9,58 @@ use native.Mathlib.Omega.{arith}
 use borrow.Author.Needs.{needs}
 use Rattle.question.proofs.judgement.judge_tree.Statement.{statement}
 use Rattle.question.proofs.judgement.judge_tree.Tie as tie
-use Rattle.question.proofs.judgement.judge_tree.Reads as reads
-use Rattle.question.proofs.judgement.judge_tree.Lts as lts
-use Rattle.question.proofs.judgement.lowest_unknown.Reads as lowest-unknown-reads
-use Rattle.question.proofs.judgement.refused.Reads as refused-reads
-use Rattle.question.proofs.walking.walk.Reads as walk-reads
 
--- src/judgement.rt:154:9
 lowest-unknown-requires : tie.Need-lowest-unknown-requires
 lowest-unknown-requires c κs = search needs
 
--- src/judgement.rt:156:27
 cast-refused : tie.Need-cast-refused
 cast-refused c = search needs
 
--- src/judgement.rt:156:9
 refused-requires : tie.Need-refused-requires
 refused-requires c κs = search needs
 
--- src/judgement.rt:156:9
 returns : tie.Need-returns
 returns c = c .refused .ensures ∙ unknown-refused (c .before .before .before .before .before .args .catalogue .now) (c .before .before .before .before .before .args .words .now) (rw (c .before .before .before .before .before .pre .0) at (c .before .before .lowest-unknown .ensures)) (omega (arith, c .before .before .before .before .before .pre .0))
 
--- src/judgement.rt:159:23
 cast-lowest : tie.Need-cast-lowest
 cast-lowest c = search needs
 
--- src/judgement.rt:160:28
 cast-walk : tie.Need-cast-walk
 cast-walk c = search needs
 
--- src/judgement.rt:160:5
 walk-requires : tie.Need-walk-requires
 walk-requires c κs = search needs
 
--- src/judgement.rt:161:8
 array-read-if2 : tie.Need-array-read-if2
 array-read-if2 c = search needs
 
--- src/judgement.rt:161:20
 cast-if2 : tie.Need-cast-if2
 cast-if2 c = search needs
 
--- src/judgement.rt:162:27
 array-read-refused : tie.Need-array-read-refused
 array-read-refused c = search needs
 
--- src/judgement.rt:162:9
 refused-requires-2 : tie.Need-refused-requires-2
 refused-requires-2 c κs = search needs
 
--- src/judgement.rt:162:9
 returns-2 : tie.Need-returns-2
 returns-2 c = c .refused2 .ensures ∙ unbound-refused (c .before .before .before .before .before .before .before .before .before .args .catalogue .now) (c .before .before .before .before .before .before .before .before .before .args .words .now) (rw (c .before .before .before .before .before .before .before .before .before .pre .0) at (c .before .before .before .before .before .before .lowest-unknown .ensures)) ((lowest-found (columnsOf (c .before .before .before .before .before .before .before .before .before .args .catalogue .now)) (questionTree (c .before .before .before .before .before .before .before .before .before .args .words .now)) noWidths (rw (c .before .before .before .before .before .before .before .before .before .pre .0) at (c .before .before .walk .ensures))) .0) ((lowest-found (columnsOf (c .before .before .before .before .before .before .before .before .before .args .catalogue .now)) (questionTree (c .before .before .before .before .before .before .before .before .before .args .words .now)) noWidths (rw (c .before .before .before .before .before .before .before .before .before .pre .0) at (c .before .before .walk .ensures))) .1) (omega (arith, c .before .before .before .before .before .before .before .before .before .pre .0, c .before .before .before .before .before .if1 .left)) (c .before .if2 .taken)
 
--- src/judgement.rt:164:8
 array-read-if3 : tie.Need-array-read-if3
 array-read-if3 c = search needs
 
--- src/judgement.rt:164:20
 cast-if3 : tie.Need-cast-if3
 cast-if3 c = search needs
 
--- src/judgement.rt:165:27
 array-read-refused-2 : tie.Need-array-read-refused-2
 array-read-refused-2 c = search needs
 
--- src/judgement.rt:165:9
 refused-requires-3 : tie.Need-refused-requires-3
 refused-requires-3 c κs = search needs
 
--- src/judgement.rt:165:9
 returns-3 : tie.Need-returns-3
 returns-3 c = c .refused3 .ensures ∙ unfit-refused (c .before .before .before .before .before .before .before .before .before .before .args .catalogue .now) (c .before .before .before .before .before .before .before .before .before .before .args .words .now) (rw (c .before .before .before .before .before .before .before .before .before .before .pre .0) at (c .before .before .before .before .before .before .before .lowest-unknown .ensures)) ((lowest-found (columnsOf (c .before .before .before .before .before .before .before .before .before .before .args .catalogue .now)) (questionTree (c .before .before .before .before .before .before .before .before .before .before .args .words .now)) noWidths (rw (c .before .before .before .before .before .before .before .before .before .before .pre .0) at (c .before .before .before .walk .ensures))) .0) ((lowest-found (columnsOf (c .before .before .before .before .before .before .before .before .before .before .args .catalogue .now)) (questionTree (c .before .before .before .before .before .before .before .before .before .before .args .words .now)) noWidths (rw (c .before .before .before .before .before .before .before .before .before .before .pre .0) at (c .before .before .before .walk .ensures))) .1) (omega (arith, c .before .before .before .before .before .before .before .before .before .before .pre .0, c .before .before .before .before .before .before .if1 .left)) (omega (arith, c .before .before .if2 .left)) (c .before .if3 .taken)
 
--- src/judgement.rt:150:1
 returns-4 : tie.Need-returns-4
 returns-4 c = all-accepted (c .before .before .before .before .before .before .before .before .before .args .catalogue .now) (c .before .before .before .before .before .before .before .before .before .args .words .now) (rw (c .before .before .before .before .before .before .before .before .before .pre .0) at (c .before .before .before .before .before .before .lowest-unknown .ensures)) ((lowest-found (columnsOf (c .before .before .before .before .before .before .before .before .before .args .catalogue .now)) (questionTree (c .before .before .before .before .before .before .before .before .before .args .words .now)) noWidths (rw (c .before .before .before .before .before .before .before .before .before .pre .0) at (c .before .before .walk .ensures))) .0) ((lowest-found (columnsOf (c .before .before .before .before .before .before .before .before .before .args .catalogue .now)) (questionTree (c .before .before .before .before .before .before .before .before .before .args .words .now)) noWidths (rw (c .before .before .before .before .before .before .before .before .before .pre .0) at (c .before .before .walk .ensures))) .1) (omega (arith, c .before .before .before .before .before .before .before .before .before .pre .0, c .before .before .before .before .before .if1 .left)) (omega (arith, c .before .if2 .left)) (omega (arith, c .if3 .left))
 

@@ -3,7 +3,7 @@ use Rattle.question.proofs.Searches.{search-start, search-found, search
 use Rattle.nodes.specs.References.{lowest, firstFrom}
 use Rattle.question.specs.Judgement.{isUnknown}
 use Rattle.nodes.specs.Nodes.{nodeAt}
-use mathlib.Core.Path.{_≡_, refl, sym, _∙_}
+use mathlib.Core.Path.{_≡_, sym, _∙_}
 use Prim.Native.Nat.{_≤_, _-_}
 use native.Mathlib.Omega.{arith}
 use Rattle.question.proofs.judgement.lowest_unknown.Statement.{statement}

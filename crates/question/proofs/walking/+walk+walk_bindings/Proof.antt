@@ -1,6 +1,7 @@
 -- `question::walking::walk` and `walk_bindings` meet their contracts. The measure is twice the reference, and one more for bindings: each call is of a lower node,
 -- or of the same by `walk`. What each call leaves is the step of proofs/WalkLaws that takes what its calls left. Assumes nothing.
 use mathlib.Core.Path.{_≡_, sym, _∙_, ap}
+use mathlib.Core.Bool.{false}
 use Rattle.catalogue.specs.Stored.{columnsOf}
 use Rattle.nodes.specs.Nodes.{nodeAt}
 use Rattle.nodes.specs.Roles.{roleOf}
@@ -9,9 +10,10 @@ use Rattle.nodes.specs.declared.references.References.{References}
 use Rattle.nodes.specs.declared.roles.Role.the-variants.{Binds}
 use Rattle.nodes.proofs.Forms.{node-lower, node-variable}
 use Rattle.question.specs.Trees.{treeOf}
+use Rattle.question.specs.Judgement.{isAlphaRole}
 use Rattle.question.specs.Walk.{noWidths, boundBy}
 use Rattle.question.proofs.TreeLaws.{tree-of-reference, tree-of-none}
-use Rattle.question.proofs.WalkLaws.{is-opens, bound-within, is-binder, binder-third, other-bound, none-walked, none-bound, alpha-walked, node-walked, binding-walked, other-walked, so-far-walked, so-far-bound, so-far-judged, back-again}
+use Rattle.question.proofs.WalkLaws.{is-opens, bound-within, is-binder, no-third, other-bound, none-walked, none-bound, alpha-walked, node-walked, binding-walked, other-walked, so-far-walked, so-far-bound, so-far-judged, back-again}
 use borrow.Author.Needs.{needs}
 use native.Mathlib.Omega.{arith}
 use Prim.Native.Nat.{ℕ, _+_, _*_, _-_, _<_}
@@ -116,23 +118,20 @@ walk-enter-requires t c κs = tt
 walk-walk-requires-4 : (t : ℕ) → walk-lts.Need-walk-requires-4 (walk-calls t) (walk-at t) walk.Post
 walk-walk-requires-4 t c κs = (omega (arith, c .before .before .before .before .before .before .before .before .before .before .before .before .before .before .before .before .before .before .pre .0, c .before .before .before .before .before .before .before .before .before .before .before .before .before .before .before .before .before .before .pre .1 .0, c .before .before .before .before .before .before .before .before .before .before .before .before .before .before .before .if1 .left, node-lower (c .before .before .before .before .before .before .before .before .before .before .before .before .before .before .before .before .before .before .args .words .now) (c .before .before .before .before .before .before .before .before .before .before .before .before .before .before .before .before .before .before .args .reference - 1) .second-lower, ap (λ (r : References). r .second) (rw (c .before .before .before .before .before .before .before .before .before .before .before .before .before .before .decode .ensures) at (c .before .before .before .before .before .before .before .before .before .before .before .before .before .references-of .ensures))), (omega (arith, c .before .before .before .before .before .before .before .before .before .before .before .before .before .before .before .before .before .before .pre .0, c .before .before .before .before .before .before .before .before .before .before .before .before .before .before .before .before .before .before .pre .1 .0, c .before .before .before .before .before .before .before .before .before .before .before .before .before .before .before .if1 .left, node-lower (c .before .before .before .before .before .before .before .before .before .before .before .before .before .before .before .before .before .before .args .words .now) (c .before .before .before .before .before .before .before .before .before .before .before .before .before .before .before .before .before .before .args .reference - 1) .second-lower, ap (λ (r : References). r .second) (rw (c .before .before .before .before .before .before .before .before .before .before .before .before .before .before .decode .ensures) at (c .before .before .before .before .before .before .before .before .before .before .before .before .before .references-of .ensures))), (so-far-walked _ _ _ (c .before .before .before .before .before .before .before .before .before .before .before .before .before .before .before .before .before .before .pre .1 .1) _ (c .before .before .before .before .before .before .walk3 .ensures))))
 
-walk-walk-requires-5 : (t : ℕ) → walk-lts.Need-walk-requires-5 (walk-calls t) (walk-at t) walk.Post
-walk-walk-requires-5 t c κs = (omega (arith, c .before .before .before .before .before .before .before .before .before .before .before .before .before .before .before .before .before .before .before .before .before .pre .0, c .before .before .before .before .before .before .before .before .before .before .before .before .before .before .before .before .before .before .before .before .before .pre .1 .0, c .before .before .before .before .before .before .before .before .before .before .before .before .before .before .before .before .before .before .if1 .left, node-lower (c .before .before .before .before .before .before .before .before .before .before .before .before .before .before .before .before .before .before .before .before .before .args .words .now) (c .before .before .before .before .before .before .before .before .before .before .before .before .before .before .before .before .before .before .before .before .before .args .reference - 1) .third-lower, ap (λ (r : References). r .third) (rw (c .before .before .before .before .before .before .before .before .before .before .before .before .before .before .before .before .before .decode .ensures) at (c .before .before .before .before .before .before .before .before .before .before .before .before .before .before .before .before .references-of .ensures))), (omega (arith, c .before .before .before .before .before .before .before .before .before .before .before .before .before .before .before .before .before .before .before .before .before .pre .0, c .before .before .before .before .before .before .before .before .before .before .before .before .before .before .before .before .before .before .before .before .before .pre .1 .0, c .before .before .before .before .before .before .before .before .before .before .before .before .before .before .before .before .before .before .if1 .left, node-lower (c .before .before .before .before .before .before .before .before .before .before .before .before .before .before .before .before .before .before .before .before .before .args .words .now) (c .before .before .before .before .before .before .before .before .before .before .before .before .before .before .before .before .before .before .before .before .before .args .reference - 1) .third-lower, ap (λ (r : References). r .third) (rw (c .before .before .before .before .before .before .before .before .before .before .before .before .before .before .before .before .before .decode .ensures) at (c .before .before .before .before .before .before .before .before .before .before .before .before .before .before .before .before .references-of .ensures))), (so-far-walked _ _ _ (so-far-walked _ _ _ (c .before .before .before .before .before .before .before .before .before .before .before .before .before .before .before .before .before .before .before .before .before .pre .1 .1) _ (c .before .before .before .before .before .before .before .before .before .walk3 .ensures)) _ (c .before .before .walk4 .ensures))))
-
 walk-cast-scope : (t : ℕ) → walk-lts.Need-cast-scope (walk-calls t) (walk-at t) walk.Post
-walk-cast-scope t c = omega (arith, bound-within (roleOf (nodeAt (c .before .before .before .before .before .before .before .before .before .before .before .before .before .before .before .before .before .before .before .before .before .before .args .words .now) (c .before .before .before .before .before .before .before .before .before .before .before .before .before .before .before .before .before .before .before .before .before .before .args .reference - 1))) (node-variable (c .before .before .before .before .before .before .before .before .before .before .before .before .before .before .before .before .before .before .before .before .before .before .args .words .now) (c .before .before .before .before .before .before .before .before .before .before .before .before .before .before .before .before .before .before .before .before .before .before .args .reference - 1)), (rw (c .before .before .before .before .before .before .before .before .before .before .before .before .before .before .before .before .role-of .ensures, c .before .before .before .before .before .before .before .before .before .before .before .before .before .before .before .before .before .before .decode .ensures) at (c .before .before .before .before .before .before .before .before .before .before .before .before .before .bound-by .ensures)))
+walk-cast-scope t c = omega (arith, bound-within (roleOf (nodeAt (c .before .before .before .before .before .before .before .before .before .before .before .before .before .before .before .before .before .before .before .args .words .now) (c .before .before .before .before .before .before .before .before .before .before .before .before .before .before .before .before .before .before .before .args .reference - 1))) (node-variable (c .before .before .before .before .before .before .before .before .before .before .before .before .before .before .before .before .before .before .before .args .words .now) (c .before .before .before .before .before .before .before .before .before .before .before .before .before .before .before .before .before .before .before .args .reference - 1)), (rw (c .before .before .before .before .before .before .before .before .before .before .before .before .before .role-of .ensures, c .before .before .before .before .before .before .before .before .before .before .before .before .before .before .before .decode .ensures) at (c .before .before .before .before .before .before .before .before .before .before .bound-by .ensures)))
 
 walk-element-write-scope : (t : ℕ) → walk-lts.Need-element-write-scope (walk-calls t) (walk-at t) walk.Post
-walk-element-write-scope t c = omega (arith, bound-within (roleOf (nodeAt (c .before .before .before .before .before .before .before .before .before .before .before .before .before .before .before .before .before .before .before .before .before .before .args .words .now) (c .before .before .before .before .before .before .before .before .before .before .before .before .before .before .before .before .before .before .before .before .before .before .args .reference - 1))) (node-variable (c .before .before .before .before .before .before .before .before .before .before .before .before .before .before .before .before .before .before .before .before .before .before .args .words .now) (c .before .before .before .before .before .before .before .before .before .before .before .before .before .before .before .before .before .before .before .before .before .before .args .reference - 1)), (rw (c .before .before .before .before .before .before .before .before .before .before .before .before .before .before .before .before .role-of .ensures, c .before .before .before .before .before .before .before .before .before .before .before .before .before .before .before .before .before .before .decode .ensures) at (c .before .before .before .before .before .before .before .before .before .before .before .before .before .bound-by .ensures)))
+walk-element-write-scope t c = omega (arith, bound-within (roleOf (nodeAt (c .before .before .before .before .before .before .before .before .before .before .before .before .before .before .before .before .before .before .before .args .words .now) (c .before .before .before .before .before .before .before .before .before .before .before .before .before .before .before .before .before .before .before .args .reference - 1))) (node-variable (c .before .before .before .before .before .before .before .before .before .before .before .before .before .before .before .before .before .before .before .args .words .now) (c .before .before .before .before .before .before .before .before .before .before .before .before .before .before .before .before .before .before .before .args .reference - 1)), (rw (c .before .before .before .before .before .before .before .before .before .before .before .before .before .role-of .ensures, c .before .before .before .before .before .before .before .before .before .before .before .before .before .before .before .decode .ensures) at (c .before .before .before .before .before .before .before .before .before .before .bound-by .ensures)))
 
 walk-element-write-scope-2 : (t : ℕ) → walk-lts.Need-element-write-scope-2 (walk-calls t) (walk-at t) walk.Post
 walk-element-write-scope-2 t c = search needs
 
 walk-judge-at-requires-2 : (t : ℕ) → walk-lts.Need-judge-at-requires-2 (walk-calls t) (walk-at t) walk.Post
-walk-judge-at-requires-2 t c κs = (omega (arith, c .before .before .before .before .before .before .before .before .before .before .before .before .before .before .before .before .before .before .before .before .before .if1 .left, c .before .before .before .before .before .before .before .before .before .before .before .before .before .before .before .before .before .before .before .before .before .before .before .before .pre .1 .0), (so-far-walked _ _ _ (so-far-walked _ _ _ (so-far-walked _ _ _ (c .before .before .before .before .before .before .before .before .before .before .before .before .before .before .before .before .before .before .before .before .before .before .before .before .pre .1 .1) _ (c .before .before .before .before .before .before .before .before .before .before .before .before .walk3 .ensures)) _ (c .before .before .before .before .before .walk4 .ensures)) _ (c .before .before .walk5 .ensures)))
+walk-judge-at-requires-2 t c κs = (omega (arith, c .before .before .before .before .before .before .before .before .before .before .before .before .before .before .before .before .before .before .if1 .left, c .before .before .before .before .before .before .before .before .before .before .before .before .before .before .before .before .before .before .before .before .before .pre .1 .0), (so-far-walked _ _ _ (so-far-walked _ _ _ (c .before .before .before .before .before .before .before .before .before .before .before .before .before .before .before .before .before .before .before .before .before .pre .1 .1) _ (c .before .before .before .before .before .before .before .before .before .walk3 .ensures)) _ (c .before .before .walk4 .ensures)))
 
 walk-returns-3 : (t : ℕ) → walk-lts.Need-returns-3 (walk-calls t) (walk-at t) walk.Post
-walk-returns-3 t c = rw (tree-of-reference (c .before .before .before .before .before .before .before .before .before .before .before .before .before .before .before .before .before .before .before .before .before .before .before .before .before .args .words .now) (c .before .before .before .before .before .before .before .before .before .before .before .before .before .before .before .before .before .before .before .before .before .before .before .before .before .args .reference) (omega (arith, c .before .before .before .before .before .before .before .before .before .before .before .before .before .before .before .before .before .before .before .before .before .before .if1 .left))) (node-walked (columnsOf (c .before .before .before .before .before .before .before .before .before .before .before .before .before .before .before .before .before .before .before .before .before .before .before .before .before .args .catalogue .now)) (c .before .before .before .before .before .before .before .before .before .before .before .before .before .before .before .before .before .before .before .before .before .before .before .before .before .args .scope .now) (c .before .before .before .before .before .before .before .before .before .before .before .before .before .before .before .before .before .before .before .before .before .before .before .before .before .args .lowest .now) (c .before .before .before .before .before .before .before .before .before .before .before .before .before .before .before .before .before .before .before .before .before .before .before .before .before .pre .1 .1) (c .before .before .before .before .before .before .before .before .before .before .before .before .before .before .before .before .before .before .before .before .before .before .before .before .before .args .reference - 1) (nodeAt (c .before .before .before .before .before .before .before .before .before .before .before .before .before .before .before .before .before .before .before .before .before .before .before .before .before .args .words .now) (c .before .before .before .before .before .before .before .before .before .before .before .before .before .before .before .before .before .before .before .before .before .before .before .before .before .args .reference - 1)) (treeOf (c .before .before .before .before .before .before .before .before .before .before .before .before .before .before .before .before .before .before .before .before .before .before .before .before .before .args .words .now) (references (nodeAt (c .before .before .before .before .before .before .before .before .before .before .before .before .before .before .before .before .before .before .before .before .before .before .before .before .before .args .words .now) (c .before .before .before .before .before .before .before .before .before .before .before .before .before .before .before .before .before .before .before .before .before .before .before .before .before .args .reference - 1)) .first)) (treeOf (c .before .before .before .before .before .before .before .before .before .before .before .before .before .before .before .before .before .before .before .before .before .before .before .before .before .args .words .now) (references (nodeAt (c .before .before .before .before .before .before .before .before .before .before .before .before .before .before .before .before .before .before .before .before .before .before .before .before .before .args .words .now) (c .before .before .before .before .before .before .before .before .before .before .before .before .before .before .before .before .before .before .before .before .before .before .before .before .before .args .reference - 1)) .second)) (treeOf (c .before .before .before .before .before .before .before .before .before .before .before .before .before .before .before .before .before .before .before .before .before .before .before .before .before .args .words .now) (references (nodeAt (c .before .before .before .before .before .before .before .before .before .before .before .before .before .before .before .before .before .before .before .before .before .before .before .before .before .args .words .now) (c .before .before .before .before .before .before .before .before .before .before .before .before .before .before .before .before .before .before .before .before .before .before .before .before .before .args .reference - 1)) .third)) (sym (rw (c .before .before .before .before .before .before .before .before .before .before .before .before .before .before .before .before .before .before .before .role-of .ensures, c .before .before .before .before .before .before .before .before .before .before .before .before .before .before .before .before .before .before .before .before .before .decode .ensures) at (c .before .before .before .before .before .before .before .before .before .before .before .before .before .before .before .before .before .before .is-alpha .ensures)) ∙ c .before .before .before .before .before .before .before .before .before .before .before .before .before .before .before .before .before .if2 .left) (node-variable (c .before .before .before .before .before .before .before .before .before .before .before .before .before .before .before .before .before .before .before .before .before .before .before .before .before .args .words .now) (c .before .before .before .before .before .before .before .before .before .before .before .before .before .before .before .before .before .before .before .before .before .before .before .before .before .args .reference - 1)) (rw (rw (c .before .before .before .before .before .before .before .before .before .before .before .before .before .before .before .before .before .before .before .before .before .decode .ensures) at (c .before .before .before .before .before .before .before .before .before .before .before .before .before .before .before .before .before .before .before .before .references-of .ensures)) at (c .before .before .before .before .before .before .before .before .before .before .before .before .before .walk3 .ensures)) (rw (rw (c .before .before .before .before .before .before .before .before .before .before .before .before .before .before .before .before .before .before .before .role-of .ensures, c .before .before .before .before .before .before .before .before .before .before .before .before .before .before .before .before .before .before .before .before .before .decode .ensures) at (c .before .before .before .before .before .before .before .before .before .before .before .before .before .before .before .before .bound-by .ensures)) at (c .before .before .before .before .before .before .before .before .before .enter .ensures)) (rw (rw (c .before .before .before .before .before .before .before .before .before .before .before .before .before .before .before .before .before .before .before .before .before .decode .ensures) at (c .before .before .before .before .before .before .before .before .before .before .before .before .before .before .before .before .before .before .before .before .references-of .ensures)) at (c .before .before .before .before .before .before .walk4 .ensures)) (rw (rw (c .before .before .before .before .before .before .before .before .before .before .before .before .before .before .before .before .before .before .before .before .before .decode .ensures) at (c .before .before .before .before .before .before .before .before .before .before .before .before .before .before .before .before .before .before .before .before .references-of .ensures)) at (c .before .before .before .walk5 .ensures)) (back-again (columnsOf (c .before .before .before .before .before .before .before .before .before .before .before .before .before .before .before .before .before .before .before .before .before .before .before .before .before .args .catalogue .now)) (c .before .before .before .before .before .before .before .before .before .before .before .before .before .before .before .before .before .before .before .before .before .before .before .before .before .args .scope .now) (c .before .before .before .before .before .before .before .before .before .before .before .before .before .before .before .before .before .before .before .before .before .before .before .before .before .args .lowest .now) (c .before .before .before .before .before .before .before .before .before .before .before .before .before .before .before .before .before .before .before .before .before .before .before .before .before .pre .1 .1) (treeOf (c .before .before .before .before .before .before .before .before .before .before .before .before .before .before .before .before .before .before .before .before .before .before .before .before .before .args .words .now) (references (nodeAt (c .before .before .before .before .before .before .before .before .before .before .before .before .before .before .before .before .before .before .before .before .before .before .before .before .before .args .words .now) (c .before .before .before .before .before .before .before .before .before .before .before .before .before .before .before .before .before .before .before .before .before .before .before .before .before .args .reference - 1)) .first)) (treeOf (c .before .before .before .before .before .before .before .before .before .before .before .before .before .before .before .before .before .before .before .before .before .before .before .before .before .args .words .now) (references (nodeAt (c .before .before .before .before .before .before .before .before .before .before .before .before .before .before .before .before .before .before .before .before .before .before .before .before .before .args .words .now) (c .before .before .before .before .before .before .before .before .before .before .before .before .before .before .before .before .before .before .before .before .before .before .before .before .before .args .reference - 1)) .second)) (treeOf (c .before .before .before .before .before .before .before .before .before .before .before .before .before .before .before .before .before .before .before .before .before .before .before .before .before .args .words .now) (references (nodeAt (c .before .before .before .before .before .before .before .before .before .before .before .before .before .before .before .before .before .before .before .before .before .before .before .before .before .args .words .now) (c .before .before .before .before .before .before .before .before .before .before .before .before .before .before .before .before .before .before .before .before .before .before .before .before .before .args .reference - 1)) .third)) (c .before .before .before .before .before .before .before .before .before .before .before .before .before .before .before .before .bound-by .result) (rw (rw (c .before .before .before .before .before .before .before .before .before .before .before .before .before .before .before .before .before .before .before .before .before .decode .ensures) at (c .before .before .before .before .before .before .before .before .before .before .before .before .before .before .before .before .before .before .before .before .references-of .ensures)) at (c .before .before .before .before .before .before .before .before .before .before .before .before .before .walk3 .ensures)) (c .before .before .before .before .before .before .before .before .before .enter .ensures) (rw (rw (c .before .before .before .before .before .before .before .before .before .before .before .before .before .before .before .before .before .before .before .before .before .decode .ensures) at (c .before .before .before .before .before .before .before .before .before .before .before .before .before .before .before .before .before .before .before .before .references-of .ensures)) at (c .before .before .before .before .before .before .walk4 .ensures)) (rw (rw (c .before .before .before .before .before .before .before .before .before .before .before .before .before .before .before .before .before .before .before .before .before .decode .ensures) at (c .before .before .before .before .before .before .before .before .before .before .before .before .before .before .before .before .before .before .before .before .references-of .ensures)) at (c .before .before .before .walk5 .ensures))) (c .judge-at2 .ensures))
+walk-returns-3 t c = let other : isAlphaRole (roleOf (nodeAt (c .before .before .before .before .before .before .before .before .before .before .before .before .before .before .before .before .before .before .before .before .before .before .args .words .now) (c .before .before .before .before .before .before .before .before .before .before .before .before .before .before .before .before .before .before .before .before .before .before .args .reference - 1))) ≡ false = (sym (rw (c .before .before .before .before .before .before .before .before .before .before .before .before .before .before .before .before .role-of .ensures, c .before .before .before .before .before .before .before .before .before .before .before .before .before .before .before .before .before .before .decode .ensures) at (c .before .before .before .before .before .before .before .before .before .before .before .before .before .before .before .is-alpha .ensures)) ∙ c .before .before .before .before .before .before .before .before .before .before .before .before .before .before .if2 .left) in rw (tree-of-reference (c .before .before .before .before .before .before .before .before .before .before .before .before .before .before .before .before .before .before .before .before .before .before .args .words .now) (c .before .before .before .before .before .before .before .before .before .before .before .before .before .before .before .before .before .before .before .before .before .before .args .reference) (omega (arith, c .before .before .before .before .before .before .before .before .before .before .before .before .before .before .before .before .before .before .before .if1 .left)), no-third (nodeAt (c .before .before .before .before .before .before .before .before .before .before .before .before .before .before .before .before .before .before .before .before .before .before .args .words .now) (c .before .before .before .before .before .before .before .before .before .before .before .before .before .before .before .before .before .before .before .before .before .before .args .reference - 1)) other, tree-of-none (c .before .before .before .before .before .before .before .before .before .before .before .before .before .before .before .before .before .before .before .before .before .before .args .words .now)) (node-walked (columnsOf (c .before .before .before .before .before .before .before .before .before .before .before .before .before .before .before .before .before .before .before .before .before .before .args .catalogue .now)) (c .before .before .before .before .before .before .before .before .before .before .before .before .before .before .before .before .before .before .before .before .before .before .args .scope .now) (c .before .before .before .before .before .before .before .before .before .before .before .before .before .before .before .before .before .before .before .before .before .before .args .lowest .now) (c .before .before .before .before .before .before .before .before .before .before .before .before .before .before .before .before .before .before .before .before .before .before .pre .1 .1) (c .before .before .before .before .before .before .before .before .before .before .before .before .before .before .before .before .before .before .before .before .before .before .args .reference - 1) (nodeAt (c .before .before .before .before .before .before .before .before .before .before .before .before .before .before .before .before .before .before .before .before .before .before .args .words .now) (c .before .before .before .before .before .before .before .before .before .before .before .before .before .before .before .before .before .before .before .before .before .before .args .reference - 1)) (treeOf (c .before .before .before .before .before .before .before .before .before .before .before .before .before .before .before .before .before .before .before .before .before .before .args .words .now) (references (nodeAt (c .before .before .before .before .before .before .before .before .before .before .before .before .before .before .before .before .before .before .before .before .before .before .args .words .now) (c .before .before .before .before .before .before .before .before .before .before .before .before .before .before .before .before .before .before .before .before .before .before .args .reference - 1)) .first)) (treeOf (c .before .before .before .before .before .before .before .before .before .before .before .before .before .before .before .before .before .before .before .before .before .before .args .words .now) (references (nodeAt (c .before .before .before .before .before .before .before .before .before .before .before .before .before .before .before .before .before .before .before .before .before .before .args .words .now) (c .before .before .before .before .before .before .before .before .before .before .before .before .before .before .before .before .before .before .before .before .before .before .args .reference - 1)) .second)) other (node-variable (c .before .before .before .before .before .before .before .before .before .before .before .before .before .before .before .before .before .before .before .before .before .before .args .words .now) (c .before .before .before .before .before .before .before .before .before .before .before .before .before .before .before .before .before .before .before .before .before .before .args .reference - 1)) (rw (rw (c .before .before .before .before .before .before .before .before .before .before .before .before .before .before .before .before .before .before .decode .ensures) at (c .before .before .before .before .before .before .before .before .before .before .before .before .before .before .before .before .before .references-of .ensures)) at (c .before .before .before .before .before .before .before .before .before .before .walk3 .ensures)) (rw (rw (c .before .before .before .before .before .before .before .before .before .before .before .before .before .before .before .before .role-of .ensures, c .before .before .before .before .before .before .before .before .before .before .before .before .before .before .before .before .before .before .decode .ensures) at (c .before .before .before .before .before .before .before .before .before .before .before .before .before .bound-by .ensures)) at (c .before .before .before .before .before .before .enter .ensures)) (rw (rw (c .before .before .before .before .before .before .before .before .before .before .before .before .before .before .before .before .before .before .decode .ensures) at (c .before .before .before .before .before .before .before .before .before .before .before .before .before .before .before .before .before .references-of .ensures)) at (c .before .before .before .walk4 .ensures)) (back-again (columnsOf (c .before .before .before .before .before .before .before .before .before .before .before .before .before .before .before .before .before .before .before .before .before .before .args .catalogue .now)) (c .before .before .before .before .before .before .before .before .before .before .before .before .before .before .before .before .before .before .before .before .before .before .args .scope .now) (c .before .before .before .before .before .before .before .before .before .before .before .before .before .before .before .before .before .before .before .before .before .before .args .lowest .now) (c .before .before .before .before .before .before .before .before .before .before .before .before .before .before .before .before .before .before .before .before .before .before .pre .1 .1) (treeOf (c .before .before .before .before .before .before .before .before .before .before .before .before .before .before .before .before .before .before .before .before .before .before .args .words .now) (references (nodeAt (c .before .before .before .before .before .before .before .before .before .before .before .before .before .before .before .before .before .before .before .before .before .before .args .words .now) (c .before .before .before .before .before .before .before .before .before .before .before .before .before .before .before .before .before .before .before .before .before .before .args .reference - 1)) .first)) (treeOf (c .before .before .before .before .before .before .before .before .before .before .before .before .before .before .before .before .before .before .before .before .before .before .args .words .now) (references (nodeAt (c .before .before .before .before .before .before .before .before .before .before .before .before .before .before .before .before .before .before .before .before .before .before .args .words .now) (c .before .before .before .before .before .before .before .before .before .before .before .before .before .before .before .before .before .before .before .before .before .before .args .reference - 1)) .second)) (c .before .before .before .before .before .before .before .before .before .before .before .before .before .bound-by .result) (rw (rw (c .before .before .before .before .before .before .before .before .before .before .before .before .before .before .before .before .before .before .decode .ensures) at (c .before .before .before .before .before .before .before .before .before .before .before .before .before .before .before .before .before .references-of .ensures)) at (c .before .before .before .before .before .before .before .before .before .before .walk3 .ensures)) (c .before .before .before .before .before .before .enter .ensures) (rw (rw (c .before .before .before .before .before .before .before .before .before .before .before .before .before .before .before .before .before .before .decode .ensures) at (c .before .before .before .before .before .before .before .before .before .before .before .before .before .before .before .before .before .references-of .ensures)) at (c .before .before .before .walk4 .ensures))) (c .judge-at2 .ensures))
 
 walk-bindings-returns : (t : ℕ) → walk-bindings-lts.Need-returns (walk-bindings-calls t) (walk-bindings-at t) walk-bindings.Post
 walk-bindings-returns t c = rw (c .if1 .taken, tree-of-none (c .before .before .before .args .words .now)) (none-bound (columnsOf (c .before .before .before .args .catalogue .now)) (c .before .before .before .args .scope .now) (c .before .before .before .args .lowest .now) (c .before .before .before .pre .1 .1))
@@ -168,7 +167,7 @@ walk-bindings-walk-bindings-requires : (t : ℕ) → walk-bindings-lts.Need-walk
 walk-bindings-walk-bindings-requires t c κs = (omega (arith, c .before .before .before .before .before .before .before .before .before .before .before .before .before .before .before .before .before .before .pre .0, c .before .before .before .before .before .before .before .before .before .before .before .before .before .before .before .before .before .before .pre .1 .0, c .before .before .before .before .before .before .before .before .before .before .before .before .before .before .before .if1 .left, node-lower (c .before .before .before .before .before .before .before .before .before .before .before .before .before .before .before .before .before .before .args .words .now) (c .before .before .before .before .before .before .before .before .before .before .before .before .before .before .before .before .before .before .args .reference - 1) .second-lower, ap (λ (r : References). r .second) (rw (c .before .before .before .before .before .before .before .before .before .before .before .before .before .before .decode .ensures) at (c .before .before .before .before .before .before .before .before .before .before .before .before .before .references-of .ensures))), (omega (arith, c .before .before .before .before .before .before .before .before .before .before .before .before .before .before .before .before .before .before .pre .0, c .before .before .before .before .before .before .before .before .before .before .before .before .before .before .before .before .before .before .pre .1 .0, c .before .before .before .before .before .before .before .before .before .before .before .before .before .before .before .if1 .left, node-lower (c .before .before .before .before .before .before .before .before .before .before .before .before .before .before .before .before .before .before .args .words .now) (c .before .before .before .before .before .before .before .before .before .before .before .before .before .before .before .before .before .before .args .reference - 1) .second-lower, ap (λ (r : References). r .second) (rw (c .before .before .before .before .before .before .before .before .before .before .before .before .before .before .decode .ensures) at (c .before .before .before .before .before .before .before .before .before .before .before .before .before .references-of .ensures))), (so-far-judged (columnsOf (c .before .before .before .before .before .before .before .before .before .before .before .before .before .before .before .before .before .before .args .catalogue .now)) (c .before .before .before .before .before .before .before .walk .last .1 .1 .1 .0) (c .before .before .before .before .before .before .before .walk .last .1 .1 .1 .1 .0) (so-far-walked _ _ _ (c .before .before .before .before .before .before .before .before .before .before .before .before .before .before .before .before .before .before .pre .1 .1) _ (c .before .before .before .before .before .before .before .walk .ensures)) (roleOf (nodeAt (c .before .before .before .before .before .before .before .before .before .before .before .before .before .before .before .before .before .before .args .words .now) (c .before .before .before .before .before .before .before .before .before .before .before .before .before .before .before .before .before .before .args .reference - 1))) (c .before .before .before .before .before .before .before .before .before .before .before .before .before .before .before .before .before .before .args .reference - 1) (c .before .before .before .before .before .before .before .walk .result) 0 (c .before .before .before .before .judge-at .ensures))))
 
 walk-bindings-returns-2 : (t : ℕ) → walk-bindings-lts.Need-returns-2 (walk-bindings-calls t) (walk-bindings-at t) walk-bindings.Post
-walk-bindings-returns-2 t c = let binder : roleOf (nodeAt (c .before .before .before .before .before .before .before .before .before .before .before .before .before .before .before .before .before .before .before .args .words .now) (c .before .before .before .before .before .before .before .before .before .before .before .before .before .before .before .before .before .before .before .args .reference - 1)) ≡ Binds (boundBy (roleOf (nodeAt (c .before .before .before .before .before .before .before .before .before .before .before .before .before .before .before .before .before .before .before .args .words .now) (c .before .before .before .before .before .before .before .before .before .before .before .before .before .before .before .before .before .before .before .args .reference - 1)))) = is-binder (roleOf (nodeAt (c .before .before .before .before .before .before .before .before .before .before .before .before .before .before .before .before .before .before .before .args .words .now) (c .before .before .before .before .before .before .before .before .before .before .before .before .before .before .before .before .before .before .before .args .reference - 1))) (rw (rw (c .before .before .before .before .before .before .before .before .before .before .before .before .before .role-of .ensures, c .before .before .before .before .before .before .before .before .before .before .before .before .before .before .before .decode .ensures) at (c .before .before .before .before .before .before .before .before .before .before .before .before .bound-by .ensures)) at (c .before .before .before .before .before .before .before .before .before .before .before .if2 .taken)) in rw (tree-of-reference (c .before .before .before .before .before .before .before .before .before .before .before .before .before .before .before .before .before .before .before .args .words .now) (c .before .before .before .before .before .before .before .before .before .before .before .before .before .before .before .before .before .before .before .args .reference) (omega (arith, c .before .before .before .before .before .before .before .before .before .before .before .before .before .before .before .before .if1 .left)), binder-third (nodeAt (c .before .before .before .before .before .before .before .before .before .before .before .before .before .before .before .before .before .before .before .args .words .now) (c .before .before .before .before .before .before .before .before .before .before .before .before .before .before .before .before .before .before .before .args .reference - 1)) (boundBy (roleOf (nodeAt (c .before .before .before .before .before .before .before .before .before .before .before .before .before .before .before .before .before .before .before .args .words .now) (c .before .before .before .before .before .before .before .before .before .before .before .before .before .before .before .before .before .before .before .args .reference - 1)))) binder, tree-of-none (c .before .before .before .before .before .before .before .before .before .before .before .before .before .before .before .before .before .before .before .args .words .now)) (binding-walked (columnsOf (c .before .before .before .before .before .before .before .before .before .before .before .before .before .before .before .before .before .before .before .args .catalogue .now)) (c .before .before .before .before .before .before .before .before .before .before .before .before .before .before .before .before .before .before .before .args .scope .now) (c .before .before .before .before .before .before .before .before .before .before .before .before .before .before .before .before .before .before .before .args .lowest .now) (c .before .before .before .before .before .before .before .before .before .before .before .before .before .before .before .before .before .before .before .pre .1 .1) (c .before .before .before .before .before .before .before .before .before .before .before .before .before .before .before .before .before .before .before .args .reference - 1) (nodeAt (c .before .before .before .before .before .before .before .before .before .before .before .before .before .before .before .before .before .before .before .args .words .now) (c .before .before .before .before .before .before .before .before .before .before .before .before .before .before .before .before .before .before .before .args .reference - 1)) (treeOf (c .before .before .before .before .before .before .before .before .before .before .before .before .before .before .before .before .before .before .before .args .words .now) (references (nodeAt (c .before .before .before .before .before .before .before .before .before .before .before .before .before .before .before .before .before .before .before .args .words .now) (c .before .before .before .before .before .before .before .before .before .before .before .before .before .before .before .before .before .before .before .args .reference - 1)) .first)) (treeOf (c .before .before .before .before .before .before .before .before .before .before .before .before .before .before .before .before .before .before .before .args .words .now) (references (nodeAt (c .before .before .before .before .before .before .before .before .before .before .before .before .before .before .before .before .before .before .before .args .words .now) (c .before .before .before .before .before .before .before .before .before .before .before .before .before .before .before .before .before .before .before .args .reference - 1)) .second)) binder (rw (rw (c .before .before .before .before .before .before .before .before .before .before .before .before .before .before .before .decode .ensures) at (c .before .before .before .before .before .before .before .before .before .before .before .before .before .before .references-of .ensures)) at (c .before .before .before .before .before .before .before .before .walk .ensures)) (c .before .before .before .before .before .judge-at .ensures) (rw (rw (c .before .before .before .before .before .before .before .before .before .before .before .before .before .role-of .ensures, c .before .before .before .before .before .before .before .before .before .before .before .before .before .before .before .decode .ensures) at (c .before .before .before .before .before .before .before .before .before .before .before .before .bound-by .ensures)) at (c .before .before .before .bind .ensures)) (rw (rw (c .before .before .before .before .before .before .before .before .before .before .before .before .before .before .before .decode .ensures) at (c .before .before .before .before .before .before .before .before .before .before .before .before .before .before .references-of .ensures)) at (c .walk-bindings .ensures)))
+walk-bindings-returns-2 t c = let binder : roleOf (nodeAt (c .before .before .before .before .before .before .before .before .before .before .before .before .before .before .before .before .before .before .before .args .words .now) (c .before .before .before .before .before .before .before .before .before .before .before .before .before .before .before .before .before .before .before .args .reference - 1)) ≡ Binds (boundBy (roleOf (nodeAt (c .before .before .before .before .before .before .before .before .before .before .before .before .before .before .before .before .before .before .before .args .words .now) (c .before .before .before .before .before .before .before .before .before .before .before .before .before .before .before .before .before .before .before .args .reference - 1)))) = is-binder (roleOf (nodeAt (c .before .before .before .before .before .before .before .before .before .before .before .before .before .before .before .before .before .before .before .args .words .now) (c .before .before .before .before .before .before .before .before .before .before .before .before .before .before .before .before .before .before .before .args .reference - 1))) (rw (rw (c .before .before .before .before .before .before .before .before .before .before .before .before .before .role-of .ensures, c .before .before .before .before .before .before .before .before .before .before .before .before .before .before .before .decode .ensures) at (c .before .before .before .before .before .before .before .before .before .before .before .before .bound-by .ensures)) at (c .before .before .before .before .before .before .before .before .before .before .before .if2 .taken)) in rw (tree-of-reference (c .before .before .before .before .before .before .before .before .before .before .before .before .before .before .before .before .before .before .before .args .words .now) (c .before .before .before .before .before .before .before .before .before .before .before .before .before .before .before .before .before .before .before .args .reference) (omega (arith, c .before .before .before .before .before .before .before .before .before .before .before .before .before .before .before .before .if1 .left)), no-third (nodeAt (c .before .before .before .before .before .before .before .before .before .before .before .before .before .before .before .before .before .before .before .args .words .now) (c .before .before .before .before .before .before .before .before .before .before .before .before .before .before .before .before .before .before .before .args .reference - 1)) (rw binder), tree-of-none (c .before .before .before .before .before .before .before .before .before .before .before .before .before .before .before .before .before .before .before .args .words .now)) (binding-walked (columnsOf (c .before .before .before .before .before .before .before .before .before .before .before .before .before .before .before .before .before .before .before .args .catalogue .now)) (c .before .before .before .before .before .before .before .before .before .before .before .before .before .before .before .before .before .before .before .args .scope .now) (c .before .before .before .before .before .before .before .before .before .before .before .before .before .before .before .before .before .before .before .args .lowest .now) (c .before .before .before .before .before .before .before .before .before .before .before .before .before .before .before .before .before .before .before .pre .1 .1) (c .before .before .before .before .before .before .before .before .before .before .before .before .before .before .before .before .before .before .before .args .reference - 1) (nodeAt (c .before .before .before .before .before .before .before .before .before .before .before .before .before .before .before .before .before .before .before .args .words .now) (c .before .before .before .before .before .before .before .before .before .before .before .before .before .before .before .before .before .before .before .args .reference - 1)) (treeOf (c .before .before .before .before .before .before .before .before .before .before .before .before .before .before .before .before .before .before .before .args .words .now) (references (nodeAt (c .before .before .before .before .before .before .before .before .before .before .before .before .before .before .before .before .before .before .before .args .words .now) (c .before .before .before .before .before .before .before .before .before .before .before .before .before .before .before .before .before .before .before .args .reference - 1)) .first)) (treeOf (c .before .before .before .before .before .before .before .before .before .before .before .before .before .before .before .before .before .before .before .args .words .now) (references (nodeAt (c .before .before .before .before .before .before .before .before .before .before .before .before .before .before .before .before .before .before .before .args .words .now) (c .before .before .before .before .before .before .before .before .before .before .before .before .before .before .before .before .before .before .before .args .reference - 1)) .second)) binder (rw (rw (c .before .before .before .before .before .before .before .before .before .before .before .before .before .before .before .decode .ensures) at (c .before .before .before .before .before .before .before .before .before .before .before .before .before .before .references-of .ensures)) at (c .before .before .before .before .before .before .before .before .walk .ensures)) (c .before .before .before .before .before .judge-at .ensures) (rw (rw (c .before .before .before .before .before .before .before .before .before .before .before .before .before .role-of .ensures, c .before .before .before .before .before .before .before .before .before .before .before .before .before .before .before .decode .ensures) at (c .before .before .before .before .before .before .before .before .before .before .before .before .bound-by .ensures)) at (c .before .before .before .bind .ensures)) (rw (rw (c .before .before .before .before .before .before .before .before .before .before .before .before .before .before .before .decode .ensures) at (c .before .before .before .before .before .before .before .before .before .before .before .before .before .before .references-of .ensures)) at (c .walk-bindings .ensures)))
 
 walk-bindings-walk-requires-2 : (t : ℕ) → walk-bindings-lts.Need-walk-requires-2 (walk-bindings-calls t) (walk-bindings-at t) walk-bindings.Post
 walk-bindings-walk-requires-2 t c κs = (omega (arith, c .before .before .before .before .before .before .before .before .before .before .pre .0), c .before .before .before .before .before .before .before .before .before .before .pre .1)
@@ -177,5 +176,5 @@ walk-bindings-returns-3 : (t : ℕ) → walk-bindings-lts.Need-returns-3 (walk-b
 walk-bindings-returns-3 t c = other-walked (columnsOf (c .before .before .before .before .before .before .before .before .before .before .before .args .catalogue .now)) (c .before .before .before .before .before .before .before .before .before .before .before .args .scope .now) (c .before .before .before .before .before .before .before .before .before .before .before .args .lowest .now) (c .before .before .before .before .before .before .before .before .before .before .before .pre .1 .1) (treeOf (c .before .before .before .before .before .before .before .before .before .before .before .args .words .now) (c .before .before .before .before .before .before .before .before .before .before .before .args .reference)) (rw (tree-of-reference (c .before .before .before .before .before .before .before .before .before .before .before .args .words .now) (c .before .before .before .before .before .before .before .before .before .before .before .args .reference) (omega (arith, c .before .before .before .before .before .before .before .before .if1 .left))) (other-bound (columnsOf (c .before .before .before .before .before .before .before .before .before .before .before .args .catalogue .now)) (c .before .before .before .before .before .before .before .before .before .before .before .args .scope .now) (c .before .before .before .before .before .before .before .before .before .before .before .args .reference - 1) (nodeAt (c .before .before .before .before .before .before .before .before .before .before .before .args .words .now) (c .before .before .before .before .before .before .before .before .before .before .before .args .reference - 1)) (treeOf (c .before .before .before .before .before .before .before .before .before .before .before .args .words .now) (references (nodeAt (c .before .before .before .before .before .before .before .before .before .before .before .args .words .now) (c .before .before .before .before .before .before .before .before .before .before .before .args .reference - 1)) .first)) (treeOf (c .before .before .before .before .before .before .before .before .before .before .before .args .words .now) (references (nodeAt (c .before .before .before .before .before .before .before .before .before .before .before .args .words .now) (c .before .before .before .before .before .before .before .before .before .before .before .args .reference - 1)) .second)) (treeOf (c .before .before .before .before .before .before .before .before .before .before .before .args .words .now) (references (nodeAt (c .before .before .before .before .before .before .before .before .before .before .before .args .words .now) (c .before .before .before .before .before .before .before .before .before .before .before .args .reference - 1)) .third)) (node-variable (c .before .before .before .before .before .before .before .before .before .before .before .args .words .now) (c .before .before .before .before .before .before .before .before .before .before .before .args .reference - 1)) (rw (rw (c .before .before .before .before .before .role-of .ensures, c .before .before .before .before .before .before .before .decode .ensures) at (c .before .before .before .before .bound-by .ensures)) at (c .before .before .before .if2 .left)))) (c .walk2 .ensures)
 
 pub +walk+walk-bindings-spec : {M : Type 1} → statement M
-+walk+walk-bindings-spec = close μ-walk μ-walk-bindings (λ t. walk-lts.spec (walk-calls t) (walk-at t) walk.Post (walk-returns t) (walk-sub-i t) (walk-cast-decode t) (walk-decode-requires t) (walk-references-of-requires t) (walk-role-of-requires t) (walk-is-alpha-requires t) (walk-walk-bindings-requires t) (walk-walk-requires t) (walk-walk-requires-2 t) (walk-judge-at-requires t) (walk-returns-2 t) (walk-bound-by-requires t) (walk-walk-requires-3 t) (walk-cast-width t) (walk-element-copy-out-width t) (walk-element-copy-out-columns t) (walk-enter-requires t) (walk-walk-requires-4 t) (walk-walk-requires-5 t) (walk-cast-scope t) (walk-element-write-scope t) (walk-element-write-scope-2 t) (walk-judge-at-requires-2 t) (walk-returns-3 t))
++walk+walk-bindings-spec = close μ-walk μ-walk-bindings (λ t. walk-lts.spec (walk-calls t) (walk-at t) walk.Post (walk-returns t) (walk-sub-i t) (walk-cast-decode t) (walk-decode-requires t) (walk-references-of-requires t) (walk-role-of-requires t) (walk-is-alpha-requires t) (walk-walk-bindings-requires t) (walk-walk-requires t) (walk-walk-requires-2 t) (walk-judge-at-requires t) (walk-returns-2 t) (walk-bound-by-requires t) (walk-walk-requires-3 t) (walk-cast-width t) (walk-element-copy-out-width t) (walk-element-copy-out-columns t) (walk-enter-requires t) (walk-walk-requires-4 t) (walk-cast-scope t) (walk-element-write-scope t) (walk-element-write-scope-2 t) (walk-judge-at-requires-2 t) (walk-returns-3 t))
     λ t. walk-bindings-lts.spec (walk-bindings-calls t) (walk-bindings-at t) walk-bindings.Post (walk-bindings-returns t) (walk-bindings-sub-i t) (walk-bindings-cast-decode t) (walk-bindings-decode-requires t) (walk-bindings-references-of-requires t) (walk-bindings-role-of-requires t) (walk-bindings-bound-by-requires t) (walk-bindings-walk-requires t) (walk-bindings-judge-at-requires t) (walk-bindings-bind-requires t) (walk-bindings-walk-bindings-requires t) (walk-bindings-returns-2 t) (walk-bindings-walk-requires-2 t) (walk-bindings-returns-3 t)

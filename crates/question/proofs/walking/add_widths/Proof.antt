@@ -1,47 +1,37 @@
+-- `question::walking::add_widths` meets its contract. Either part, or their sum, over the limit makes the sum one more than it. Assumes nothing.
 use Rattle.question.specs.Walk.{addWidths}
 use native.Mathlib.Omega.{arith}
 use borrow.Author.Needs.{needs}
 use Rattle.question.proofs.walking.add_widths.Statement.{statement}
 use Rattle.question.proofs.walking.add_widths.Tie as tie
-use Rattle.question.proofs.walking.add_widths.Reads as reads
-use Rattle.question.proofs.walking.add_widths.Lts as lts
 
--- src/walking.rt:35:16
 add-result : tie.Need-add-result
 add-result c = search needs
 
--- src/walking.rt:35:9
 returns : tie.Need-returns
 unfolding addWidths
 returns c = omega arith
 
--- src/walking.rt:38:16
 add-result-2 : tie.Need-add-result-2
 add-result-2 c = search needs
 
--- src/walking.rt:38:9
 returns-2 : tie.Need-returns-2
 unfolding addWidths
 returns-2 c = omega arith
 
--- src/walking.rt:40:23
 add-if3 : tie.Need-add-if3
 add-if3 c = search needs
 
--- src/walking.rt:41:16
 add-result-3 : tie.Need-add-result-3
 add-result-3 c = search needs
 
--- src/walking.rt:41:9
 returns-3 : tie.Need-returns-3
 unfolding addWidths
 returns-3 c = omega arith
 
--- src/walking.rt:43:5
 add-result-4 : tie.Need-add-result-4
 add-result-4 c = search needs
 
--- src/walking.rt:31:1
 returns-4 : tie.Need-returns-4
 unfolding addWidths
 returns-4 c = omega arith

@@ -1,18 +1,9 @@
+-- `question::walking::judge_at` meets its contract. The node is decoded and judged by its role; the two places are set, each the lower of two. Assumes nothing.
 use Rattle.question.proofs.WalkLaws.{both-set}
 use Rattle.nodes.proofs.Forms.{node-variable}
-use native.Mathlib.Omega.{arith}
 use borrow.Author.Needs.{needs}
 use Rattle.question.proofs.walking.judge_at.Statement.{statement}
 use Rattle.question.proofs.walking.judge_at.Tie as tie
-use Rattle.question.proofs.walking.judge_at.Reads as reads
-use Rattle.question.proofs.walking.judge_at.Lts as lts
-use Rattle.nodes.proofs.node.decode.Reads as decode-reads
-use Rattle.nodes.proofs.roles.role_of.Reads as role-of-reads
-use Rattle.question.proofs.walking.lower.Reads as lower-reads
-use Rattle.question.proofs.walking.place_of.Reads as place-of-reads
-use Rattle.question.proofs.walking.unbound_at.Reads as unbound-at-reads
-use Rattle.question.proofs.walking.unfit_at.Reads as unfit-at-reads
-use Rattle.question.proofs.walking.width_of.Reads as width-of-reads
 
 decode-requires : tie.Need-decode-requires
 decode-requires c κs = search needs

@@ -1,33 +1,24 @@
+-- `question::walking::taken_width` meets its contract. Attribute 0 is the whole row. Assumes nothing.
 use borrow.Author.Tests.{eq-eqb, ne-eqb}
-use native.Mathlib.Omega.{arith}
 use borrow.Author.Needs.{needs}
 use Rattle.question.proofs.walking.taken_width.Statement.{statement}
 use Rattle.question.proofs.walking.taken_width.Tie as tie
-use Rattle.question.proofs.walking.taken_width.Reads as reads
-use Rattle.question.proofs.walking.taken_width.Lts as lts
-use Rattle.question.proofs.walking.width_in.Reads as width-in-reads
 
--- src/walking.rt:173:13
 enum-known-operand : tie.Need-enum-known-operand
 enum-known-operand c = search needs
 
--- src/walking.rt:177:17
 width-in-requires : tie.Need-width-in-requires
 width-in-requires c κs = rw (c .before .before .before .operand .given .1) at (c .before .before .before .before .before .pre)
 
--- src/walking.rt:177:17
 returns : tie.Need-returns
 returns c = simp (c .width-in .ensures, eq-eqb _ _ (c .before .if1 .taken), c .before .before .before .before .operand .given .1)
 
--- src/walking.rt:181:30
 enum-told : tie.Need-enum-told
 enum-told c = search needs
 
--- src/walking.rt:167:1
 returns-2 : tie.Need-returns-2
 returns-2 c = simp (ne-eqb _ _ (c .if1 .left), c .before .before .before .operand .given .1)
 
--- src/walking.rt:167:1
 returns-3 : tie.Need-returns-3
 returns-3 c = search needs
 

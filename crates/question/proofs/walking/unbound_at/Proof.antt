@@ -1,81 +1,59 @@
-use native.Mathlib.Omega.{arith}
+-- `question::walking::unbound_at` meets its contract. In each arm the role is the one that the arm names, and its variables are looked up. Assumes nothing.
 use borrow.Author.Needs.{needs}
 use Rattle.question.proofs.walking.unbound_at.Statement.{statement}
 use Rattle.question.proofs.walking.unbound_at.Tie as tie
-use Rattle.question.proofs.walking.unbound_at.Reads as reads
-use Rattle.question.proofs.walking.unbound_at.Lts as lts
-use Rattle.question.proofs.walking.operand_unbound.Reads as operand-unbound-reads
-use Rattle.question.proofs.walking.width_in.Reads as width-in-reads
 
--- src/walking.rt:125:28
 enum-told : tie.Need-enum-told
 enum-told c = search needs
 
--- src/walking.rt:126:24
 enum-told-2 : tie.Need-enum-told-2
 enum-told-2 c = search needs
 
--- src/walking.rt:127:21
 enum-known-role : tie.Need-enum-known-role
 enum-known-role c = search needs
 
--- src/walking.rt:127:33
 operand-unbound-requires : tie.Need-operand-unbound-requires
 operand-unbound-requires c κs = rw (c .before .role .given .1) at (c .before .before .before .pre)
 
--- src/walking.rt:128:21
 enum-known-role-2 : tie.Need-enum-known-role-2
 enum-known-role-2 c = search needs
 
--- src/walking.rt:128:38
 width-in-requires : tie.Need-width-in-requires
 width-in-requires c κs = rw (c .before .role2 .given .1) at (c .before .before .before .pre)
 
--- src/walking.rt:129:24
 enum-told-3 : tie.Need-enum-told-3
 enum-told-3 c = search needs
 
--- src/walking.rt:130:26
 enum-known-role-3 : tie.Need-enum-known-role-3
 enum-known-role-3 c = search needs
 
--- src/walking.rt:131:13
 operand-unbound-requires-2 : tie.Need-operand-unbound-requires-2
 operand-unbound-requires-2 c κs = (rw (c .before .role3 .given .1) at (c .before .before .before .pre)) .0
 
--- src/walking.rt:131:44
 operand-unbound-requires-3 : tie.Need-operand-unbound-requires-3
 operand-unbound-requires-3 c κs = (rw (c .before .before .role3 .given .1) at (c .before .before .before .before .pre)) .1
 
--- src/walking.rt:133:24
 enum-told-4 : tie.Need-enum-told-4
 enum-told-4 c = search needs
 
--- src/walking.rt:120:1
 returns : tie.Need-returns
 returns c = search needs
 
--- src/walking.rt:120:1
 returns-2 : tie.Need-returns-2
 returns-2 c = search needs
 
--- src/walking.rt:120:1
 returns-3 : tie.Need-returns-3
 returns-3 c = simp (c .operand-unbound .ensures, c .before .before .role .given .1)
 
--- src/walking.rt:120:1
 returns-4 : tie.Need-returns-4
 returns-4 c = simp (c .width-in .ensures, c .before .before .role2 .given .1)
 
--- src/walking.rt:120:1
 returns-5 : tie.Need-returns-5
 returns-5 c = search needs
 
--- src/walking.rt:120:1
 returns-6 : tie.Need-returns-6
 returns-6 c = simp (c .before .operand-unbound2 .ensures, c .operand-unbound3 .ensures, c .before .before .before .role3 .given .1)
 
--- src/walking.rt:120:1
 returns-7 : tie.Need-returns-7
 returns-7 c = search needs
 
