@@ -17,7 +17,7 @@ use Rattle.relations.proofs.ListLaws.{length-flat}
 use Rattle.relations.proofs.PlanWordsBack.{attributes-back, triples-back, pairs-back}
 use Rattle.relations.proofs.StoreLaws.{sets-append}
 use Rattle.emission.specs.NodeLists.{padded, nodeList, grownBy, numbersOf, attributesIn, knownTriples, triplesIn, pairsIn, ListsAttributes, ListsTriples, ListsPairs}
-use Rattle.emission.specs.Joins.{pairingNumber, paired, linked, linkingNumber, linkingCount, ListsFor}
+use Rattle.emission.specs.Joins.{pairingNumber, paired, linked, linkingNumber, linkingUnit, ListsFor}
 use Rattle.emission.specs.declared.node_list.NodeList.{NodeList}
 use Rattle.emission.specs.declared.emit.Pairing.{Pairing}
 use Rattle.emission.specs.declared.emit.Pairing.the-variants.{Unite, Intersect, Subtract}
@@ -116,10 +116,15 @@ module _ (list : NodeList) (left right : ℕ) where
   pub project-words : ListsAttributes list → 2 ∷ left ∷ 0 ∷ list .used ∷ list .words ≡ nodeWords (project left (attributesIn list))
   project-words e = rw (ap (λ (l : NodeList). 2 ∷ left ∷ 0 ∷ l .used ∷ l .words) e, length-map (attributesIn list) (λ a. a .number))
 
-  pub linked-words : (how : Linking) → ListsFor how list → linkingNumber how ∷ left ∷ right ∷ linkingCount how (list .used) ∷ list .words ≡ nodeWords (linked how left right list)
+  pub linked-words : (how : Linking) → ListsFor how list → linkingNumber how ∷ left ∷ right ∷ list .used / linkingUnit how ∷ list .words ≡ nodeWords (linked how left right list)
   linked-words Semijoin e = ap (λ (l : NodeList). 6 ∷ left ∷ right ∷ l .used / 3 ∷ l .words) e ∙ rw (triples-used (triplesIn list))
   linked-words Antijoin e = ap (λ (l : NodeList). 7 ∷ left ∷ right ∷ l .used / 3 ∷ l .words) e ∙ rw (triples-used (triplesIn list))
   linked-words Divide e = ap (λ (l : NodeList). 8 ∷ left ∷ right ∷ l .used / 2 ∷ l .words) e ∙ rw (pairs-used (pairsIn list))
+
+pub unit-some : (how : Linking) → 1 ≤ linkingUnit how
+unit-some Semijoin = omega arith
+unit-some Antijoin = omega arith
+unit-some Divide = omega arith
 
 -- a full list has no zeros behind it
 pub padded-full : (words : List ℕ) → length words ≡ listWords → padded words ≡ words

@@ -1,5 +1,5 @@
 -- The node that an operation on two values makes, and what its list must be. Assumes nothing.
-use Prim.Native.Nat.{ℕ, _/_}
+use Prim.Native.Nat.{ℕ}
 use mathlib.Core.List.{[]}
 use Rattle.relations.specs.Nodes.{Node, semijoin, antijoin, divide, unite, intersect, subtract, Operation, operationOfNode, operationNumber}
 use Rattle.relations.specs.PlanWords.{shapeOf}
@@ -29,9 +29,9 @@ linkingOperation how = operationOfNode (linked how 0 0 (nodeList []))
 abbrev pub linkingNumber : Linking → ℕ
 linkingNumber how = operationNumber (linkingOperation how)
 
--- how many are listed in so many words
-abbrev pub linkingCount : Linking → ℕ → ℕ
-linkingCount how used = used / shapeOf (linkingOperation how) .unit
+-- the list words of each one counted
+abbrev pub linkingUnit : Linking → ℕ
+linkingUnit how = shapeOf (linkingOperation how) .unit
 
 abbrev pub ListsFor : Linking → NodeList → Type 0
 ListsFor Semijoin list = ListsTriples list

@@ -7,7 +7,7 @@ ghost use lib.Seq.{sets};
 ghost use Rattle.relations.specs.Limits.{listWords, planNodeWords};
 ghost use Rattle.relations.specs.Nodes as nodes;
 ghost use Rattle.calculus.specs.Scope.{allColumns};
-ghost use Rattle.emission.specs.Joins.{pairingNumber, paired, linkingNumber, linkingCount, linked, ListsFor};
+ghost use Rattle.emission.specs.Joins.{pairingNumber, paired, linkingNumber, linkingUnit, linked, ListsFor};
 ghost use Rattle.emission.specs.NodeLists.{padded, attributesIn, ListsAttributes};
 ghost use Rattle.emission.specs.Selects.{NamesOperator, selecting};
 ghost use Rattle.emission.specs.Written.{Room, Written};
@@ -159,13 +159,14 @@ fn linking_number(how: Linking) -> u32
     }
 }
 
-fn linking_count(how: Linking, used: u32) -> u32
-    ensures { λ r. ⌜ r ≡ linkingCount how used ⌝ }
+// The words of a triple, or of a pair.
+fn linking_unit(how: Linking) -> u32
+    ensures { λ r. ⌜ r ≡ linkingUnit how ⌝ }
 {
     match how {
-        Linking::Semijoin => used / TRIPLE_WORDS as u32,
-        Linking::Antijoin => used / TRIPLE_WORDS as u32,
-        Linking::Divide => used / PAIR_WORDS as u32,
+        Linking::Semijoin => TRIPLE_WORDS as u32,
+        Linking::Antijoin => TRIPLE_WORDS as u32,
+        Linking::Divide => PAIR_WORDS as u32,
     }
 }
 
@@ -180,7 +181,7 @@ pub fn link(plan: &mut [u32], n: u32, how: Linking, left: u32, right: u32, list:
         linking_number(how),
         left,
         right,
-        linking_count(how, list.used),
+        list.used / linking_unit(how),
         &words,
     )
 }

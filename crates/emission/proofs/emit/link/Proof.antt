@@ -1,12 +1,12 @@
-use Prim.Native.Nat.{ℕ}
+use Prim.Native.Nat.{ℕ, _/_}
 use mathlib.Core.Path.{_≡_, ap, ap₂, _∙_}
 use mathlib.Core.List.{List, _∷_}
 use lib.ListN.{length}
 use Rattle.relations.specs.Limits.{listWords}
 use Rattle.emission.specs.NodeLists.{padded}
-use Rattle.emission.specs.Joins.{linkingNumber, linkingCount}
+use Rattle.emission.specs.Joins.{linkingNumber, linkingUnit}
 use Rattle.emission.specs.declared.node_list.NodeList.{NodeList}
-use Rattle.emission.proofs.NodeListLaws.{padded-full, padded-long, linked-words}
+use Rattle.emission.proofs.NodeListLaws.{padded-full, padded-long, linked-words, unit-some}
 use Rattle.emission.proofs.WrittenLaws.{written-one}
 use native.Mathlib.Omega.{arith}
 use borrow.Author.Needs.{needs}
@@ -16,14 +16,17 @@ use Rattle.emission.proofs.emit.link.Tie as tie
 linking-number-requires : tie.Need-linking-number-requires
 linking-number-requires c κs = search needs
 
-linking-count-requires : tie.Need-linking-count-requires
-linking-count-requires c κs = search needs
+linking-unit-requires : tie.Need-linking-unit-requires
+linking-unit-requires c κs = search needs
+
+div-push : tie.Need-div-push
+div-push c = omega (arith, c .before .linking-unit .ensures, unit-some (c .before .before .before .before .before .before .args .how))
 
 slice-aggregate-push : tie.Need-slice-aggregate-push
 slice-aggregate-push c = search needs
 
 push-requires : tie.Need-push-requires
-push-requires c κs = let s = c .before .before .before .before .before .before in
+push-requires c κs = let s = c .before .before .before .before .before .before .before in
     let l : length (s .args .list .words) ≡ listWords = search needs in
     (s .pre .0, omega arith)
 
@@ -31,12 +34,12 @@ same-length : tie.Need-same-length
 same-length c = search needs
 
 returns : tie.Need-returns
-returns c = let s = c .before .before .before .before .before .before .before .before .before in
+returns c = let s = c .before .before .before .before .before .before .before .before .before .before in
     let list : NodeList = s .args .list in
     let l : length (list .words) ≡ listWords = search needs in
     written-one _ _ (c .before .before .push .ensures)
-    (ap₂ (λ (number count : ℕ). number ∷ s .args .left ∷ s .args .right ∷ count ∷ padded (list .words)) (c .before .before .before .before .before .linking-number .ensures) (c .before .before .before .before .linking-count .ensures)
-    ∙ ap (λ (words : List ℕ). linkingNumber (s .args .how) ∷ s .args .left ∷ s .args .right ∷ linkingCount (s .args .how) (list .used) ∷ words) (padded-full (list .words) l)
+    (ap₂ (λ (number unit : ℕ). number ∷ s .args .left ∷ s .args .right ∷ list .used / unit ∷ padded (list .words)) (c .before .before .before .before .before .before .linking-number .ensures) (c .before .before .before .before .before .linking-unit .ensures)
+    ∙ ap (λ (words : List ℕ). linkingNumber (s .args .how) ∷ s .args .left ∷ s .args .right ∷ list .used / linkingUnit (s .args .how) ∷ words) (padded-full (list .words) l)
     ∙ linked-words list (s .args .left) (s .args .right) (s .args .how) (s .pre .1))
     (omega (arith, padded-long (list .words) (omega arith)))
 
@@ -45,7 +48,8 @@ link-spec =
     tie.close
     (tie.spec
     linking-number-requires
-    linking-count-requires
+    linking-unit-requires
+    div-push
     slice-aggregate-push
     push-requires
     same-length
