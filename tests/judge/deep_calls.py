@@ -43,7 +43,7 @@ def nested_not(nodes, bottom):
 
 
 def nested(kinds):
-    """Quantifiers one inside another, of these kinds in turn; -kind has a "not" above it."""
+    """Quantifiers one inside another, of these kinds in turn; -kind has a "not" above it. What room is left has "not"s above them all."""
     def build(nodes, bottom):
         reference = nodes.add(9, bottom, 1, LESS, 0, 1)
         for variable in range(VARIABLES - 2):
@@ -53,6 +53,8 @@ def nested(kinds):
             reference = nodes.add(abs(kind), variable, nodes.table(1), reference)
             if kind < 0:
                 reference = nodes.add(NOT, reference)
+        while room_left(nodes):
+            reference = nodes.add(NOT, reference)
         return reference
     return build
 

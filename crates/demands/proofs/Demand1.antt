@@ -14,7 +14,7 @@ use Rattle.judgements.specs.Faults.{judgedQuestion}
 use Rattle.question.specs.declared.judgement.Judgement.the-variants.{Accepted}
 use Rattle.judgements.proofs.FaultsDecide.{faults-accept-exactly}
 use Rattle.catalogue.proofs.TableLaws.{known-columns}
-use Rattle.plans.proofs.PlanTheorem.{judged-exactly}
+use Rattle.plan_reading.proofs.PlanTheorem.{judged-exactly}
 use Rattle.translation.specs.TranslateCall.{planBufferWords, planOf, unwritten, written, translateOutcome}
 use Rattle.running.specs.RunCall.{cleared, answered}
 use Rattle.desk.specs.AnswerCall.{AnswerOutcome, planRan, translatedOutcome, answerOutcome}

@@ -23,10 +23,10 @@ use Rattle.catalogue.specs.Stored.{storedTables}
 use Rattle.bundles.proofs.RoundTrip.{round-trip}
 use Rattle.judgements.specs.Faults.{judgedQuestion}
 use Rattle.question.specs.declared.judgement.Judgement.the-variants.{Accepted}
-use Rattle.plans.specs.Judging.{planJudgement, planNumbers, nodesOfPlan}
-use Rattle.plans.specs.declared.judging.PlanJudgement.{PlanJudgement}
-use Rattle.plans.specs.declared.judging.PlanJudgement.the-variants.{Legal, Illegal}
-use Rattle.plans.proofs.PlanTheorem.{judged-exactly}
+use Rattle.plan_reading.specs.Judging.{planJudgement, planNumbers, nodesOfPlan}
+use Rattle.plan_reading.specs.declared.judging.PlanJudgement.{PlanJudgement}
+use Rattle.plan_reading.specs.declared.judging.PlanJudgement.the-variants.{Legal, Illegal}
+use Rattle.plan_reading.proofs.PlanTheorem.{judged-exactly}
 use Rattle.translation.specs.TranslateCall.{planBufferWords, planOf, written}
 use Rattle.running.specs.RunCall.{cleared, answered, runOutcome}
 use Rattle.desk.specs.AnswerCall.{planIn, planRan, answerOutcome}

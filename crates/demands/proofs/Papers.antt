@@ -12,7 +12,7 @@ use Rattle.nodes.specs.References.{referencesTo, seen, firstFrom}
 use Rattle.question.specs.Trees.{treesBelow, treeOf, reading}
 use Rattle.judgements.specs.Faults.{faultAt, judgedQuestion}
 use Rattle.catalogue.specs.Stored.{startOf, rowsIn}
-use Rattle.plans.specs.Judging.{judgePlanNodes, nodesIn}
+use Rattle.plan_reading.specs.Judging.{judgePlanNodes, nodesIn}
 use Rattle.translation.specs.TranslateCall.{translateOutcome}
 use Rattle.running.specs.RunCall.{fitOf, runOutcome}
 use Rattle.desk.specs.AnswerCall.{answerOutcome}

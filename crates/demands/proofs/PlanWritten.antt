@@ -17,9 +17,9 @@ use Rattle.relations.specs.PlanWords.{nodeWords}
 use Rattle.relations.proofs.BoolLaws.{and-left}
 use Rattle.values.proofs.WordLaws.{part-sets}
 use Rattle.catalogue.specs.Stored.{relationsOf, columnsOf}
-use Rattle.plans.specs.Judging.{judgePlanNodes, planJudgement, nodesOfPlan}
-use Rattle.plans.specs.declared.judging.PlanJudgement.the-variants.{Legal, Illegal}
-use Rattle.plans.proofs.PlanTheorem.{judged-exactly}
+use Rattle.plan_reading.specs.Judging.{judgePlanNodes, planJudgement, nodesOfPlan}
+use Rattle.plan_reading.specs.declared.judging.PlanJudgement.the-variants.{Legal, Illegal}
+use Rattle.plan_reading.proofs.PlanTheorem.{judged-exactly}
 use Rattle.translation.specs.TranslateCall.{planBufferWords}
 use Rattle.running.proofs.NextLaws.{judged-sized}
 use Rattle.desk.proofs.PlansLegal.{nodes-between}

@@ -6,9 +6,9 @@ use mathlib.Core.List.{List, [], _∷_}
 use lib.Dec.{eqb}
 use Rattle.relations.specs.Nodes.{Node}
 use Rattle.catalogue.specs.Judging.{tablesOk}
-use Rattle.plans.specs.Judging.{planJudgement, planNumbers, nodesOfPlan}
-use Rattle.plans.specs.declared.judging.PlanJudgement.{PlanJudgement}
-use Rattle.plans.specs.declared.judging.PlanJudgement.the-variants.{Legal, Illegal}
+use Rattle.plan_reading.specs.Judging.{planJudgement, planNumbers, nodesOfPlan}
+use Rattle.plan_reading.specs.declared.judging.PlanJudgement.{PlanJudgement}
+use Rattle.plan_reading.specs.declared.judging.PlanJudgement.the-variants.{Legal, Illegal}
 use Rattle.running.specs.RunCall.{RunOutcome, capacityOf, cleared, fits, passesAt, fitWithin, answered, ranOutcome, judgedOutcome, runOutcome}
 use Rattle.demands.specs.Refusals.{outcomeBy, noRoom, longAnswer, runningLines, runLines}
 use Rattle.demands.specs.Demands.{refusedRun, RunDemand}

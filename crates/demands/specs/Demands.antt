@@ -24,7 +24,7 @@ use Rattle.judgements.specs.Faults.{judgedQuestion}
 use Rattle.judgements.specs.Accepted.{AcceptedExactly}
 use Rattle.question.specs.declared.judgement.Judgement.the-variants.{Accepted}
 use Rattle.catalogue.specs.Stored.{columnsOf, storedTables}
-use Rattle.plans.specs.Judging.{nodesOfPlan, JudgedExactly}
+use Rattle.plan_reading.specs.Judging.{nodesOfPlan, JudgedExactly}
 use Rattle.relations.specs.Limits.{byteLimit}
 use Rattle.bundles.specs.Reading.{bundleIn}
 use Rattle.bundles.specs.ReadCall.{ReadOutcome, readRefused, readOutcome}

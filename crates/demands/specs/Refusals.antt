@@ -13,7 +13,7 @@ use Rattle.nodes.specs.Nodes.{nodeCount, nodeAt}
 use Rattle.nodes.specs.References.{lowest}
 use Rattle.question.specs.Judgement.{countOk, isAlpha, lowestIllFormed, lastNode, lowestNotOnce, lowestUnknown}
 use Rattle.judgements.specs.Faults.{lowestUnbound, lowestUnfit}
-use Rattle.plans.specs.Judging.{judgedPlan, nodesOfPlan}
+use Rattle.plan_reading.specs.Judging.{judgedPlan, nodesOfPlan}
 use Rattle.lines.specs.Reading.{Next, goesOn, wrongAt}
 use Rattle.bundles.specs.Reading.{bundleIn}
 use Rattle.bundles.specs.ReadCall.{smallBuffers}

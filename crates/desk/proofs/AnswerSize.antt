@@ -19,10 +19,10 @@ use Rattle.relations.proofs.PlanNarrow.{widths-narrow}
 use Rattle.catalogue.specs.Judging.{tablesOk}
 use Rattle.catalogue.specs.Stored.{relationsOf, columnsOf}
 use Rattle.catalogue.proofs.TableLaws.{has-column}
-use Rattle.plans.specs.Judging.{planJudgement, nodesOfPlan}
-use Rattle.plans.specs.declared.judging.PlanJudgement.{PlanJudgement}
-use Rattle.plans.specs.declared.judging.PlanJudgement.the-variants.{Legal, Illegal}
-use Rattle.plans.proofs.PlanTheorem.{judged-exactly}
+use Rattle.plan_reading.specs.Judging.{planJudgement, nodesOfPlan}
+use Rattle.plan_reading.specs.declared.judging.PlanJudgement.{PlanJudgement}
+use Rattle.plan_reading.specs.declared.judging.PlanJudgement.the-variants.{Legal, Illegal}
+use Rattle.plan_reading.proofs.PlanTheorem.{judged-exactly}
 use Rattle.translation.specs.TranslateCall.{TranslateOutcome, translateOutcome}
 use Rattle.running.specs.RunCall.{RunNumbers, RunOutcome, runOutcome, Fit, fits, passesAt, answerRows, answerWidth, lastPlace, fitWithin, capacityOf, cleared, stopped, answered, ranOutcome, refused, judgedOutcome}
 use Rattle.desk.specs.AnswerCall.{answerNumbers, AnswerOutcome, planIn, planRan, unanswered, answerOutcome}

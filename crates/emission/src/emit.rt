@@ -8,7 +8,7 @@ ghost use Rattle.relations.specs.Limits.{listWords, planNodeWords};
 ghost use Rattle.relations.specs.Nodes as nodes;
 ghost use Rattle.calculus.specs.Scope.{allColumns};
 ghost use Rattle.emission.specs.Joins.{pairingNumber, paired, linkingNumber, linkingCount, linked, ListsFor};
-ghost use Rattle.emission.specs.NodeLists.{padded, attributesIn, triplesIn, pairsIn, ListsAttributes, ListsTriples, ListsPairs};
+ghost use Rattle.emission.specs.NodeLists.{padded, attributesIn, ListsAttributes};
 ghost use Rattle.emission.specs.Selects.{NamesOperator, selecting};
 ghost use Rattle.emission.specs.Written.{Room, Written};
 use crate::node_list::NodeList;

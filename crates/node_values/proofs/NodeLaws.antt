@@ -30,17 +30,17 @@ use Rattle.operations.specs.Lists.{triplesIn}
 use Rattle.operations.proofs.ListLaws.{triples-read}
 use Rattle.terms.proofs.NumberLaws.{operator-named}
 use Rattle.catalogue.specs.Stored.{relationsOf, columnsOf, storedTables}
-use Rattle.plans.specs.Decoding.{operationIn, decoded}
-use Rattle.plans.specs.Judging.{legalRead}
-use Rattle.plans.specs.Steps.{widthOf}
-use Rattle.plans.specs.declared.nodes.Operation.{Operation}
-use Rattle.plans.specs.declared.nodes.Operation.the-variants.{Load, Project, SelectConstant, SelectAttribute, Join, Semijoin, Antijoin, Divide, Unite, Intersect, Subtract}
-use Rattle.plans.specs.declared.nodes.PlanNode.{PlanNode}
-use Rattle.plans.specs.declared.nodes.Decoded.the-variants.{Illegal as NoNode}
-use Rattle.plans.proofs.DecodeLaws.{Stands}
-use Rattle.plans.proofs.JudgeLaws.{width-planned}
-use Rattle.plans.proofs.LegalLaws.{count-within}
-use Rattle.plans.proofs.ListedLaws.{pairs-many}
+use Rattle.plan_reading.specs.Decoding.{operationIn, decoded}
+use Rattle.plan_reading.specs.Judging.{legalRead}
+use Rattle.plan_reading.specs.Steps.{widthOf}
+use Rattle.plan_reading.specs.declared.nodes.Operation.{Operation}
+use Rattle.plan_reading.specs.declared.nodes.Operation.the-variants.{Load, Project, SelectConstant, SelectAttribute, Join, Semijoin, Antijoin, Divide, Unite, Intersect, Subtract}
+use Rattle.plan_reading.specs.declared.nodes.PlanNode.{PlanNode}
+use Rattle.plan_reading.specs.declared.nodes.Decoded.the-variants.{Illegal as NoNode}
+use Rattle.plan_reading.proofs.DecodeLaws.{Stands}
+use Rattle.plan_reading.proofs.JudgeLaws.{width-planned}
+use Rattle.plan_reading.proofs.LegalLaws.{count-within}
+use Rattle.plan_reading.proofs.ListedLaws.{pairs-many}
 use Rattle.node_values.specs.Standing.{valuesIn, valueNamed, standing, StandsBefore, Stand}
 use Rattle.node_values.specs.NodeRun.{widthRead, candidatesRead, weightRead}
 use Rattle.node_values.proofs.StandLaws.{value-width, standing-at, value-stands}

@@ -18,9 +18,9 @@ use Rattle.relations.specs.PlanWords.{readNode}
 use Rattle.relations.proofs.MachineLaws.{run-keeps}
 use Rattle.relations.proofs.ValueLaws.{all-members, member-has, member-canonical}
 use Rattle.catalogue.specs.Stored.{relationsOf, columnsOf}
-use Rattle.plans.specs.Judging.{judgedNode, onward, judgePlanNodes, planJudgement, nodesIn}
-use Rattle.plans.specs.declared.judging.PlanJudgement.{PlanJudgement}
-use Rattle.plans.specs.declared.judging.PlanJudgement.the-variants.{Legal, Illegal}
+use Rattle.plan_reading.specs.Judging.{judgedNode, onward, judgePlanNodes, planJudgement, nodesIn}
+use Rattle.plan_reading.specs.declared.judging.PlanJudgement.{PlanJudgement}
+use Rattle.plan_reading.specs.declared.judging.PlanJudgement.the-variants.{Legal, Illegal}
 
 pub record Next (catalogue : List ℕ) (left : ℕ) (made words : List ℕ) (count : ℕ) : Type 0 where
   pub node : Node

@@ -16,8 +16,8 @@ use Rattle.values.specs.Words.{rowIn, rowsOf, wordsOf}
 use Rattle.values.specs.Building.{clearedFrom, Blank}
 use Rattle.values.specs.declared.rows.Value.{Value}
 use Rattle.values.proofs.RowsLaws.{row-inside, length-rowsAt, words-rowsAt}
-use Rattle.plans.specs.Judging.{planJudgement, nodesOfPlan}
-use Rattle.plans.specs.declared.judging.PlanJudgement.the-variants.{Legal, Illegal}
+use Rattle.plan_reading.specs.Judging.{planJudgement, nodesOfPlan}
+use Rattle.plan_reading.specs.declared.judging.PlanJudgement.the-variants.{Legal, Illegal}
 use Rattle.running.specs.RunCall.{RunNumbers, runRefusal, RunOutcome, capacityOf, cleared, Fit, fits, passesAt, answerRows, lastPlace, answerWidth, fitWithin, stopped, answered, ranOutcome, refused, runOutcome}
 use Rattle.running.specs.PlanRun.{Answered, PlanRun}
 use Rattle.running.specs.declared.Worked.{Worked}

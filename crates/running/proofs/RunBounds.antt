@@ -18,11 +18,11 @@ use Rattle.relations.proofs.LegalityLaws.{so-between}
 use Rattle.relations.proofs.MachineLaws.{run-length}
 use Rattle.catalogue.specs.Judging.{tablesOk}
 use Rattle.catalogue.specs.Stored.{columnsOf, storedTables}
-use Rattle.plans.specs.Judging.{judgedNode, onward, judgePlanNodes, planJudgement, nodesOfPlan}
-use Rattle.plans.specs.declared.judging.Width.{Width}
-use Rattle.plans.specs.declared.judging.Width.the-variants.{Of, Illegal as NoWidth}
-use Rattle.plans.specs.declared.judging.PlanJudgement.{PlanJudgement}
-use Rattle.plans.specs.declared.judging.PlanJudgement.the-variants.{Legal, Illegal}
+use Rattle.plan_reading.specs.Judging.{judgedNode, onward, judgePlanNodes, planJudgement, nodesOfPlan}
+use Rattle.plan_reading.specs.declared.judging.Width.{Width}
+use Rattle.plan_reading.specs.declared.judging.Width.the-variants.{Of, Illegal as NoWidth}
+use Rattle.plan_reading.specs.declared.judging.PlanJudgement.{PlanJudgement}
+use Rattle.plan_reading.specs.declared.judging.PlanJudgement.the-variants.{Legal, Illegal}
 use Rattle.running.specs.RunCall.{runRefusal, sizesOf, Fit, fits, passesAt, fitOf, capacityOf, cleared, answerRows, answerWidth, lastPlace, planRoom, fitWithin, stopped, answered, ranOutcome, refused, judgedOutcome, runOutcome}
 use Rattle.running.specs.RunBounds.{Bounded}
 use Rattle.running.proofs.SizeLaws.{total, room-total}

@@ -32,9 +32,9 @@ use Rattle.values.specs.declared.rows.Value.{Value}
 use Rattle.values.specs.declared.placing.Placed.the-variants.{Rows as Placed·Rows}
 use Rattle.values.proofs.MakeLaws.{makes-length, makes-fits, makes-count, makes-full}
 use Rattle.catalogue.specs.Stored.{relationsOf, columnsOf, storedTables}
-use Rattle.plans.specs.Judging.{legalRead, judgePlanNodes, planJudgement, nodesIn, nodesOfPlan}
-use Rattle.plans.specs.declared.judging.PlanJudgement.the-variants.{Legal}
-use Rattle.plans.proofs.PlanTheorem.{judged-exactly}
+use Rattle.plan_reading.specs.Judging.{legalRead, judgePlanNodes, planJudgement, nodesIn, nodesOfPlan}
+use Rattle.plan_reading.specs.declared.judging.PlanJudgement.the-variants.{Legal}
+use Rattle.plan_reading.proofs.PlanTheorem.{judged-exactly}
 use Rattle.node_values.specs.Standing.{valuesIn, noValue, valueNamed, standing, StandsBefore, Stand}
 use Rattle.node_values.specs.NodeRun.{placedOf, NodeRun}
 use Rattle.running.specs.RunCall.{fits, passesAt, fitOf, lastPlace, planRoom, fitWithin}

@@ -1,7 +1,7 @@
 -- When the short rules fit a node's condition. Assumes nothing.
 use Prim.Native.Nat.{ℕ, _-_, _≤_}
 use mathlib.Core.Path.{_≡_, refl, sym, ap, _∙_}
-use mathlib.Core.Bool.{Bool, true, false, _||_, or-false, false≢true}
+use mathlib.Core.Bool.{Bool, false, _||_, or-false}
 use mathlib.Core.List.{List, [], _∷_}
 use native.Mathlib.Omega.{arith}
 use denote.Enum.Declared.{tagOf}
@@ -9,8 +9,6 @@ use types.Run.{OneOf, miss}
 use Rattle.relations.specs.Limits.{questionNodeLimit}
 use Rattle.calculus.specs.Question as calculus
 use Rattle.calculus.specs.Question.{Range, Condition, forSome, conditionNodes}
-use Rattle.calculus.specs.Scope as scopes
-use Rattle.calculus.specs.Form.{GoodCondition}
 use Rattle.calculus.specs.ShortRules.{shortRule2Fits, shortRule3Fits, shortRule5Fits, shortRule6Fits}
 use Rattle.question.specs.Trees.{Reading, readingOf}
 use Rattle.nodes.specs.declared.node.Node as question
@@ -62,22 +60,3 @@ not-divided y (Not inner) first second third h = refl
 not-divided y (Some variable range condition) first second third h = absurd (miss (0 ∷ 1 ∷ 2 ∷ 3 ∷ 4 ∷ 5 ∷ 6 ∷ 7 ∷ 8 ∷ 9 ∷ 10 ∷ 12 ∷ 13 ∷ []) 11 tt h)
 not-divided y (Every variable range condition) first second third h = refl
 not-divided y IllFormed first second third h = refl
-
--- of the nodes left, none is a "some" or an atom: they read as what S3 and S6 do not fit, or as an atom without a column
-pub no-opposite : (columns : ℕ → ℕ) (relations : ℕ) (s : scopes.Scope) (node : question.Node) (first second third : Reading) → OneOf (0 ∷ 1 ∷ 2 ∷ 3 ∷ 4 ∷ 5 ∷ 6 ∷ 8 ∷ 9 ∷ 10 ∷ 12 ∷ 13 ∷ []) (tagOf the-type node)
-    → GoodCondition columns relations (readingOf node first second third .condition) s → oppositeFits (readingOf node first second third .condition) ≡ true → ⊥
-unfolding GoodCondition
-no-opposite columns relations s (Table relation) first second third h g fits = omega (arith, g .0)
-no-opposite columns relations s (Alpha target binding condition) first second third h g fits = omega (arith, g .0)
-no-opposite columns relations s (Target variable attribute next) first second third h g fits = omega (arith, g .0)
-no-opposite columns relations s (Binding variable range next) first second third h g fits = omega (arith, g .0)
-no-opposite columns relations s (RangeOr left right) first second third h g fits = omega (arith, g .0)
-no-opposite columns relations s (RangeAnd left right) first second third h g fits = omega (arith, g .0)
-no-opposite columns relations s (RangeAndNot left right) first second third h g fits = omega (arith, g .0)
-no-opposite columns relations s (AtomNode found) first second third h g fits = miss (0 ∷ 1 ∷ 2 ∷ 3 ∷ 4 ∷ 5 ∷ 6 ∷ 8 ∷ 9 ∷ 10 ∷ 12 ∷ 13 ∷ []) 7 tt h
-no-opposite columns relations s (And left right) first second third h g fits = false≢true fits
-no-opposite columns relations s (Or left right) first second third h g fits = false≢true fits
-no-opposite columns relations s (Not inner) first second third h g fits = false≢true fits
-no-opposite columns relations s (Some variable range condition) first second third h g fits = miss (0 ∷ 1 ∷ 2 ∷ 3 ∷ 4 ∷ 5 ∷ 6 ∷ 8 ∷ 9 ∷ 10 ∷ 12 ∷ 13 ∷ []) 11 tt h
-no-opposite columns relations s (Every variable range condition) first second third h g fits = false≢true fits
-no-opposite columns relations s IllFormed first second third h g fits = omega (arith, g .0)

@@ -10,7 +10,7 @@ ghost use Rattle.translation.specs.TranslateCall.{translateNumbers, plan
 use catalogue::judging::Judged;
 use catalogue::judging::judge_catalogue;
 use emission::heavy::count_heavy;
-use planning::translate::translate_range;
+use plan_writing::translate::translate_range;
 use question::judgement::Judgement;
 use question::judgement::judge;
 use question::judgement::judge_count;

@@ -3,7 +3,7 @@ use mathlib.Core.List.{List}
 use Prim.Native.Nat.{ℕ}
 use lib.ListN.{length}
 use Rattle.relations.specs.Nodes.{Node}
-use Rattle.plans.specs.Judging.{nodesOfPlan}
+use Rattle.plan_reading.specs.Judging.{nodesOfPlan}
 use Rattle.running.proofs.RunLaws.{nodes-few, nodes-many}
 use Rattle.running.proofs.OutcomeLaws.{ran-no-room, ran-inside, ran-long, ran-done}
 use native.Mathlib.Omega.{arith}

@@ -2,7 +2,7 @@ use Rattle.running.proofs.OutcomeLaws.{outcome-tables, outcome-illegal,
 use native.Mathlib.Omega.{arith}
 use lib.ListN.{length, take, drop, replicate}
 use mathlib.Core.List.{_++_}
-use Rattle.plans.specs.Judging.{nodesOfPlan}
+use Rattle.plan_reading.specs.Judging.{nodesOfPlan}
 use Rattle.running.specs.RunCall.{fitWithin}
 use lib.Seq.{length-take-le}
 use mathlib.Core.Path.{_≡_, sym, _∙_}
@@ -13,8 +13,8 @@ use Rattle.running.proofs.run.Statement.{statement}
 use Rattle.running.proofs.run.Tie as tie
 use Rattle.running.proofs.run.Reads as reads
 use Rattle.running.proofs.run.Lts as lts
-use Rattle.plans.proofs.JudgeLaws.{plan-judged}
-use Rattle.plans.proofs.judging.judge_plan.Reads as judge-plan-reads
+use Rattle.plan_reading.proofs.JudgeLaws.{plan-judged}
+use Rattle.plan_reading.proofs.judging.judge_plan.Reads as judge-plan-reads
 use Rattle.running.proofs.capacity_of.Reads as capacity-of-reads
 use Rattle.running.proofs.run_legal.Reads as run-legal-reads
 use Rattle.catalogue.proofs.judging.tables_ok.Reads as tables-ok-reads

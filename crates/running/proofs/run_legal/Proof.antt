@@ -2,7 +2,7 @@ use Rattle.running.specs.RunCall.{RunOutcome, runNumbers, fitWithin}
 use lib.ListN.{length, replicate}
 use Prim.Native.Nat.{ℕ}
 use mathlib.Core.List.{List}
-use Rattle.plans.specs.Judging.{nodesOfPlan}
+use Rattle.plan_reading.specs.Judging.{nodesOfPlan}
 use mathlib.Core.Path.{_≡_, ap, _∙_}
 use native.Mathlib.Nat.{sub-zero}
 use Rattle.running.proofs.OutcomeLaws.{cleared-blank, ran-with}

@@ -1,7 +1,6 @@
 use mathlib.Core.Path.{sym, ap}
 use Rattle.emission.specs.Joins.{linkingCount}
 use Rattle.emission.specs.declared.emit.Linking.{Linking}
-use native.Mathlib.Omega.{arith}
 use borrow.Author.Needs.{needs}
 use Rattle.emission.proofs.emit.linking_count.Statement.{statement}
 use Rattle.emission.proofs.emit.linking_count.Tie as tie

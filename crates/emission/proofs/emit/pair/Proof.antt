@@ -4,7 +4,6 @@ use mathlib.Core.List.{[], _∷_}
 use Rattle.emission.specs.NodeLists.{padded}
 use Rattle.emission.proofs.NodeListLaws.{pair-words}
 use Rattle.emission.proofs.WrittenLaws.{written-one}
-use native.Mathlib.Omega.{arith}
 use borrow.Author.Needs.{needs}
 use Rattle.emission.proofs.emit.pair.Statement.{statement}
 use Rattle.emission.proofs.emit.pair.Tie as tie

@@ -5,7 +5,6 @@ use Rattle.emission.specs.NodeLists.{padded}
 use Rattle.emission.specs.Selects.{NamesOperator, selecting}
 use Rattle.emission.specs.declared.emit.Comparand.{Comparand}
 use Rattle.emission.proofs.WrittenLaws.{written-one, written-as}
-use native.Mathlib.Omega.{arith}
 use borrow.Author.Needs.{needs}
 use Rattle.emission.proofs.emit.select.Statement.{statement}
 use Rattle.emission.proofs.emit.select.Tie as tie

@@ -1,6 +1,5 @@
 use mathlib.Core.Path.{sym}
 use Rattle.emission.proofs.NodeListLaws.{getD-behind}
-use native.Mathlib.Omega.{arith}
 use borrow.Author.Needs.{needs}
 use Rattle.emission.proofs.emit.word_at.Statement.{statement}
 use Rattle.emission.proofs.emit.word_at.Tie as tie

@@ -11,9 +11,9 @@ use Rattle.values.proofs.MakeLaws.{builds-makes}
 use Rattle.values.specs.declared.rows.Value.{Value}
 use Rattle.values.specs.declared.placing.Placed.{Placed}
 use Rattle.catalogue.specs.Stored.{relationsOf, columnsOf, storedTables}
-use Rattle.plans.specs.declared.nodes.Operation.{Operation}
-use Rattle.plans.specs.declared.nodes.Operation.the-variants.{Load, Project, SelectConstant, SelectAttribute, Join, Semijoin, Antijoin, Divide, Unite, Intersect, Subtract}
-use Rattle.plans.proofs.DecodeLaws.{Stands, stands}
+use Rattle.plan_reading.specs.declared.nodes.Operation.{Operation}
+use Rattle.plan_reading.specs.declared.nodes.Operation.the-variants.{Load, Project, SelectConstant, SelectAttribute, Join, Semijoin, Antijoin, Divide, Unite, Intersect, Subtract}
+use Rattle.plan_reading.proofs.DecodeLaws.{Stands, stands}
 use Rattle.node_values.specs.Standing.{valuesIn, standing}
 use Rattle.node_values.specs.NodeRun.{widthRead, candidatesRead}
 use Rattle.node_values.proofs.NodeLaws.{Asks, asks, widthMade, offered, makes}

@@ -1,0 +1,153 @@
+-- Translating a range: what its parts ask for, and what the whole leaves. Assumes nothing.
+use Prim.Native.Nat.{ℕ, _+_, _*_, _-_, _≤_, _<_, max}
+use mathlib.Core.Path.{_≡_, refl, sym, ap, subst, _∙_}
+use mathlib.Core.Bool.{Bool, true, _&&_, _||_}
+use mathlib.Core.List.{List, [], _∷_, _++_}
+use native.Mathlib.Omega.{arith}
+use lib.Dec.{eqb}
+use lib.ListN.{length}
+use Rattle.relations.specs.Nodes.{Node}
+use Rattle.calculus.specs.Question.{Range, table, alpha, rangeOr, rangeAnd, rangeAndNot, rangeNodes}
+use Rattle.calculus.specs.Form.{widthOfRange, alphaScope, GoodRange}
+use Rattle.calculus.specs.ShortRules.{lastNumber}
+use Rattle.calculus.specs.Translation.{translateRange}
+use Rattle.calculus.proofs.LegalColumns.{targets-columns}
+use Rattle.calculus.proofs.RuleNodes.{plainSides}
+use Rattle.calculus.proofs.ScopeLaws.{targets-width}
+use Rattle.calculus.proofs.SizeTheorem.{range-size}
+use Rattle.judgements.specs.Accepted.{HasColumns}
+use Rattle.catalogue.specs.Stored.{relationsOf, columnsOf}
+use Rattle.nodes.specs.Kinds.{isTarget, isBinding, isRange, isCondition}
+use Rattle.nodes.specs.Nodes.{kindNamed, nodeAt}
+use Rattle.question.specs.Trees.{alphaOf}
+use Rattle.nodes.specs.declared.node.Node.the-variants.{Alpha}
+use Rattle.nodes.proofs.Forms.{lower, second-of, references-lower}
+use Rattle.conditions.specs.Readings.{Inside, Names, rangeAt, targetsAt, bindingsAt, restrictionAt}
+use Rattle.plan_writing.specs.Translating.{rangesBy, RangeReady, RangeDone}
+use Rattle.emission.specs.Joins.{paired}
+use Rattle.emission.specs.Written.{Room, Written}
+use Rattle.emission.specs.declared.emit.Pairing.{Pairing}
+use Rattle.emission.specs.declared.emit.Pairing.the-variants.{Unite, Intersect, Subtract}
+use Rattle.plan_writing.specs.declared.translate.MadeRange.{MadeRange}
+use Rattle.conditions.proofs.Readings.{Below, fits-in, two-lower, range-is}
+use Rattle.emission.proofs.WrittenLaws.{room-after, room-less, last-is, written-as, going-on}
+
+pub some-nodes : (range : Range) → 1 ≤ rangeNodes range
+unfolding rangeNodes
+some-nodes (table relation) = omega arith
+some-nodes (alpha targets variable range bindings restriction) = omega arith
+some-nodes (rangeOr a b) = omega arith
+some-nodes (rangeAnd a b) = omega arith
+some-nodes (rangeAndNot a b) = omega arith
+
+-- no range is without columns
+pub range-wide : (catalogue : List ℕ) → HasColumns catalogue → (range : Range) → GoodRange (columnsOf catalogue) (relationsOf catalogue) range → 1 ≤ widthOfRange (columnsOf catalogue) range
+unfolding GoodRange widthOfRange
+range-wide catalogue stored (table relation) good = stored relation good
+range-wide catalogue stored (alpha targets variable range bindings restriction) good =
+    let s = alphaScope (columnsOf catalogue) variable range bindings in
+    omega (arith, targets-columns s targets (good .5) (good .3) .0, targets-width s targets)
+range-wide catalogue stored (rangeOr a b) good = range-wide catalogue stored a (good .0)
+range-wide catalogue stored (rangeAnd a b) good = range-wide catalogue stored a (good .0)
+range-wide catalogue stored (rangeAndNot a b) good = range-wide catalogue stored a (good .0)
+
+-- a call on a reference of a node
+pub lower-call : (words : List ℕ) {t reference lower : ℕ} {Ready : Type 0} → 2 * reference ≤ t → Names words reference → Below reference lower → Ready → (2 * lower < t) × (Names words lower × Ready)
+lower-call words h names below ready = (omega (arith, names .0, below .1), ((below .0, omega (arith, names .1, below .1)), ready))
+
+-- a range of two ranges: its size, width, good form and nodes, by those of its sides
+module _ (columns : ℕ → ℕ) where
+  sides-size : (how : Pairing) (a b : Range) → rangeNodes (rangesBy how a b) ≡ rangeNodes a + rangeNodes b + 1
+  unfolding rangeNodes
+  sides-size Unite a b = refl
+  sides-size Intersect a b = refl
+  sides-size Subtract a b = refl
+
+  sides-wide : (how : Pairing) (a b : Range) → widthOfRange columns (rangesBy how a b) ≡ widthOfRange columns a
+  unfolding widthOfRange
+  sides-wide Unite a b = refl
+  sides-wide Intersect a b = refl
+  sides-wide Subtract a b = refl
+
+  sides-good : (how : Pairing) (relations : ℕ) (a b : Range) → GoodRange columns relations (rangesBy how a b) → GoodRange columns relations a × GoodRange columns relations b
+  unfolding GoodRange
+  sides-good Unite relations a b g = (g .0, g .1)
+  sides-good Intersect relations a b g = (g .0, g .1)
+  sides-good Subtract relations a b g = (g .0, g .1)
+
+  sides-nodes : (how : Pairing) (short : Bool) (a b : Range) (n : ℕ) → translateRange columns short (rangesBy how a b) n ≡ plainSides (paired how) (λ m. translateRange columns short a m) (λ m. translateRange columns short b m) n
+  unfolding translateRange
+  sides-nodes Unite short a b n = refl
+  sides-nodes Intersect short a b n = refl
+  sides-nodes Subtract short a b n = refl
+
+-- from what the whole was asked with: the calls on the two sides, room for the node behind them, and what is left
+module _ (how : Pairing) (words : List ℕ) (left right : ℕ) {catalogue plan : List ℕ} {t n : ℕ} (asked : (2 * max left right + 1 ≡ t) × (Names words left × Names words right × RangeReady catalogue plan (rangesBy how (rangeAt words left) (rangeAt words right)) n)) where
+  abbrev columns : ℕ → ℕ
+  columns = columnsOf catalogue
+
+  abbrev a : Range
+  a = rangeAt words left
+
+  abbrev b : Range
+  b = rangeAt words right
+
+  ready : RangeReady catalogue plan (rangesBy how a b) n
+  ready = asked .1 .2
+
+  good : GoodRange columns (relationsOf catalogue) a × GoodRange columns (relationsOf catalogue) b
+  good = sides-good columns how (relationsOf catalogue) a b (ready .good)
+
+  pub call-left : (2 * left < t) × (Names words left × RangeReady catalogue plan a n)
+  call-left = (omega (arith, asked .0), (asked .1 .0, record { good = good .0; stored = ready .stored; room = room-less _ (ready .room) (omega (arith, sides-size columns how a b)) }))
+
+  module _ {short : Bool} {middle : List ℕ} {first : MadeRange} (l : RangeDone catalogue short plan a n middle first) where
+    room-right : Room middle (first .count) (4 * rangeNodes b + 1)
+    room-right = room-after _ (ready .room) (l .written) (omega (arith, sides-size columns how a b, range-size columns short a n))
+
+    pub call-right : (2 * right < t) × (Names words right × RangeReady catalogue middle b (first .count))
+    call-right = (omega (arith, asked .0), (asked .1 .1, record { good = good .1; stored = ready .stored; room = room-less _ room-right (omega arith) }))
+
+    module _ {later : List ℕ} {second : MadeRange} (r : RangeDone catalogue short middle b (first .count) later second) where
+      pub room-last : Room later (second .count) 1
+      room-last = room-after 1 room-right (r .written) (omega (arith, range-size columns short b (first .count)))
+
+      pub sides-done : {after : List ℕ} {count : ℕ} → Written later (second .count) (paired how (first .count - 1) (second .count - 1) ∷ []) after count → RangeDone catalogue short plan (rangesBy how a b) n after (record { count = count; width = first .width })
+      sides-done w =
+          let T : ℕ → List Node = λ m. translateRange columns short a m in
+          let U : ℕ → List Node = λ m. translateRange columns short b m in
+          let both : Written plan n (T n ++ U (n + length (T n))) later (second .count) = going-on (λ p m. U m) (l .written) (r .written) in
+          record {
+            written = written-as (sides-nodes columns how short a b n ∙ ap (λ (p : ℕ). (T n ++ U (n + length (T n))) ++ (paired how p (lastNumber n (T n ++ U (n + length (T n)))) ∷ [])) (last-is (l .written))) (going-on (λ p m. paired how (first .count - 1) p ∷ []) both w);
+            width = l .width ∙ sym (sides-wide columns how a b);
+            more = omega (arith, l .more, r .more, w .counted);
+          }
+
+-- a node that reads as a range of two
+pub call-sides : (how : Pairing) (catalogue words : List ℕ) {t reference n left right : ℕ} {plan : List ℕ} → rangeAt words reference ≡ rangesBy how (rangeAt words left) (rangeAt words right) → (isRange (kindNamed words (reference - 1) left) && isRange (kindNamed words (reference - 1) right)) ≡ true
+    → (2 * reference ≡ t) × (Names words reference × RangeReady catalogue plan (rangeAt words reference) n) → (2 * max left right + 1 < t) × (Names words left × Names words right × RangeReady catalogue plan (rangesBy how (rangeAt words left) (rangeAt words right)) n)
+call-sides how catalogue words {reference = reference} {n} {left} {right} {plan} e fit asked =
+    let below = two-lower words isRange refl (reference - 1) left right fit in
+    let names = asked .1 .0 in (
+      omega (arith, asked .0, names .0, below .0 .1, below .1 .1),
+      ((below .0 .0, omega (arith, names .1, below .0 .1)), (below .1 .0, omega (arith, names .1, below .1 .1)), subst (λ range. RangeReady catalogue plan range n) e (asked .1 .1)),
+    )
+
+-- the other ranges: what they read as, and their calls
+
+pub room-one : {catalogue plan : List ℕ} {range : Range} {n : ℕ} → RangeReady catalogue plan range n → Room plan n 1
+room-one {range = range} ready = room-less 1 (ready .room) (omega (arith, some-nodes range))
+
+pub done-as : {catalogue before after : List ℕ} {short : Bool} {n : ℕ} {made : MadeRange} {whole range : Range} → whole ≡ range → RangeDone catalogue short before range n after made → RangeDone catalogue short before whole n after made
+done-as {catalogue} {before} {after} {short} {n} {made} e done = subst (λ range. RangeDone catalogue short before range n after made) (sym e) done
+
+pub call-alpha : (catalogue words : List ℕ) {t reference n target binding condition : ℕ} {plan : List ℕ} → Alpha target binding condition ≡ nodeAt words (reference - 1) → (2 * reference ≡ t) × (Names words reference × RangeReady catalogue plan (rangeAt words reference) n)
+    → (2 * max binding condition + 1 < t) × (Inside words target × Names words binding × Inside words condition × RangeReady catalogue plan (alphaOf (targetsAt words target) (bindingsAt words binding) (restrictionAt words condition)) n)
+call-alpha catalogue words {t} {reference} {n} {target} {binding} {condition} {plan} e asked =
+    let i : ℕ = reference - 1 in
+    let names = asked .1 .0 in
+    let low = references-lower words i (Alpha target binding condition) (fits-in words i e) in
+    let some : 1 ≤ binding = lower words i binding isBinding refl (second-of (isTarget (kindNamed words i target)) (isBinding (kindNamed words i binding)) (eqb condition 0 || isCondition (kindNamed words i condition)) (fits-in words i e)) .0 in (
+      omega (arith, asked .0, names .0, low .first-lower, low .third-lower),
+      (omega (arith, names .1, low .second-lower), (some, omega (arith, names .1, low .first-lower)), omega (arith, names .1, low .third-lower), subst (λ range. RangeReady catalogue plan range n) (range-is words reference (Alpha target binding condition) (names .0) e) (asked .1 .1)),
+    )

@@ -1,0 +1,101 @@
+-- What the translating functions ask for and leave. Assumes nothing.
+use Prim.Native.Nat.{ℕ, _*_, _-_, _≤_, _<_}
+use mathlib.Core.Path.{_≡_}
+use mathlib.Core.Bool.{Bool, true, _||_}
+use mathlib.Core.List.{List, []}
+use lib.ListN.{length}
+use Rattle.relations.specs.Limits.{listWords}
+use Rattle.relations.specs.Lists.{All, flat}
+use Rattle.relations.specs.Nodes.{Node}
+use Rattle.calculus.specs.Question.{Range, rangeOr, rangeAnd, rangeAndNot, Bindings, noMore, bind, MaybeCondition, noCondition, onCondition, rangeNodes, bindingNodes, maybeNodes}
+use Rattle.calculus.specs.Scope.{Scope, extend, columnsIn, targetColumns}
+use Rattle.calculus.specs.Form.{GoodTarget, widthOfRange, scopeOfBindings, GoodRange, GoodBindings, GoodMaybe}
+use Rattle.calculus.specs.ShortRules.{projectNodes, shortRule3Fits, shortRule5Fits, shortRule6Fits}
+use Rattle.calculus.specs.Translation.{Wanted, itself, itsOpposite, divisionBy, translateRange, translateBindings, translateCondition}
+use Rattle.catalogue.specs.Stored.{relationsOf, columnsOf}
+use Rattle.judgements.specs.Accepted.{HasColumns}
+use Rattle.conditions.specs.Readings.{Inside, targetsAt}
+use Rattle.conditions.specs.Scopes.{scopeOf, ScopeFits, withVariable}
+use Rattle.emission.specs.Written.{Room, Written}
+use Rattle.emission.specs.declared.emit.Pairing.{Pairing}
+use Rattle.emission.specs.declared.emit.Pairing.the-variants.{Unite, Intersect, Subtract}
+use Rattle.plan_writing.specs.declared.translate.MadeRange.{MadeRange}
+
+-- the range that an operation makes of two
+abbrev pub rangesBy : Pairing → Range → Range → Range
+rangesBy Unite a b = rangeOr a b
+rangesBy Intersect a b = rangeAnd a b
+rangesBy Subtract a b = rangeAndNot a b
+
+-- T of a condition, for whatever is wanted of it; no nodes where there is none
+abbrev pub translateWanted : (columns : ℕ → ℕ) (short : Bool) → Wanted → MaybeCondition → Scope → (p n : ℕ) → List Node
+translateWanted columns short wanted noCondition s p n = []
+translateWanted columns short wanted (onCondition f) s p n = translateCondition columns short f wanted s p n
+
+-- An opposite is wanted only of a condition that S3 or S6 fits, a division only of one that S5 fits.
+abbrev pub OppositeFits : MaybeCondition → Type 0
+OppositeFits noCondition = ⊥
+OppositeFits (onCondition f) = (shortRule3Fits f || shortRule6Fits f) ≡ true
+
+abbrev pub DivisionFits : ℕ → MaybeCondition → Type 0
+DivisionFits y noCondition = ⊥
+DivisionFits y (onCondition f) = shortRule5Fits y f ≡ true
+
+-- Each node of the question has room for four of the plan.
+module _ (catalogue : List ℕ) where
+  pub record RangeReady (plan : List ℕ) (range : Range) (n : ℕ) : Type 0 where
+    pub good : GoodRange (columnsOf catalogue) (relationsOf catalogue) range
+    pub stored : HasColumns catalogue
+    pub room : Room plan n (4 * rangeNodes range)
+
+  pub record RangeDone (short : Bool) (before : List ℕ) (range : Range) (n : ℕ) (after : List ℕ) (made : MadeRange) : Type 0 where
+    pub written : Written before n (translateRange (columnsOf catalogue) short range n) after (made .count)
+    pub width : made .width ≡ widthOfRange (columnsOf catalogue) range
+    pub more : n < made .count
+
+  pub record BindingsReady (plan : List ℕ) (bindings : Bindings) (scope : List ℕ) (n : ℕ) : Type 0 where
+    pub good : GoodBindings (columnsOf catalogue) (relationsOf catalogue) bindings (scopeOf scope)
+    pub fits : ScopeFits scope
+    pub stored : HasColumns catalogue
+    pub some-nodes : 1 ≤ n
+    pub room : Room plan n (4 * bindingNodes bindings)
+
+  -- the scope that bindings make of the one before them, as the code carries it
+  unfoldable pub withBindings : Bindings → List ℕ → List ℕ
+  withBindings noMore scope = scope
+  withBindings (bind variable range bindings) scope = withBindings bindings (withVariable scope variable (widthOfRange (columnsOf catalogue) range))
+
+  pub record BindingsDone (short : Bool) (before : List ℕ) (bindings : Bindings) (scope : List ℕ) (p n : ℕ) (after grown : List ℕ) (count : ℕ) : Type 0 where
+    pub written : Written before n (translateBindings (columnsOf catalogue) short bindings p n) after count
+    pub is : grown ≡ withBindings bindings scope
+    pub fits : ScopeFits grown
+    pub stands : scopeOf grown ≡ scopeOfBindings (columnsOf catalogue) bindings (scopeOf scope)
+
+  -- y is in the scope of a condition that is divided by its range, but its columns are not among P's
+  pub record DivisionGood (y : ℕ) (restriction : MaybeCondition) (s : Scope) : Type 0 where
+    pub width : ℕ
+    pub good : GoodMaybe (columnsOf catalogue) (relationsOf catalogue) restriction (extend s y width)
+    pub fits : DivisionFits y restriction
+
+  abbrev pub GoodAs : Wanted → MaybeCondition → Scope → Type 0
+  GoodAs itself restriction s = GoodMaybe (columnsOf catalogue) (relationsOf catalogue) restriction s
+  GoodAs itsOpposite restriction s = GoodMaybe (columnsOf catalogue) (relationsOf catalogue) restriction s × OppositeFits restriction
+  GoodAs (divisionBy y k) restriction s = DivisionGood y restriction s
+
+  pub record ConditionReady (plan : List ℕ) (wanted : Wanted) (restriction : MaybeCondition) (scope : List ℕ) (n : ℕ) : Type 0 where
+    pub good : GoodAs wanted restriction (scopeOf scope)
+    pub fits : ScopeFits scope
+    pub stored : HasColumns catalogue
+    pub some-nodes : 1 ≤ n
+    pub room : Room plan n (4 * maybeNodes restriction)
+
+-- an alpha's targets: they are good, and no list is too short for their columns
+pub record TargetsReady (words : List ℕ) (reference : ℕ) (scope : List ℕ) : Type 0 where
+  pub inside : Inside words reference
+  pub fits : ScopeFits scope
+  pub good : All (GoodTarget (scopeOf scope)) (targetsAt words reference)
+  pub few : length (flat (targetColumns (scopeOf scope)) (targetsAt words reference)) ≤ listWords
+
+pub record TargetsDone (short : Bool) (words : List ℕ) (target : ℕ) (scope before : List ℕ) (n : ℕ) (after : List ℕ) (made : MadeRange) : Type 0 where
+  pub written : Written before n (projectNodes short (columnsIn (scopeOf scope)) (n - 1) (flat (targetColumns (scopeOf scope)) (targetsAt words target))) after (made .count)
+  pub width : made .width ≡ length (flat (targetColumns (scopeOf scope)) (targetsAt words target))

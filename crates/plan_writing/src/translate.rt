@@ -1,0 +1,426 @@
+// Translation: a range, the parts of an alpha and a condition call each other. Each function has a number of its own that falls at each call:
+// twice the reference of the node that it is handed, or one more than twice the greatest of the references of a node's parts. Nothing that is
+// long stands in these functions' frames but a scope that grows, so that the deepest question takes little stack.
+ghost use Prim.Native.Nat.{_<_};
+ghost use Rattle.relations.specs.Limits.{variableCount};
+ghost use Rattle.calculus.specs.Question as calculus;
+ghost use Rattle.calculus.specs.Translation.{itself, translateCondition};
+ghost use Rattle.catalogue.specs.Stored.{columnsOf};
+ghost use Rattle.question.specs.Trees.{alphaOf};
+ghost use Rattle.conditions.specs.Readings.{Inside, Names, rangeAt, targetsAt, bindingsAt, restrictionAt, conditionAt};
+ghost use Rattle.conditions.specs.Scopes.{scopeOf};
+ghost use Rattle.emission.specs.Written.{Room, Written};
+ghost use Rattle.plan_writing.specs.Quantifying.{wantedIn, quantified};
+ghost use Rattle.plan_writing.specs.Translating.{rangesBy, RangeReady, RangeDone, BindingsReady, BindingsDone, ConditionReady, translateWanted};
+use crate::quantifying::Quantifier;
+use crate::quantifying::Wanted;
+use crate::quantifying::Way;
+use crate::quantifying::is_opposite;
+use crate::quantifying::opposite_if;
+use crate::quantifying::way_of;
+use crate::quantifying::write_kept;
+use crate::targets::write_targets;
+use catalogue::stored::columns_of;
+use conditions::scope::SCOPE_BYTES;
+use conditions::scope::columns_in;
+use conditions::scope::extend;
+use emission::emit::Pairing;
+use emission::emit::load;
+use emission::emit::pair;
+use emission::emit::product;
+use nodes::node::Node;
+use nodes::node::decode;
+use short_rules::fits::ShortRule;
+use short_rules::fits::rule_fits;
+use short_rules::rules::write_atom;
+use short_rules::rules::write_rule;
+
+// How many nodes the plan has behind a range, and the range's width.
+pub struct MadeRange {
+    pub count: u32,
+    pub width: u32,
+}
+
+// Table: load.
+fn translate_table(
+    catalogue: &[u32],
+    short: bool,
+    relation: u32,
+    plan: &mut [u32],
+    n: u32,
+) -> MadeRange
+    requires { ⌜ Room (now plan) n 1 ⌝ }
+    ensures { λ r. ⌜ RangeDone (now (catalogue .entry)) short (now (plan .entry)) (calculus.table relation) n (now (plan .exit)) r ⌝ }
+{
+    let count = load(plan, n, relation);
+    MadeRange {
+        count,
+        width: columns_of(catalogue, relation as usize),
+    }
+}
+
+// The nodes of the range that a reference names. A node of another sort, which refusal 2 shuts out, reads as relation 0.
+pub fn translate_range(
+    catalogue: &[u32],
+    words: &[u32],
+    short: bool,
+    reference: u32,
+    plan: &mut [u32],
+    n: u32,
+) -> MadeRange
+    requires { ⌜ Names (now words) reference × RangeReady (now catalogue) (now plan) (rangeAt (now words) reference) n ⌝ }
+    ensures { λ r. ⌜ RangeDone (now (catalogue .entry)) short (now (plan .entry)) (rangeAt (now (words .entry)) reference) n (now (plan .exit)) r ⌝ }
+{
+    let node = decode(words, (reference - 1) as usize);
+    match node {
+        Node::Table { relation } => translate_table(catalogue, short, relation, plan, n),
+        Node::Alpha {
+            target,
+            binding,
+            condition,
+        } => translate_alpha(catalogue, words, short, target, binding, condition, plan, n),
+        Node::RangeOr { left, right } => translate_ranges(
+            catalogue,
+            words,
+            short,
+            Pairing::Unite,
+            left,
+            right,
+            plan,
+            n,
+        ),
+        Node::RangeAnd { left, right } => translate_ranges(
+            catalogue,
+            words,
+            short,
+            Pairing::Intersect,
+            left,
+            right,
+            plan,
+            n,
+        ),
+        Node::RangeAndNot { left, right } => translate_ranges(
+            catalogue,
+            words,
+            short,
+            Pairing::Subtract,
+            left,
+            right,
+            plan,
+            n,
+        ),
+        _ => translate_table(catalogue, short, 0, plan, n),
+    }
+}
+
+// Range operation: left, right, then 9, 10 or 11.
+fn translate_ranges(
+    catalogue: &[u32],
+    words: &[u32],
+    short: bool,
+    how: Pairing,
+    left: u32,
+    right: u32,
+    plan: &mut [u32],
+    n: u32,
+) -> MadeRange
+    requires { ⌜ Names (now words) left × Names (now words) right × RangeReady (now catalogue) (now plan) (rangesBy how (rangeAt (now words) left) (rangeAt (now words) right)) n ⌝ }
+    ensures { λ r. ⌜ RangeDone (now (catalogue .entry)) short (now (plan .entry)) (rangesBy how (rangeAt (now (words .entry)) left) (rangeAt (now (words .entry)) right)) n (now (plan .exit)) r ⌝ }
+{
+    let first = translate_range(catalogue, words, short, left, plan, n);
+    let second = translate_range(catalogue, words, short, right, plan, first.count);
+    let count = pair(plan, second.count, how, first.count - 1, second.count - 1);
+    MadeRange {
+        count,
+        width: first.width,
+    }
+}
+
+// Alpha: first range; for each next one its nodes, then a product; T of the condition; project on the targets.
+fn translate_alpha(
+    catalogue: &[u32],
+    words: &[u32],
+    short: bool,
+    target: u32,
+    binding: u32,
+    condition: u32,
+    plan: &mut [u32],
+    n: u32,
+) -> MadeRange
+    requires { ⌜ Inside (now words) target × Names (now words) binding × Inside (now words) condition × RangeReady (now catalogue) (now plan) (alphaOf (targetsAt (now words) target) (bindingsAt (now words) binding) (restrictionAt (now words) condition)) n ⌝ }
+    ensures { λ r. ⌜ RangeDone (now (catalogue .entry)) short (now (plan .entry)) (alphaOf (targetsAt (now (words .entry)) target) (bindingsAt (now (words .entry)) binding) (restrictionAt (now (words .entry)) condition)) n (now (plan .exit)) r ⌝ }
+{
+    let node = decode(words, (binding - 1) as usize);
+    match node {
+        Node::Binding {
+            variable,
+            range,
+            next,
+        } => {
+            let first = translate_range(catalogue, words, short, range, plan, n);
+            let mut scope = [0u8; SCOPE_BYTES];
+            extend(&mut scope, variable, first.width);
+            let p = first.count - 1;
+            let joined = translate_bindings(
+                catalogue,
+                words,
+                short,
+                next,
+                &mut scope,
+                p,
+                plan,
+                first.count,
+            );
+            let kept = translate_condition(
+                catalogue,
+                words,
+                short,
+                condition,
+                Wanted::Itself,
+                &scope,
+                joined - 1,
+                plan,
+                joined,
+            );
+            write_targets(words, short, target, &scope, plan, kept)
+        }
+        _ => translate_table(catalogue, short, 0, plan, n),
+    }
+}
+
+// The next bindings: each range, and its product with the value p. The scope gets their variables.
+fn translate_bindings(
+    catalogue: &[u32],
+    words: &[u32],
+    short: bool,
+    reference: u32,
+    scope: &mut [u8; SCOPE_BYTES],
+    p: u32,
+    plan: &mut [u32],
+    n: u32,
+) -> u32
+    requires { ⌜ Inside (now words) reference × BindingsReady (now catalogue) (now plan) (bindingsAt (now words) reference) (now scope) n ⌝ }
+    ensures { λ r. ⌜ BindingsDone (now (catalogue .entry)) short (now (plan .entry)) (bindingsAt (now (words .entry)) reference) (now (scope .entry)) p n (now (plan .exit)) (now (scope .exit)) r ⌝ }
+{
+    if reference == 0 {
+        return n;
+    }
+    let node = decode(words, (reference - 1) as usize);
+    match node {
+        Node::Binding {
+            variable,
+            range,
+            next,
+        } => {
+            let made = translate_range(catalogue, words, short, range, plan, n);
+            let q = made.count;
+            let count = product(plan, q, p, q - 1);
+            extend(scope, variable, made.width);
+            translate_bindings(catalogue, words, short, next, scope, q, plan, count)
+        }
+        _ => n,
+    }
+}
+
+// T(f, P): the nodes for the rows of P, node p, that meet the condition that a reference names, or for what else is wanted of it; none are P itself.
+fn translate_condition(
+    catalogue: &[u32],
+    words: &[u32],
+    short: bool,
+    reference: u32,
+    wanted: Wanted,
+    scope: &[u8; SCOPE_BYTES],
+    p: u32,
+    plan: &mut [u32],
+    n: u32,
+) -> u32
+    requires { ⌜ Inside (now words) reference × ConditionReady (now catalogue) (now plan) (wantedIn wanted) (restrictionAt (now words) reference) (now scope) n ⌝ }
+    ensures { λ r. ⌜ Written (now (plan .entry)) n (translateWanted (columnsOf (now (catalogue .entry))) short (wantedIn wanted) (restrictionAt (now (words .entry)) reference) (scopeOf (now (scope .entry))) p n) (now (plan .exit)) r ⌝ }
+{
+    if reference == 0 {
+        return n;
+    }
+    let node = decode(words, (reference - 1) as usize);
+    match node {
+        Node::Atom(atom) => write_atom(scope, is_opposite(wanted), atom, p, plan, n),
+        Node::And { left, right } => {
+            let first = translate_part(catalogue, words, short, left, scope, p, plan, n);
+            translate_part(
+                catalogue,
+                words,
+                short,
+                right,
+                scope,
+                first - 1,
+                plan,
+                first,
+            )
+        }
+        Node::Or { left, right } => {
+            let first = translate_part(catalogue, words, short, left, scope, p, plan, n);
+            let second = translate_part(catalogue, words, short, right, scope, p, plan, first);
+            pair(plan, second, Pairing::Unite, first - 1, second - 1)
+        }
+        Node::Not { inner } => {
+            let opposite = short & rule_fits(words, ShortRule::S3, 0, inner);
+            let met = translate_condition(
+                catalogue,
+                words,
+                short,
+                inner,
+                opposite_if(opposite),
+                scope,
+                p,
+                plan,
+                n,
+            );
+            if opposite {
+                return met;
+            }
+            pair(plan, met, Pairing::Subtract, p, met - 1)
+        }
+        Node::Some {
+            variable,
+            range,
+            condition,
+        } => translate_quantifier(
+            catalogue,
+            words,
+            short,
+            Quantifier::Some,
+            wanted,
+            variable,
+            range,
+            condition,
+            scope,
+            p,
+            plan,
+            n,
+        ),
+        Node::Every {
+            variable,
+            range,
+            condition,
+        } => translate_quantifier(
+            catalogue,
+            words,
+            short,
+            Quantifier::Every,
+            wanted,
+            variable,
+            range,
+            condition,
+            scope,
+            p,
+            plan,
+            n,
+        ),
+        _ => n,
+    }
+}
+
+// A side of an "and" or an "or". This is only a call: what it lends stands in one place of the frame above it for all four sides.
+fn translate_part(
+    catalogue: &[u32],
+    words: &[u32],
+    short: bool,
+    reference: u32,
+    scope: &[u8; SCOPE_BYTES],
+    p: u32,
+    plan: &mut [u32],
+    n: u32,
+) -> u32
+    requires { ⌜ Inside (now words) reference × ConditionReady (now catalogue) (now plan) itself (restrictionAt (now words) reference) (now scope) n ⌝ }
+    ensures { λ r. ⌜ Written (now (plan .entry)) n (translateWanted (columnsOf (now (catalogue .entry))) short itself (restrictionAt (now (words .entry)) reference) (scopeOf (now (scope .entry))) p n) (now (plan .exit)) r ⌝ }
+{
+    translate_condition(
+        catalogue,
+        words,
+        short,
+        reference,
+        Wanted::Itself,
+        scope,
+        p,
+        plan,
+        n,
+    )
+}
+
+// Some, every: a short rule; the division of S5; else range, product Q with P, T(f, Q), and of Q's rows what the quantifier keeps of P.
+fn translate_quantifier(
+    catalogue: &[u32],
+    words: &[u32],
+    short: bool,
+    quantifier: Quantifier,
+    wanted: Wanted,
+    x: u32,
+    range: u32,
+    condition: u32,
+    scope: &[u8; SCOPE_BYTES],
+    p: u32,
+    plan: &mut [u32],
+    n: u32,
+) -> u32
+    requires { ⌜ (x < variableCount) × Names (now words) range × Names (now words) condition × ConditionReady (now catalogue) (now plan) (wantedIn wanted) (calculus.onCondition (quantified quantifier x (rangeAt (now words) range) (conditionAt (now words) condition))) (now scope) n ⌝ }
+    ensures { λ r. ⌜ Written (now (plan .entry)) n (translateCondition (columnsOf (now (catalogue .entry))) short (quantified quantifier x (rangeAt (now (words .entry)) range) (conditionAt (now (words .entry)) condition)) (wantedIn wanted) (scopeOf (now (scope .entry))) p n) (now (plan .exit)) r ⌝ }
+{
+    let made = translate_range(catalogue, words, short, range, plan, n);
+    let q = made.count;
+    let way = way_of(words, short, quantifier, wanted, x, condition);
+    match way {
+        Way::ByRule(rule) => write_rule(
+            words,
+            scope,
+            rule,
+            x,
+            made.width,
+            condition,
+            0,
+            0,
+            p,
+            plan,
+            q,
+        ),
+        Way::AsDivisor { y, k } => write_rule(
+            words,
+            scope,
+            ShortRule::S5,
+            x,
+            made.width,
+            condition,
+            y,
+            k,
+            p,
+            plan,
+            q,
+        ),
+        Way::ByDivision => translate_condition(
+            catalogue,
+            words,
+            short,
+            condition,
+            Wanted::Division { y: x, k: q - 1 },
+            scope,
+            p,
+            plan,
+            q,
+        ),
+        Way::Plain => {
+            let mut inner = *scope;
+            extend(&mut inner, x, made.width);
+            let count = product(plan, q, p, q - 1);
+            let meeting = translate_condition(
+                catalogue,
+                words,
+                short,
+                condition,
+                Wanted::Itself,
+                &inner,
+                q,
+                plan,
+                count,
+            );
+            write_kept(quantifier, columns_in(scope), p, q, plan, meeting)
+        }
+    }
+}
