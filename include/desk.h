@@ -79,7 +79,7 @@
 #define DESK_PLAN_NODE_WORDS 36u      /* words of a plan node */
 #define DESK_MOST_PLAN_NODES 256u     /* nodes of a plan */
 #define DESK_PLAN_WORDS 9216u         /* words of a plan buffer: 256 nodes of 36 words */
-#define DESK_STACK_BYTES 131072u      /* stack that a call may need */
+#define DESK_STACK_BYTES 32768u       /* stack that a call may need */
 #define DESK_MOST_PAIRS 67108864u     /* pairs of rows that meet in a desk_answer: 8,192 x 8,192 */
 
 /* Modes. */
