@@ -2,13 +2,13 @@
 use Prim.Native.Nat.{ℕ, _+_, _*_, _/_, _≤_}
 use mathlib.Core.Path.{_≡_, refl, sym, ap, _∙_}
 use mathlib.Core.List.{List}
-use mathlib.Core.Bool.{Bool, true, false, cond, not, _||_}
+use mathlib.Core.Bool.{Bool, true, false, cond, not}
 use native.Mathlib.Omega.{arith}
-use lib.Dec.{leb, ltb}
+use lib.Dec.{leb}
 use lib.ListN.{length, take, drop}
 use lib.Seq.{sets, sets-eq, take-at}
-use borrow.Author.Tests.{leb-true, le-leb, ltb-false}
-use Rattle.relations.specs.Limits.{cataloguePairLimit, wordLimit, questionNodeLimit, questionNodeWords, byteLimit}
+use borrow.Author.Tests.{leb-true, le-leb}
+use Rattle.relations.specs.Limits.{questionNodeWords, byteLimit}
 use Rattle.catalogue.specs.Judging.{tablesOk}
 use Rattle.bundles.specs.Writing.{bundleText}
 use Rattle.bundles.specs.Reading.{Bundle, bundleIn}
@@ -17,7 +17,7 @@ use Rattle.bundles.specs.ReadCall.{readRefused, bundleOutcome, smallBuff
 use Rattle.bundles.specs.WriteCall.{WriteOutcome, writeRefusal, nodesOk, textFits, writeOutcome}
 use Rattle.lines.specs.Words32.{Words32}
 use Rattle.bundles.specs.RoundTrip.{BundleAsText, bundleOf, wrote, foundBundle, writeBack, readBack, RoundTrip, OneOutcome}
-use Rattle.relations.proofs.BoolLaws.{and-both, and-left, and-right, or-left-false, or-right-false}
+use Rattle.relations.proofs.BoolLaws.{and-both, and-left, and-right}
 use Rattle.catalogue.proofs.Judgements.{pairs-even, GoodTables, good-tables}
 use Rattle.bundles.proofs.Judgements.{GoodNodes, good-nodes, LargeBuffers, large-buffers}
 use Rattle.bundles.proofs.ReadingLaws.{reading-text}

@@ -1,11 +1,11 @@
 -- The columns that remain in a division, and the rows that pass. Assumes nothing.
 use mathlib.Core.Path.{_≡_, refl, sym, ap, ap₂, _∙_}
 use mathlib.Core.Bool.{Bool, true, false, not, _&&_, _||_, cond, So}
-use mathlib.Core.List.{List, [], _∷_, _++_, map, append-assoc, append-nil}
+use mathlib.Core.List.{List, [], _∷_, _++_, map, append-assoc}
 use Prim.Native.Nat.{ℕ, zero, suc, _+_, _*_, _-_, _≤_, _<_}
 use native.Mathlib.Omega.{arith}
 use native.Mathlib.Numerals.{add-one}
-use native.Mathlib.Nat.{add-suc, add-zero}
+use native.Mathlib.Nat.{add-zero}
 use lib.ListN.{length, getD, set, take, drop, replicate, length-set, length-append, length-replicate, length-map}
 use lib.Seq.{sets, drop-drop, drop-cons, take-suc-set, take-set-lt, take-length, getD-append-seam}
 use lib.Dec.{eqb}
@@ -13,7 +13,7 @@ use borrow.Author.Tests.{eq-eqb, ne-eqb}
 use Rattle.relations.specs.Lists.{any, all, filter, All}
 use Rattle.relations.specs.Rows.{Row, sameRow}
 use Rattle.relations.specs.Values.{Rows, Wide, member}
-use Rattle.relations.specs.Columns.{Attribute, Pair, attribute, column, wordAt, pick, equalOn, listed, leftNumbers, columnsNotListed, remaining}
+use Rattle.relations.specs.Columns.{Pair, attribute, column, wordAt, equalOn, listed, leftNumbers, columnsNotListed, remaining}
 use Rattle.relations.specs.Meanings.{partnered}
 use Rattle.relations.specs.Operations.{divideCandidates}
 use Rattle.relations.specs.PlanWords.{readPairs}

@@ -13,7 +13,7 @@ use Rattle.relations.specs.Rows.{Row}
 use Rattle.relations.specs.Values.{Rows, Ascending}
 use Rattle.values.specs.Words.{rowsOf, end}
 use Rattle.values.specs.declared.rows.Value.{Value}
-use Rattle.relations.specs.Columns.{Attribute, Pair, attribute, column, pick, listed, leftNumbers}
+use Rattle.relations.specs.Columns.{Pair, attribute, column, pick, listed, leftNumbers}
 
 -- of so many columns from a number on, the numbers that are not listed
 abbrev pub columnsLeft : (number width : ℕ) → List ℕ → List ℕ

@@ -1,8 +1,8 @@
 // Operation 5: each left row before each right row that it meets. With no triple this is the product.
 ghost use mathlib.Core.Path.{_≡_};
 ghost use mathlib.Core.Bool.{true};
-ghost use mathlib.Core.List.{[], _∷_, _++_, map};
-ghost use Prim.Native.Nat.{ℕ, _+_, _-_, _*_, _≤_, _<_};
+ghost use mathlib.Core.List.{[], _∷_, _++_};
+ghost use Prim.Native.Nat.{_+_, _-_, _*_, _≤_, _<_};
 ghost use lib.ListN.{length};
 ghost use Rattle.relations.specs.Limits.{columnLimit, tripleLimit};
 ghost use Rattle.relations.specs.Columns.{meets};

@@ -1,9 +1,9 @@
 // One node of a judged plan: its value is worked out and put behind the values of the nodes before it.
 ghost use mathlib.Core.Path.{_≡_};
-ghost use mathlib.Core.Bool.{Bool, true, cond};
-ghost use Prim.Native.Nat.{ℕ, _+_, _≤_, _<_};
-ghost use lib.ListN.{length, getD, drop};
-ghost use Rattle.relations.specs.Limits.{planNodeWords, headWords};
+ghost use mathlib.Core.Bool.{true};
+ghost use Prim.Native.Nat.{_≤_, _<_};
+ghost use lib.ListN.{length, getD};
+ghost use Rattle.relations.specs.Limits.{planNodeWords};
 ghost use Rattle.relations.specs.Columns as meaning;
 ghost use Rattle.relations.specs.Operations.{loadCandidates, selectConstantCandidates, selectAttributeCandidates};
 ghost use Rattle.relations.specs.PlanWords.{readNode};

@@ -1,17 +1,15 @@
 -- Columns of a row, and triples and pairs read one after another. Assumes nothing.
-use mathlib.Core.Path.{_≡_, refl, sym, ap, _∙_}
-use mathlib.Core.Bool.{Bool, true, false, cond}
+use mathlib.Core.Path.{_≡_, refl, _∙_}
 use mathlib.Core.List.{List}
-use mathlib.Core.Option.{Option, some, none, Option·map}
+use mathlib.Core.Option.{Option, some, none}
 use Prim.Native.Nat.{ℕ, zero, suc, _+_, _-_, _<_}
 use native.Mathlib.Nat.{add-zero}
 use native.Mathlib.Omega.{arith}
 use lib.ListN.{length, getD, drop, List·getD-eq-default}
 use lib.Seq.{getD-drop}
-use lib.Dec.{eqb}
 use Rattle.relations.specs.Rows.{Row}
 use Rattle.terms.proofs.NumberLaws.{operator-named}
-use Rattle.relations.specs.Comparison.{Operator, operatorOf, operatorNamed}
+use Rattle.relations.specs.Comparison.{Operator, operatorOf}
 use Rattle.relations.specs.Columns.{Triple, wordAt}
 use Rattle.relations.specs.PlanWords.{readTriples, tripleBefore}
 use Rattle.operations.specs.Lists.{triplesIn}

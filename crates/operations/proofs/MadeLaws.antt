@@ -8,7 +8,7 @@ use lib.ListN.{length, getD, set, take, replicate, length-map, length-replicate}
 use lib.Seq.{sets, take-suc, length-take-le}
 use Rattle.relations.specs.Limits.{columnLimit}
 use Rattle.relations.specs.Rows.{Row}
-use Rattle.relations.specs.Columns.{Attribute, attribute, column, pick}
+use Rattle.relations.specs.Columns.{attribute, column, pick}
 use Rattle.relations.proofs.StoreLaws.{sets-append}
 use Rattle.values.proofs.WordLaws.{part-sets}
 use Rattle.operations.specs.Aside.{aside}

@@ -1,13 +1,12 @@
 -- A test's right value stands in front of what is made, so that it is the same at every turn of a loop. Assumes nothing.
-use mathlib.Core.Path.{_≡_, refl, sym, ap, ap₂, _∙_}
+use mathlib.Core.Path.{_≡_, refl, ap₂}
 use mathlib.Core.List.{List, [], _∷_}
-use Prim.Native.Nat.{ℕ, _+_, _*_, _≤_, _<_}
+use Prim.Native.Nat.{ℕ, _+_, _≤_}
 use native.Mathlib.Omega.{arith}
-use lib.ListN.{length}
 use Rattle.relations.specs.Lists.{filter}
 use Rattle.relations.specs.Rows.{Row}
 use Rattle.relations.specs.Values.{Rows, Ascending}
-use Rattle.values.specs.Words.{rowIn, rowsAt, rowsOf, end}
+use Rattle.values.specs.Words.{rowIn, rowsOf, end}
 use Rattle.values.specs.declared.rows.Value.{Value}
 use Rattle.values.proofs.FillLaws.{Filled, filled-rows}
 use Rattle.operations.proofs.FillSteps.{filled-row}

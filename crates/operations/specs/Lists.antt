@@ -1,8 +1,6 @@
 -- What the code's triples and pairs stand for, and how they are read from a node's list words.
-use mathlib.Core.Bool.{cond}
 use mathlib.Core.List.{List, [], _∷_}
 use Prim.Native.Nat.{ℕ, zero, suc}
-use lib.Dec.{eqb}
 use lib.ListN.{getD, drop}
 use Rattle.relations.specs.Comparison.{operatorNamed}
 use Rattle.relations.specs.Columns as columns

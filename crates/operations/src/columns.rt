@@ -1,6 +1,6 @@
 // Attributes, constants and comparisons, as a plan node's list words name them.
 ghost use mathlib.Core.Path.{_≡_};
-ghost use Prim.Native.Nat.{ℕ, _+_, _≤_};
+ghost use Prim.Native.Nat.{_+_, _≤_};
 ghost use lib.ListN.{length, drop};
 ghost use Rattle.relations.specs.Columns as meaning;
 ghost use Rattle.terms.specs.Terms.{attributeIn};

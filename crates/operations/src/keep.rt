@@ -2,7 +2,7 @@
 // kept is placed by one comparison, with the last row.
 ghost use mathlib.Core.Path.{_≡_};
 ghost use mathlib.Core.List.{[], _∷_};
-ghost use Prim.Native.Nat.{ℕ, _+_, _*_, _≤_, _<_};
+ghost use Prim.Native.Nat.{_+_, _*_, _≤_, _<_};
 ghost use lib.ListN.{length};
 ghost use Rattle.relations.specs.Lists.{filter};
 ghost use Rattle.relations.specs.Values.{Ascending};

@@ -1,7 +1,6 @@
 // A row of picked columns put into a value. A list may name an attribute twice.
-ghost use mathlib.Core.Path.{_≡_};
 ghost use mathlib.Core.List.{[], _∷_, map};
-ghost use Prim.Native.Nat.{ℕ, _+_, _*_, _≤_, _<_};
+ghost use Prim.Native.Nat.{_+_, _*_, _≤_, _<_};
 ghost use lib.ListN.{length, take};
 ghost use Rattle.relations.specs.Limits.{columnLimit};
 ghost use Rattle.relations.specs.Columns as meaning;

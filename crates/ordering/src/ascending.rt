@@ -1,6 +1,6 @@
 // Stored rows that ascend already: their words are the value's.
 ghost use mathlib.Core.Path.{_≡_};
-ghost use Prim.Native.Nat.{ℕ, _+_, _*_, _≤_, _<_};
+ghost use Prim.Native.Nat.{_+_, _*_, _≤_, _<_};
 ghost use lib.ListN.{length};
 ghost use Rattle.relations.specs.Values.{Ascending};
 ghost use Rattle.values.specs.Words.{rowsOf, end};

@@ -1,7 +1,7 @@
 // Operations 1 and 2: the stored rows, or the picked columns of a value's rows, each once. A list may name an attribute twice.
 ghost use mathlib.Core.Path.{_≡_};
 ghost use mathlib.Core.List.{map};
-ghost use Prim.Native.Nat.{ℕ, _+_, _*_, _≤_, _<_};
+ghost use Prim.Native.Nat.{_≤_, _<_};
 ghost use lib.ListN.{length, take};
 ghost use Rattle.relations.specs.Limits.{columnLimit};
 ghost use Rattle.relations.specs.Columns as meaning;

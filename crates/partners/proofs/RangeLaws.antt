@@ -1,6 +1,6 @@
 -- The words that a range allows: what each comparison leaves, and what two ranges leave together. Assumes nothing.
 use mathlib.Core.Path.{_≡_, refl, sym, ap, _∙_}
-use mathlib.Core.Bool.{Bool, true, false, not, _&&_, _||_, cond, So}
+use mathlib.Core.Bool.{true, false, not, _&&_, _||_, cond, So}
 use mathlib.Core.Logic.{_⊎_, inl, inr, ⊎-elim}
 use Prim.Native.Nat.{ℕ, _+_, _-_, _≤_, _<_}
 use native.Mathlib.Omega.{arith}

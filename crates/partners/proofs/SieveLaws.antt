@@ -1,5 +1,5 @@
 -- A sieve, entry by entry: looked through, made narrower at an entry, and made longer. Assumes nothing.
-use mathlib.Core.Path.{_≡_, refl, sym, ap, ap₂, _∙_}
+use mathlib.Core.Path.{_≡_, refl, sym, ap, _∙_}
 use mathlib.Core.Bool.{Bool, true, false, _&&_, So}
 use mathlib.Core.List.{List, [], _∷_}
 use Prim.Native.Nat.{ℕ, zero, suc, _+_, _-_, _*_, _≤_, _<_}
@@ -10,7 +10,7 @@ use lib.Seq.{drop-drop}
 use Rattle.relations.specs.Rows.{Row}
 use Rattle.relations.specs.Comparison.{holds, operatorNamed}
 use Rattle.relations.specs.Columns.{wordAt, column, attribute, meets}
-use Rattle.relations.proofs.BoolLaws.{and-left, and-right, true-and-false, not-so}
+use Rattle.relations.proofs.BoolLaws.{and-left, and-right, not-so}
 use Rattle.operations.specs.Lists.{firstTriple, triplesIn}
 use Rattle.operations.proofs.ListLaws.{first-word, next-word}
 use Rattle.partners.specs.Ranges.{noWord, allowed, allowedBy, Allows}

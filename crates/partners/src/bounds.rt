@@ -1,5 +1,5 @@
 // Where the rows that a sieve lets through can stand in an ascending value: the first columns, as long as one word is left to them, and the next one's range.
-ghost use Prim.Native.Nat.{ℕ, _*_, _≤_};
+ghost use Prim.Native.Nat.{_*_, _≤_};
 ghost use lib.ListN.{length};
 ghost use Rattle.partners.specs.Bounds.{Bounding};
 use crate::sieve::NO_WORD;

@@ -1,6 +1,6 @@
 // Where the right rows that a sieve lets through begin in an ascending value, and the words behind which there are none.
 ghost use mathlib.Core.Path.{_≡_};
-ghost use Prim.Native.Nat.{ℕ, _+_, _*_, _≤_};
+ghost use Prim.Native.Nat.{_*_, _≤_};
 ghost use lib.ListN.{length};
 ghost use Rattle.relations.specs.Values.{Ascending};
 ghost use Rattle.values.specs.Words.{rowsOf, end};

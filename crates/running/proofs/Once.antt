@@ -7,7 +7,6 @@ use lib.ListN.{length}
 use Rattle.relations.specs.Values.{Rows}
 use Rattle.relations.specs.Nodes.{Node}
 use Rattle.values.specs.Words.{rowsOf}
-use Rattle.values.specs.declared.rows.Value as values
 use Rattle.running.specs.RunCall.{fitWithin}
 use Rattle.running.specs.PlanRun.{PlanRun}
 use Rattle.running.specs.declared.Worked.{Worked}

@@ -1,24 +1,23 @@
 -- The outcome of a call, case by case. Assumes nothing.
 use mathlib.Core.Path.{_≡_, refl, sym, ap, _∙_}
 use mathlib.Core.Bool.{Bool, true, false, cond}
-use mathlib.Core.List.{List, [], _∷_, _++_}
-use Prim.Native.Nat.{ℕ, _+_, _-_, _*_, _≤_, _<_, min}
+use mathlib.Core.List.{List, _++_}
+use Prim.Native.Nat.{ℕ, _+_, _-_, _*_, _≤_, _<_}
 use native.Mathlib.Omega.{arith}
 use lib.Dec.{ltb}
 use lib.ListN.{length, take, drop, replicate, length-replicate}
 use lib.Seq.{sets, length-take-le}
 use borrow.Author.Tests.{lt-ltb, le-ltb}
-use Rattle.relations.specs.Limits.{wordLimit}
 use Rattle.relations.specs.Nodes.{Node}
 use Rattle.relations.specs.Plan.{valueWords}
 use Rattle.catalogue.specs.Judging.{tablesOk}
-use Rattle.values.specs.Words.{rowIn, rowsOf, wordsOf}
+use Rattle.values.specs.Words.{rowIn, wordsOf}
 use Rattle.values.specs.Building.{clearedFrom, Blank}
 use Rattle.values.specs.declared.rows.Value.{Value}
 use Rattle.values.proofs.RowsLaws.{row-inside, length-rowsAt, words-rowsAt}
 use Rattle.plan_reading.specs.Judging.{planJudgement, nodesOfPlan}
 use Rattle.plan_reading.specs.declared.judging.PlanJudgement.the-variants.{Legal, Illegal}
-use Rattle.running.specs.RunCall.{RunNumbers, runRefusal, RunOutcome, capacityOf, cleared, Fit, fits, passesAt, answerRows, lastPlace, answerWidth, fitWithin, stopped, answered, ranOutcome, refused, runOutcome}
+use Rattle.running.specs.RunCall.{RunNumbers, runRefusal, RunOutcome, capacityOf, Fit, fits, passesAt, answerRows, lastPlace, answerWidth, fitWithin, stopped, answered, ranOutcome, refused, runOutcome}
 use Rattle.running.specs.PlanRun.{Answered, PlanRun}
 use Rattle.running.specs.declared.Worked.{Worked}
 use Rattle.running.specs.declared.Worked.the-variants.{Answer, NoRoom}

@@ -1,32 +1,28 @@
 -- The invariant of the loop over a plan's nodes, `Running`, and its steps. Assumes nothing.
-use mathlib.Core.Path.{_≡_, refl, sym, ap, ap₂, subst, _∙_}
+use mathlib.Core.Path.{_≡_, refl, sym, ap, ap₂, _∙_}
 use mathlib.Core.Bool.{Bool, true, false, cond, So}
-use mathlib.Core.List.{List, [], _∷_, _++_, map}
-use mathlib.Core.Option.{some}
-use Prim.Native.Nat.{ℕ, zero, suc, _+_, _-_, _*_, _/_, _≤_, _<_, pred}
+use mathlib.Core.List.{List, [], _∷_, _++_}
+use Prim.Native.Nat.{ℕ, suc, _+_, _-_, _*_, _≤_, _<_, pred}
 use native.Mathlib.Nat.{zero-add, sub-zero, add-zero}
 use native.Mathlib.Numerals.{add-one}
 use native.Mathlib.Omega.{arith}
-use lib.ListN.{length, getD, take, drop, set, replicate, length-set, length-append, length-map, length-take, length-drop, length-replicate}
+use lib.ListN.{length, getD, take, drop, set, length-set, length-map}
 use lib.Seq.{take-suc-set, length-take-le, drop-drop, getD-take}
 use Rattle.relations.specs.Limits.{planNodeLimit, planNodeWords, columnLimit}
-use Rattle.relations.specs.Lists.{All, filter}
-use Rattle.relations.specs.Values.{Rows, Tables, Wide, Ascending, canonical}
+use Rattle.relations.specs.Lists.{filter}
+use Rattle.relations.specs.Values.{Rows, Tables, Wide}
 use Rattle.relations.specs.Nodes.{Node, weightOf}
-use Rattle.relations.specs.Machine.{run, lastOr}
+use Rattle.relations.specs.Machine.{run}
 use Rattle.relations.specs.Plan.{values, answer, widths, widthAt, valueAt, candidates, valueWords, widthOfNode, valueOfNode, heavyNode, room}
 use Rattle.relations.specs.Plan.{heavy as heavyOf}
 use Rattle.relations.specs.Legality.{between, legalNodes, legalPlan}
 use Rattle.relations.specs.PlanWords.{readNode}
 use Rattle.relations.proofs.BoolLaws.{and-left}
-use Rattle.relations.proofs.ListLaws.{all-append}
 use Rattle.relations.proofs.LegalityLaws.{so-between}
-use Rattle.relations.proofs.MachineLaws.{run-length}
 use Rattle.relations.proofs.PlanNarrow.{widths-narrow}
 use Rattle.relations.proofs.PlanWidths.{widths-kept}
-use Rattle.relations.proofs.ValueLaws.{ascending-canonical}
 use Rattle.catalogue.specs.Judging.{tablesOk}
-use Rattle.values.specs.Words.{rowsAt, rowsOf, end}
+use Rattle.values.specs.Words.{rowsOf, end}
 use Rattle.values.specs.Building.{Blank, Makes}
 use Rattle.values.specs.declared.rows.Value.{Value}
 use Rattle.values.specs.declared.placing.Placed.the-variants.{Rows as Placed·Rows}
@@ -35,7 +31,7 @@ use Rattle.catalogue.specs.Stored.{relationsOf, columnsOf, storedTables}
 use Rattle.plan_reading.specs.Judging.{legalRead, judgePlanNodes, planJudgement, nodesIn, nodesOfPlan}
 use Rattle.plan_reading.specs.declared.judging.PlanJudgement.the-variants.{Legal}
 use Rattle.plan_reading.proofs.PlanTheorem.{judged-exactly}
-use Rattle.node_values.specs.Standing.{valuesIn, noValue, valueNamed, standing, StandsBefore, Stand}
+use Rattle.node_values.specs.Standing.{valuesIn, valueNamed, standing, StandsBefore, Stand}
 use Rattle.node_values.specs.NodeRun.{placedOf, NodeRun}
 use Rattle.running.specs.RunCall.{fits, passesAt, fitOf, lastPlace, planRoom, fitWithin}
 use Rattle.running.specs.PlanRun.{Answered}

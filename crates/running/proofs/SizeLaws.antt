@@ -1,16 +1,15 @@
 -- The words of the values still to come, node by node: whether they fit, and their sum. Assumes nothing.
-use mathlib.Core.Path.{_≡_, refl, sym, ap, ap₂, _∙_}
-use mathlib.Core.Bool.{Bool, true, false}
+use mathlib.Core.Path.{_≡_, refl, sym, ap, _∙_}
 use mathlib.Core.List.{List, [], _∷_, _++_, append-nil, append-assoc}
-use Prim.Native.Nat.{ℕ, zero, suc, _+_, _≤_, _<_}
+use Prim.Native.Nat.{ℕ, suc, _+_, _≤_, _<_}
 use native.Mathlib.Omega.{arith}
-use lib.ListN.{length, getD, length-append}
+use lib.ListN.{length, length-append}
 use borrow.Author.Tests.{le-leb, lt-leb}
 use Rattle.relations.specs.Values.{Rows, Tables}
 use Rattle.relations.specs.Nodes.{Node}
 use Rattle.relations.specs.Machine.{run}
 use Rattle.relations.specs.Plan.{values, widths, valueWords, widthOfNode, valueOfNode, roomOf}
-use Rattle.running.specs.RunCall.{sizesOf, Fit, fits, passesAt, fitOf}
+use Rattle.running.specs.RunCall.{sizesOf, fits, passesAt, fitOf}
 
 module _ (columns : ℕ → ℕ) (tables : Tables) where
   -- the words of each node's value, given the widths and values before them

@@ -1,7 +1,7 @@
 -- Document 01, "Running" and "Refusal numbers": what a call of `run` leaves: its numbers, the work area and the output afterwards. Assumes nothing.
-use Prim.Native.Nat.{ℕ, zero, suc, _+_, _-_, _*_, min}
+use Prim.Native.Nat.{ℕ, suc, _+_, _-_, min}
 use mathlib.Core.List.{List, [], _∷_, _++_}
-use mathlib.Core.Bool.{Bool, cond, not}
+use mathlib.Core.Bool.{cond, not}
 use lib.ListN.{length, drop, replicate}
 use lib.Dec.{leb, ltb}
 use lib.Seq.{sets}

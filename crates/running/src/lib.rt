@@ -1,7 +1,6 @@
 // A plan from anyone, judged and run over lent tables.
 ghost use mathlib.Core.Path.{_≡_};
 ghost use mathlib.Core.Bool.{true};
-ghost use Prim.Native.Nat.{ℕ, _≤_};
 ghost use lib.ListN.{length, replicate};
 ghost use Rattle.catalogue.specs.Judging.{tablesOk};
 ghost use Rattle.plan_reading.specs.Judging.{planJudgement, nodesOfPlan};

@@ -2,7 +2,7 @@
 // made a value of their own, the keys, equated columns first; where there is no room for that, the right value itself is searched.
 ghost use mathlib.Core.Path.{_≡_};
 ghost use mathlib.Core.List.{map};
-ghost use Prim.Native.Nat.{ℕ, _+_, _*_, _≤_, _<_};
+ghost use Prim.Native.Nat.{_+_, _*_, _≤_, _<_};
 ghost use lib.ListN.{length};
 ghost use Rattle.relations.specs.Limits.{columnLimit, tripleLimit};
 ghost use Rattle.relations.specs.Values.{Ascending};

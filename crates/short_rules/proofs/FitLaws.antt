@@ -7,7 +7,6 @@ use native.Mathlib.Omega.{arith}
 use denote.Enum.Declared.{tagOf}
 use types.Run.{OneOf, miss}
 use Rattle.relations.specs.Limits.{questionNodeLimit}
-use Rattle.calculus.specs.Question as calculus
 use Rattle.calculus.specs.Question.{Range, Condition, forSome, conditionNodes}
 use Rattle.calculus.specs.ShortRules.{shortRule2Fits, shortRule3Fits, shortRule5Fits, shortRule6Fits}
 use Rattle.question.specs.Trees.{Reading, readingOf}

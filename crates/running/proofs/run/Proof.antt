@@ -5,19 +5,13 @@ use mathlib.Core.List.{_++_}
 use Rattle.plan_reading.specs.Judging.{nodesOfPlan}
 use Rattle.running.specs.RunCall.{fitWithin}
 use lib.Seq.{length-take-le}
-use mathlib.Core.Path.{_≡_, sym, _∙_}
+use mathlib.Core.Path.{sym, _∙_}
 use borrow.Author.Tests.{not-true, not-false}
 use native.Mathlib.Omega.{arith}
 use borrow.Author.Needs.{needs}
 use Rattle.running.proofs.run.Statement.{statement}
 use Rattle.running.proofs.run.Tie as tie
-use Rattle.running.proofs.run.Reads as reads
-use Rattle.running.proofs.run.Lts as lts
 use Rattle.plan_reading.proofs.JudgeLaws.{plan-judged}
-use Rattle.plan_reading.proofs.judging.judge_plan.Reads as judge-plan-reads
-use Rattle.running.proofs.capacity_of.Reads as capacity-of-reads
-use Rattle.running.proofs.run_legal.Reads as run-legal-reads
-use Rattle.catalogue.proofs.judging.tables_ok.Reads as tables-ok-reads
 
 -- src/lib.rt:125:9
 tables-ok-requires : tie.Need-tables-ok-requires

@@ -1,4 +1,4 @@
-use Rattle.running.specs.RunCall.{RunOutcome, runNumbers, fitWithin}
+use Rattle.running.specs.RunCall.{runNumbers, fitWithin}
 use lib.ListN.{length, replicate}
 use Prim.Native.Nat.{ℕ}
 use mathlib.Core.List.{List}
@@ -10,9 +10,6 @@ use native.Mathlib.Omega.{arith}
 use borrow.Author.Needs.{needs}
 use Rattle.running.proofs.run_legal.Statement.{statement}
 use Rattle.running.proofs.run_legal.Tie as tie
-use Rattle.running.proofs.run_legal.Reads as reads
-use Rattle.running.proofs.run_legal.Lts as lts
-use Rattle.running.proofs.hand_out.Reads as hand-out-reads
 
 clear-from-requires : tie.Need-clear-from-requires
 clear-from-requires c κs = search needs

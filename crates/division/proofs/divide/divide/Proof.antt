@@ -14,10 +14,6 @@ use native.Mathlib.Omega.{arith}
 use borrow.Author.Needs.{needs}
 use Rattle.division.proofs.divide.divide.Statement.{statement}
 use Rattle.division.proofs.divide.divide.Tie as tie
-use Rattle.division.proofs.divide.divide.Reads as reads
-use Rattle.division.proofs.divide.divide.Lts as lts
-use Rattle.division.proofs.divide.divide_by.Reads as divide-by-reads
-use Rattle.division.proofs.divide.remaining_columns.Reads as remaining-columns-reads
 
 -- src/divide.rt:196:59
 slice-aggregate-remaining-columns : tie.Need-slice-aggregate-remaining-columns

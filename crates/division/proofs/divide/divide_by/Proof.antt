@@ -12,14 +12,10 @@ use lib.ListN.{length}
 use Prim.Native.Nat.{_+_, _*_, _≤_, _<_, _-_}
 use mathlib.Core.List.{[], _∷_}
 use mathlib.Core.Bool.{So}
-use mathlib.Core.Path.{_≡_, sym, ap, _∙_}
 use borrow.Author.Needs.{needs}
 use native.Mathlib.Omega.{arith}
 use Rattle.division.proofs.divide.divide_by.Statement.{statement}
 use Rattle.division.proofs.divide.divide_by.Tie as tie
-use Rattle.division.proofs.divide.divide_by.Reads as reads
-use Rattle.division.proofs.divide.divide_by.Lts as lts
-use Rattle.division.proofs.divide.divide_row.Reads as divide-row-reads
 
 abbrev Inv-loop : tie.InvT-loop
 Inv-loop columns list count work₀ left right out width last₀ at₀ more₀ made₀ work last at more made =

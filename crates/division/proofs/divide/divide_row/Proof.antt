@@ -8,7 +8,7 @@ use Rattle.relations.proofs.RowLaws.{sameRow-equal}
 use Rattle.relations.proofs.BoolLaws.{and-left, and-right}
 use Rattle.relations.specs.PlanWords.{readPairs}
 use Rattle.relations.specs.Columns.{attribute, pick}
-use Rattle.relations.specs.Rows.{Row, sameRow}
+use Rattle.relations.specs.Rows.{sameRow}
 use borrow.Author.Tests.{ltb-true}
 use lib.Dec.{ltb}
 use lib.Seq.{take-length}
@@ -16,17 +16,10 @@ use lib.ListN.{length}
 use Prim.Native.Nat.{ℕ, _<_}
 use mathlib.Core.List.{List, [], _∷_, map}
 use mathlib.Core.Bool.{_&&_, So}
-use mathlib.Core.Path.{_≡_, sym, ap, _∙_}
-use borrow.Author.Needs.{needs}
+use mathlib.Core.Path.{sym, ap, _∙_}
 use native.Mathlib.Omega.{arith}
 use Rattle.division.proofs.divide.divide_row.Statement.{statement}
 use Rattle.division.proofs.divide.divide_row.Tie as tie
-use Rattle.division.proofs.divide.divide_row.Reads as reads
-use Rattle.division.proofs.divide.divide_row.Lts as lts
-use Rattle.division.proofs.divide.divides.Reads as divides-reads
-use Rattle.division.proofs.divide.repeats.Reads as repeats-reads
-use Rattle.operations.proofs.project.place_picked.Reads as place-picked-reads
-use Rattle.values.proofs.rows.row.Reads as row-reads
 
 -- src/divide.rt:154:8
 repeats-requires : tie.Need-repeats-requires

@@ -1,20 +1,15 @@
 use Rattle.operations.proofs.RowSteps.{all-step, no-rows}
 use Rattle.relations.specs.Meanings.{partnered}
 use Rattle.values.proofs.RowsLaws.{times-step}
-use Rattle.values.specs.Words.{rowIn, rowsAt, rowsOf}
+use Rattle.values.specs.Words.{rowsAt, rowsOf}
 use Rattle.relations.specs.PlanWords.{readPairs}
 use Rattle.relations.specs.Lists.{all}
 use lib.ListN.{length}
 use Prim.Native.Nat.{_+_, _*_, _≤_, _-_}
 use mathlib.Core.Path.{_≡_, refl, sym, ap, _∙_}
-use borrow.Author.Needs.{needs}
 use native.Mathlib.Omega.{arith}
 use Rattle.division.proofs.divide.divides.Statement.{statement}
 use Rattle.division.proofs.divide.divides.Tie as tie
-use Rattle.division.proofs.divide.divides.Reads as reads
-use Rattle.division.proofs.divide.divides.Lts as lts
-use Rattle.division.proofs.divide.has_partner.Reads as has-partner-reads
-use Rattle.values.proofs.rows.row.Reads as row-reads
 
 abbrev Inv-loop : tie.InvT-loop
 Inv-loop list count work left t width at₀ more₀ at more =

@@ -6,15 +6,11 @@ use Rattle.relations.specs.Values.{member}
 use Rattle.relations.specs.Rows.{Row}
 use Rattle.values.proofs.RowsLaws.{rowsAt-wide}
 use Rattle.values.specs.Words.{rowsOf}
-use mathlib.Core.Path.{_≡_, refl, sym, ap, _∙_}
+use mathlib.Core.Path.{sym, ap, _∙_}
 use native.Mathlib.Omega.{arith}
 use borrow.Author.Needs.{needs}
 use Rattle.division.proofs.divide.has_partner.Statement.{statement}
 use Rattle.division.proofs.divide.has_partner.Tie as tie
-use Rattle.division.proofs.divide.has_partner.Reads as reads
-use Rattle.division.proofs.divide.has_partner.Lts as lts
-use Rattle.division.proofs.divide.partner_row.Reads as partner-row-reads
-use Rattle.values.proofs.search.has_row.Reads as has-row-reads
 
 -- src/divide.rt:119:18
 partner-row-requires : tie.Need-partner-row-requires

@@ -5,13 +5,9 @@ use borrow.Author.Tests.{eq-eqb, ne-eqb}
 use lib.ListN.{length, drop}
 use Prim.Native.Nat.{_+_, _*_, _≤_, _-_}
 use mathlib.Core.Path.{_≡_, refl, sym, ap, _∙_}
-use borrow.Author.Needs.{needs}
 use native.Mathlib.Omega.{arith}
 use Rattle.division.proofs.divide.is_listed.Statement.{statement}
 use Rattle.division.proofs.divide.is_listed.Tie as tie
-use Rattle.division.proofs.divide.is_listed.Reads as reads
-use Rattle.division.proofs.divide.is_listed.Lts as lts
-use Rattle.operations.proofs.columns.pair_at.Reads as pair-at-reads
 
 abbrev Inv-loop : tie.InvT-loop
 Inv-loop list count number at₀ more₀ at more =

@@ -1,10 +1,9 @@
 use Rattle.division.proofs.DivisionLaws.{first-inside}
-use Rattle.relations.specs.Columns.{column}
 use Prim.Native.Nat.{ℕ}
 use mathlib.Core.List.{List}
 use lib.ListN.{replicate}
 use Rattle.operations.specs.Lists.{pairIn}
-use mathlib.Core.Path.{_≡_, refl, sym, ap, _∙_}
+use mathlib.Core.Path.{_≡_, sym, ap, _∙_}
 use Prim.Native.Nat.{_+_, _*_, _≤_, _-_}
 use lib.ListN.{length, take, drop, length-set}
 use Rattle.relations.specs.Lists.{All}
@@ -17,11 +16,6 @@ use borrow.Author.Needs.{needs}
 use native.Mathlib.Omega.{arith}
 use Rattle.division.proofs.divide.partner_row.Statement.{statement}
 use Rattle.division.proofs.divide.partner_row.Tie as tie
-use Rattle.division.proofs.divide.partner_row.Reads as reads
-use Rattle.division.proofs.divide.partner_row.Lts as lts
-use Rattle.operations.proofs.columns.column_of.Reads as column-of-reads
-use Rattle.operations.proofs.columns.pair_at.Reads as pair-at-reads
-use Rattle.values.proofs.placing.write_row.Reads as write-row-reads
 
 abbrev Inv-loop : tie.InvT-loop
 Inv-loop list count t r made₀ at₀ more₀ made at more = (at + more * 2 ≤ length list) × (length made ≡ columnLimit) × All (λ number. (1 ≤ number) × (number ≤ length t)) (leftNumbers (readPairs more (drop at list)))

@@ -6,13 +6,9 @@ use lib.ListN.{length, take, length-set}
 use Prim.Native.Nat.{_+_, _≤_, _-_}
 use mathlib.Core.List.{_++_, append-nil}
 use mathlib.Core.Path.{_≡_, refl, sym, ap, _∙_}
-use borrow.Author.Needs.{needs}
 use native.Mathlib.Omega.{arith}
 use Rattle.division.proofs.divide.remaining_columns.Statement.{statement}
 use Rattle.division.proofs.divide.remaining_columns.Tie as tie
-use Rattle.division.proofs.divide.remaining_columns.Reads as reads
-use Rattle.division.proofs.divide.remaining_columns.Lts as lts
-use Rattle.division.proofs.divide.is_listed.Reads as is-listed-reads
 
 abbrev Inv-loop : tie.InvT-loop
 Inv-loop list count width columns₀ number₀ left₀ kept₀ columns number left kept =

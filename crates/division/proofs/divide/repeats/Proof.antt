@@ -1,16 +1,12 @@
 use Rattle.division.specs.Divisions.{kept}
 use Rattle.relations.specs.Rows.{Row, sameRow}
 use borrow.Author.Tests.{lt-ltb, le-ltb}
-use mathlib.Core.Path.{_≡_, ap₂, _∙_}
+use mathlib.Core.Path.{ap₂, _∙_}
 use native.Mathlib.Omega.{arith}
 use native.Mathlib.Omega.{arith}
 use borrow.Author.Needs.{needs}
 use Rattle.division.proofs.divide.repeats.Statement.{statement}
 use Rattle.division.proofs.divide.repeats.Tie as tie
-use Rattle.division.proofs.divide.repeats.Reads as reads
-use Rattle.division.proofs.divide.repeats.Lts as lts
-use Rattle.division.proofs.divide.same_columns.Reads as same-columns-reads
-use Rattle.values.proofs.rows.row.Reads as row-reads
 
 -- src/divide.rt:133:31
 row-requires : tie.Need-row-requires

@@ -2,17 +2,12 @@ use Rattle.division.proofs.DivisionLaws.{same-step}
 use Rattle.division.specs.Divisions.{kept}
 use Rattle.relations.specs.Rows.{sameRow}
 use borrow.Author.Tests.{eq-eqb, ne-eqb}
-use lib.Dec.{eqb}
 use lib.ListN.{length, drop, drop-of-length-le}
-use Prim.Native.Nat.{_+_, _≤_, _-_}
-use mathlib.Core.Path.{_≡_, refl, sym, ap, ap₂, _∙_}
-use borrow.Author.Needs.{needs}
+use Prim.Native.Nat.{_≤_, _-_}
+use mathlib.Core.Path.{_≡_, refl, sym, _∙_}
 use native.Mathlib.Omega.{arith}
 use Rattle.division.proofs.divide.same_columns.Statement.{statement}
 use Rattle.division.proofs.divide.same_columns.Tie as tie
-use Rattle.division.proofs.divide.same_columns.Reads as reads
-use Rattle.division.proofs.divide.same_columns.Lts as lts
-use Rattle.operations.proofs.columns.column_of.Reads as column-of-reads
 
 abbrev Inv-loop : tie.InvT-loop
 Inv-loop columns a b i₀ i = (i ≤ length columns) × (sameRow (kept columns a) (kept columns b) ≡ sameRow (kept (drop i columns) a) (kept (drop i columns) b))

@@ -1,6 +1,4 @@
-use mathlib.Core.Path.{_≡_, refl, sym, ap, ap₂, _∙_}
-use Prim.Native.Nat.{ℕ, _+_, _*_, _-_, _≤_, _<_}
-use lib.ListN.{length}
+use Prim.Native.Nat.{_+_, _*_, _-_}
 use mathlib.Core.List.{_++_}
 use Rattle.values.specs.Words.{rowIn}
 use Rattle.values.proofs.RowsLaws.{times-least}
@@ -9,9 +7,6 @@ use native.Mathlib.Omega.{arith}
 use borrow.Author.Needs.{needs}
 use Rattle.joining.proofs.join.append_pair.Statement.{statement}
 use Rattle.joining.proofs.join.append_pair.Tie as tie
-use Rattle.joining.proofs.join.append_pair.Reads as reads
-use Rattle.joining.proofs.join.append_pair.Lts as lts
-use Rattle.values.proofs.placing.write_row.Reads as write-row-reads
 
 -- src/join.rt:90:17
 add-whole : tie.Need-add-whole

@@ -1,6 +1,5 @@
-use mathlib.Core.Path.{_≡_, refl, sym, ap, ap₂, _∙_}
-use Prim.Native.Nat.{ℕ, _+_, _*_, _-_, _≤_, _<_}
-use lib.ListN.{length}
+use mathlib.Core.Path.{sym, ap, _∙_}
+use Prim.Native.Nat.{_+_, _*_, _-_}
 use mathlib.Core.List.{_++_}
 use mathlib.Core.Bool.{false≢true}
 use Rattle.relations.specs.Rows.{Row, rowBefore}
@@ -11,11 +10,6 @@ use native.Mathlib.Omega.{arith}
 use borrow.Author.Needs.{needs}
 use Rattle.joining.proofs.join.comes_last.Statement.{statement}
 use Rattle.joining.proofs.join.comes_last.Tie as tie
-use Rattle.joining.proofs.join.comes_last.Reads as reads
-use Rattle.joining.proofs.join.comes_last.Lts as lts
-use Rattle.values.proofs.rows.compare_rows.Reads as compare-rows-reads
-use Rattle.values.proofs.rows.row.Reads as row-reads
-use Rattle.values.proofs.search.stands_before.Reads as stands-before-reads
 
 -- src/join.rt:66:9
 returns : tie.Need-returns

@@ -6,18 +6,13 @@ use Rattle.joining.specs.Joins.{joined}
 use Rattle.operations.specs.Lists.{triplesIn}
 use Rattle.values.proofs.FillLaws.{Filled, filled-rows, filled-none, filled-on, filled-off, filled-end}
 use Rattle.values.proofs.RowsLaws.{times-step}
-use Rattle.values.specs.Words.{rowIn, rowsAt, rowsOf}
+use Rattle.values.specs.Words.{rowsAt, rowsOf}
 use Rattle.relations.specs.Operations.{joinCandidates}
-use lib.ListN.{length}
 use Prim.Native.Nat.{_+_, _*_, _≤_, _-_}
-use mathlib.Core.Path.{_≡_, sym, ap, _∙_}
 use borrow.Author.Needs.{needs}
 use native.Mathlib.Omega.{arith}
 use Rattle.joining.proofs.join.join.Statement.{statement}
 use Rattle.joining.proofs.join.join.Tie as tie
-use Rattle.joining.proofs.join.join.Reads as reads
-use Rattle.joining.proofs.join.join.Lts as lts
-use Rattle.joining.proofs.join.join_row.Reads as join-row-reads
 
 abbrev Inv-loop : tie.InvT-loop
 Inv-loop list count work₀ right out width at₀ more₀ made₀ work at more made =

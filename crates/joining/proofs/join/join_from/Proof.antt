@@ -1,7 +1,7 @@
-use mathlib.Core.Path.{_≡_, refl, sym, ap, ap₂, _∙_}
-use Prim.Native.Nat.{ℕ, _+_, _*_, _-_, _≤_, _<_}
+use mathlib.Core.Path.{sym, ap, _∙_}
+use Prim.Native.Nat.{_+_, _*_, _-_, _≤_}
 use lib.ListN.{length}
-use mathlib.Core.List.{[], _++_, map}
+use mathlib.Core.List.{_++_, map}
 use Rattle.relations.specs.Rows.{Row, rowBefore}
 use Rattle.relations.specs.Values.{Ascending}
 use Rattle.values.specs.Words.{rowIn, rowsAt}
@@ -18,10 +18,6 @@ use borrow.Author.Needs.{needs}
 use native.Mathlib.Omega.{arith}
 use Rattle.joining.proofs.join.join_from.Statement.{statement}
 use Rattle.joining.proofs.join.join_from.Tie as tie
-use Rattle.joining.proofs.join.join_from.Reads as reads
-use Rattle.joining.proofs.join.join_from.Lts as lts
-use Rattle.joining.proofs.join.join_pair.Reads as join-pair-reads
-use Rattle.values.proofs.search.stands_behind.Reads as stands-behind-reads
 
 abbrev Inv-loop : tie.InvT-loop
 Inv-loop sieve entries work₀ a width number high out made more at₀ left₀ total₀ work at left total = (at + left * more ≤ out) × Ascending (rowsAt more left at work₀)

@@ -4,15 +4,9 @@ use Prim.Native.Nat.{_+_}
 use Rattle.values.specs.Words.{rowIn}
 use Rattle.values.proofs.FillLaws.{filled-still}
 use Rattle.partners.specs.Sieves.{sifts}
-use native.Mathlib.Omega.{arith}
 use borrow.Author.Needs.{needs}
 use Rattle.joining.proofs.join.join_pair.Statement.{statement}
 use Rattle.joining.proofs.join.join_pair.Tie as tie
-use Rattle.joining.proofs.join.join_pair.Reads as reads
-use Rattle.joining.proofs.join.join_pair.Lts as lts
-use Rattle.joining.proofs.join.place_pair.Reads as place-pair-reads
-use Rattle.partners.proofs.sieve.lets_through.Reads as lets-through-reads
-use Rattle.values.proofs.rows.row.Reads as row-reads
 
 -- src/join.rt:128:37
 row-requires : tie.Need-row-requires

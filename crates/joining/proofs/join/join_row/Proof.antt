@@ -1,4 +1,4 @@
-use mathlib.Core.Path.{_≡_, sym, ap}
+use mathlib.Core.Path.{sym, ap}
 use mathlib.Core.List.{_++_, map}
 use Prim.Native.Nat.{_+_, _-_, _*_}
 use lib.Seq.{length-take-le}
@@ -10,12 +10,6 @@ use native.Mathlib.Omega.{arith}
 use borrow.Author.Needs.{needs}
 use Rattle.joining.proofs.join.join_row.Statement.{statement}
 use Rattle.joining.proofs.join.join_row.Tie as tie
-use Rattle.joining.proofs.join.join_row.Reads as reads
-use Rattle.joining.proofs.join.join_row.Lts as lts
-use Rattle.joining.proofs.join.join_from.Reads as join-from-reads
-use Rattle.partners.proofs.finding.partners_of.Reads as partners-of-reads
-use Rattle.partners.proofs.sieve.fill.Reads as fill-reads
-use Rattle.values.proofs.rows.row.Reads as row-reads
 
 -- src/join.rt:198:37
 row-requires : tie.Need-row-requires

@@ -1,6 +1,6 @@
-use mathlib.Core.Path.{_≡_, refl, sym, ap, ap₂, _∙_}
-use Prim.Native.Nat.{ℕ, _+_, _*_, _-_, _≤_, _<_}
-use lib.ListN.{length, take, length-append}
+use mathlib.Core.Path.{ap, ap₂, _∙_}
+use Prim.Native.Nat.{ℕ, _+_, _-_}
+use lib.ListN.{take, length-append}
 use mathlib.Core.List.{[], _∷_, _++_}
 use Rattle.values.specs.Words.{rowIn}
 use Rattle.values.proofs.RowsLaws.{row-inside, length-row}
@@ -10,12 +10,6 @@ use native.Mathlib.Omega.{arith}
 use borrow.Author.Needs.{needs}
 use Rattle.joining.proofs.join.place_pair.Statement.{statement}
 use Rattle.joining.proofs.join.place_pair.Tie as tie
-use Rattle.joining.proofs.join.place_pair.Reads as reads
-use Rattle.joining.proofs.join.place_pair.Lts as lts
-use Rattle.joining.proofs.join.append_pair.Reads as append-pair-reads
-use Rattle.joining.proofs.join.comes_last.Reads as comes-last-reads
-use Rattle.operations.proofs.made.pair_row.Reads as pair-row-reads
-use Rattle.values.proofs.placing.place_row.Reads as place-row-reads
 
 -- src/join.rt:114:8
 comes-last-requires : tie.Need-comes-last-requires

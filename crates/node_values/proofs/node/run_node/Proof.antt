@@ -1,10 +1,9 @@
 use Rattle.relations.specs.PlanWords.{readNode}
 use Rattle.catalogue.specs.Stored.{relationsOf, columnsOf}
 use Rattle.node_values.proofs.NodeLaws.{width-read, weight-read, makes-told, no-node}
-use mathlib.Core.Path.{_≡_, sym, _∙_}
+use mathlib.Core.Path.{sym, _∙_}
 use Rattle.plan_reading.proofs.DecodeLaws.{stands}
 use Rattle.plan_reading.proofs.JudgeLaws.{fits-if-legal}
-use native.Mathlib.Omega.{arith}
 use borrow.Author.Needs.{needs}
 use Rattle.node_values.proofs.node.run_node.Statement.{statement}
 use Rattle.node_values.proofs.node.run_node.Tie as tie

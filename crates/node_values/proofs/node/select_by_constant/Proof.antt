@@ -6,16 +6,9 @@ use Rattle.relations.specs.Operations.{selectConstantCandidates}
 use Rattle.values.specs.Words.{rowsOf}
 use Rattle.terms.specs.Terms.{operatorIn, constantIn}
 use Rattle.operations.proofs.FillSteps.{builds-by}
-use native.Mathlib.Omega.{arith}
 use borrow.Author.Needs.{needs}
 use Rattle.node_values.proofs.node.select_by_constant.Statement.{statement}
 use Rattle.node_values.proofs.node.select_by_constant.Tie as tie
-use Rattle.node_values.proofs.node.select_by_constant.Reads as reads
-use Rattle.node_values.proofs.node.select_by_constant.Lts as lts
-use Rattle.terms.proofs.operator.operator_of.Reads as operator-of-reads
-use Rattle.operations.proofs.keep.select_constant.Reads as select-constant-reads
-use Rattle.node_values.proofs.node.attribute_at.Reads as attribute-at-reads
-use Rattle.node_values.proofs.node.constant_at.Reads as constant-at-reads
 
 -- src/node.rt:116:9
 attribute-at-requires : tie.Need-attribute-at-requires

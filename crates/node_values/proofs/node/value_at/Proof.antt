@@ -3,8 +3,6 @@ use native.Mathlib.Omega.{arith}
 use borrow.Author.Needs.{needs}
 use Rattle.node_values.proofs.node.value_at.Statement.{statement}
 use Rattle.node_values.proofs.node.value_at.Tie as tie
-use Rattle.node_values.proofs.node.value_at.Reads as reads
-use Rattle.node_values.proofs.node.value_at.Lts as lts
 
 -- src/node.rt:56:23
 mul-t8 : tie.Need-mul-t8

@@ -4,8 +4,6 @@ use native.Mathlib.Omega.{arith}
 use borrow.Author.Needs.{needs}
 use Rattle.operations.proofs.columns.column_of.Statement.{statement}
 use Rattle.operations.proofs.columns.column_of.Tie as tie
-use Rattle.operations.proofs.columns.column_of.Reads as reads
-use Rattle.operations.proofs.columns.column_of.Lts as lts
 
 -- src/columns.rt:71:18
 cast-number : tie.Need-cast-number

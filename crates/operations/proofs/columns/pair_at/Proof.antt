@@ -1,10 +1,7 @@
 use Rattle.operations.proofs.ListLaws.{first-word, next-word}
-use native.Mathlib.Omega.{arith}
 use borrow.Author.Needs.{needs}
 use Rattle.operations.proofs.columns.pair_at.Statement.{statement}
 use Rattle.operations.proofs.columns.pair_at.Tie as tie
-use Rattle.operations.proofs.columns.pair_at.Reads as reads
-use Rattle.operations.proofs.columns.pair_at.Lts as lts
 
 -- src/columns.rt:94:28
 mul-t3 : tie.Need-mul-t3

@@ -1,11 +1,7 @@
 use Rattle.operations.proofs.ListLaws.{first-word, next-word}
-use native.Mathlib.Omega.{arith}
 use borrow.Author.Needs.{needs}
 use Rattle.operations.proofs.columns.triple_at.Statement.{statement}
 use Rattle.operations.proofs.columns.triple_at.Tie as tie
-use Rattle.operations.proofs.columns.triple_at.Reads as reads
-use Rattle.operations.proofs.columns.triple_at.Lts as lts
-use Rattle.terms.proofs.operator.operator_of.Reads as operator-of-reads
 
 -- src/columns.rt:86:30
 mul-t3 : tie.Need-mul-t3

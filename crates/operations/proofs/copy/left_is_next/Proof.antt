@@ -1,13 +1,8 @@
-use mathlib.Core.Path.{sym}
 use mathlib.Core.Bool.{true≢false, false≢true}
 use native.Mathlib.Omega.{arith}
 use borrow.Author.Needs.{needs}
 use Rattle.operations.proofs.copy.left_is_next.Statement.{statement}
 use Rattle.operations.proofs.copy.left_is_next.Tie as tie
-use Rattle.operations.proofs.copy.left_is_next.Reads as reads
-use Rattle.operations.proofs.copy.left_is_next.Lts as lts
-use Rattle.values.proofs.rows.row.Reads as row-reads
-use Rattle.values.proofs.search.stands_before.Reads as stands-before-reads
 
 -- src/copy.rt:97:9
 returns : tie.Need-returns

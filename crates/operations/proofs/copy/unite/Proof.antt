@@ -1,9 +1,6 @@
 use Prim.Native.Nat.{_+_, _*_, _≤_, _-_}
-use mathlib.Core.Path.{_≡_, refl, sym, ap, _∙_}
 use mathlib.Core.List.{_++_}
-use lib.ListN.{length}
-use Rattle.relations.specs.Values.{member}
-use Rattle.values.specs.Words.{rowIn, rowsAt, rowsOf}
+use Rattle.values.specs.Words.{rowsAt}
 use Rattle.values.proofs.RowsLaws.{times-step, times-least}
 use Rattle.values.proofs.MakeLaws.{Offered, offered-start, offered-on, offered-off, offered-end, builds-row}
 use Rattle.operations.proofs.FillSteps.{filled-row}
@@ -12,10 +9,6 @@ use borrow.Author.Needs.{needs}
 use native.Mathlib.Omega.{arith}
 use Rattle.operations.proofs.copy.unite.Statement.{statement}
 use Rattle.operations.proofs.copy.unite.Tie as tie
-use Rattle.operations.proofs.copy.unite.Reads as reads
-use Rattle.operations.proofs.copy.unite.Lts as lts
-use Rattle.operations.proofs.copy.left_is_next.Reads as left-is-next-reads
-use Rattle.operations.proofs.copy.place_next.Reads as place-next-reads
 
 abbrev Inv-loop : tie.InvT-loop
 Inv-loop work₀ out width at₀ more₀ beside₀ others₀ made₀ work at more beside others made = (at + more * width ≤ out) × (beside + others * width ≤ out) × Offered width out made (rowsAt width more at work₀ ++ rowsAt width others beside work₀) (rowsAt width more₀ at₀ work₀ ++ rowsAt width others₀ beside₀ work₀) work₀ work

@@ -6,17 +6,11 @@ use Rattle.values.proofs.FillLaws.{Filled, filled-none, filled-on, filled-off, 
 use Rattle.values.proofs.RowsLaws.{times-step}
 use Rattle.values.specs.Words.{rowsAt}
 use Rattle.relations.specs.Lists.{filter}
-use lib.ListN.{length}
 use Prim.Native.Nat.{_+_, _*_, _≤_, _-_}
-use mathlib.Core.List.{[], _∷_}
-use mathlib.Core.Path.{_≡_, sym, ap, _∙_}
 use borrow.Author.Needs.{needs}
 use native.Mathlib.Omega.{arith}
 use Rattle.operations.proofs.keep.keep.Statement.{statement}
 use Rattle.operations.proofs.keep.keep.Tie as tie
-use Rattle.operations.proofs.keep.keep.Reads as reads
-use Rattle.operations.proofs.keep.keep.Lts as lts
-use Rattle.operations.proofs.keep.keep_row.Reads as keep-row-reads
 
 abbrev Inv-loop : tie.InvT-loop
 Inv-loop work₀ test out width at₀ left₀ made₀ work at left made =

@@ -1,16 +1,12 @@
 use Rattle.operations.proofs.TestLaws.{fits-later}
 use Rattle.values.proofs.FillLaws.{filled-still}
 use lib.ListN.{length}
-use mathlib.Core.Path.{_≡_, sym, ap, _∙_}
+use mathlib.Core.Path.{sym, _∙_}
 use native.Mathlib.Omega.{arith}
 use native.Mathlib.Omega.{arith}
 use borrow.Author.Needs.{needs}
 use Rattle.operations.proofs.keep.keep_row.Statement.{statement}
 use Rattle.operations.proofs.keep.keep_row.Tie as tie
-use Rattle.operations.proofs.keep.keep_row.Reads as reads
-use Rattle.operations.proofs.keep.keep_row.Lts as lts
-use Rattle.operations.proofs.keep.passes.Reads as passes-reads
-use Rattle.values.proofs.placing.place_row.Reads as place-row-reads
 
 -- src/keep.rt:75:8
 passes-requires : tie.Need-passes-requires

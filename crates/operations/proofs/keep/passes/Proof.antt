@@ -1,18 +1,10 @@
-use mathlib.Core.Path.{_≡_, refl, sym, ap, ap₂, _∙_}
-use Prim.Native.Nat.{ℕ, _+_, _*_, _-_, _≤_, _<_}
-use lib.ListN.{length, getD, take, drop, length-set}
-use Rattle.relations.specs.Limits.{columnLimit}
+use mathlib.Core.Path.{_∙_}
+use Prim.Native.Nat.{_-_}
+use lib.ListN.{length}
 use Rattle.operations.proofs.TestLaws.{fits-in, fits-not-in}
-use native.Mathlib.Omega.{arith}
 use borrow.Author.Needs.{needs}
 use Rattle.operations.proofs.keep.passes.Statement.{statement}
 use Rattle.operations.proofs.keep.passes.Tie as tie
-use Rattle.operations.proofs.keep.passes.Reads as reads
-use Rattle.operations.proofs.keep.passes.Lts as lts
-use Rattle.operations.proofs.columns.column_of.Reads as column-of-reads
-use Rattle.terms.proofs.operator.holds.Reads as holds-reads
-use Rattle.values.proofs.rows.row.Reads as row-reads
-use Rattle.values.proofs.search.has_row.Reads as has-row-reads
 
 -- src/keep.rt:102:9
 row-requires : tie.Need-row-requires

@@ -1,17 +1,9 @@
 use Rattle.operations.proofs.MadeLaws.{two-runs}
 use Rattle.values.proofs.RowsLaws.{length-row}
 use Rattle.values.specs.Words.{rowIn}
-use Prim.Native.Nat.{ℕ}
-use mathlib.Core.List.{List}
-use mathlib.Core.Path.{_≡_}
-use native.Mathlib.Omega.{arith}
-use native.Mathlib.Omega.{arith}
 use borrow.Author.Needs.{needs}
 use Rattle.operations.proofs.made.pair_row.Statement.{statement}
 use Rattle.operations.proofs.made.pair_row.Tie as tie
-use Rattle.operations.proofs.made.pair_row.Reads as reads
-use Rattle.operations.proofs.made.pair_row.Lts as lts
-use Rattle.values.proofs.placing.write_row.Reads as write-row-reads
 
 -- src/made.rt:34:21
 slice-aggregate-write-row : tie.Need-slice-aggregate-write-row

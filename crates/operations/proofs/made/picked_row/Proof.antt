@@ -3,16 +3,12 @@ use Rattle.relations.specs.Columns.{attribute, pick}
 use Rattle.operations.specs.Aside.{aside}
 use Rattle.relations.specs.Limits.{columnLimit}
 use lib.ListN.{length, take, length-set}
-use Prim.Native.Nat.{_+_, _≤_, _-_}
+use Prim.Native.Nat.{_≤_, _-_}
 use mathlib.Core.List.{map}
 use mathlib.Core.Path.{_≡_, refl}
-use borrow.Author.Needs.{needs}
 use native.Mathlib.Omega.{arith}
 use Rattle.operations.proofs.made.picked_row.Statement.{statement}
 use Rattle.operations.proofs.made.picked_row.Tie as tie
-use Rattle.operations.proofs.made.picked_row.Reads as reads
-use Rattle.operations.proofs.made.picked_row.Lts as lts
-use Rattle.operations.proofs.columns.column_of.Reads as column-of-reads
 
 abbrev Inv-loop : tie.InvT-loop
 Inv-loop columns count row made₀ i₀ made i =

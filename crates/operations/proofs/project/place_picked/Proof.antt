@@ -4,18 +4,13 @@ use Rattle.relations.specs.Columns.{attribute, column, pick}
 use Rattle.operations.proofs.MadeLaws.{aside-taken}
 use lib.ListN.{take, length-map}
 use lib.Seq.{length-take-le}
-use mathlib.Core.List.{List, [], _∷_, map}
-use mathlib.Core.Path.{_≡_, ap, _∙_}
+use mathlib.Core.List.{[], _∷_, map}
+use mathlib.Core.Path.{ap, _∙_}
 use native.Mathlib.Omega.{arith}
 use native.Mathlib.Omega.{arith}
 use borrow.Author.Needs.{needs}
 use Rattle.operations.proofs.project.place_picked.Statement.{statement}
 use Rattle.operations.proofs.project.place_picked.Tie as tie
-use Rattle.operations.proofs.project.place_picked.Reads as reads
-use Rattle.operations.proofs.project.place_picked.Lts as lts
-use Rattle.operations.proofs.made.picked_row.Reads as picked-row-reads
-use Rattle.values.proofs.placing.place_row.Reads as place-row-reads
-use Rattle.values.proofs.rows.row.Reads as row-reads
 
 -- src/project.rt:23:45
 row-requires : tie.Need-row-requires

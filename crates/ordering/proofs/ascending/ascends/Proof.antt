@@ -1,7 +1,6 @@
-use Prim.Native.Nat.{ℕ, _≤_, _<_, _-_, _+_, _*_}
+use Prim.Native.Nat.{ℕ, _≤_, _-_, _+_, _*_}
 use mathlib.Core.Path.{_≡_, refl, sym, ap, _∙_}
-use mathlib.Core.List.{List, map}
-use lib.ListN.{length, take}
+use mathlib.Core.List.{List}
 use mathlib.Core.Bool.{Bool, true, false}
 use borrow.Author.Tests.{not-true, not-false}
 use Rattle.relations.specs.Rows.{rowBefore}
@@ -14,10 +13,6 @@ use borrow.Author.Needs.{needs}
 use native.Mathlib.Omega.{arith}
 use Rattle.ordering.proofs.ascending.ascends.Statement.{statement}
 use Rattle.ordering.proofs.ascending.ascends.Tie as tie
-use Rattle.ordering.proofs.ascending.ascends.Reads as reads
-use Rattle.ordering.proofs.ascending.ascends.Lts as lts
-use Rattle.values.proofs.rows.row.Reads as row-reads
-use Rattle.values.proofs.search.stands_before.Reads as stands-before-reads
 
 -- a row stands before the next one
 abbrev ahead : (words : List ℕ) (base width : ℕ) → ℕ → Bool

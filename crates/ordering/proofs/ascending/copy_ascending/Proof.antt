@@ -1,15 +1,9 @@
-use Prim.Native.Nat.{ℕ, _≤_, _<_, _-_, _+_, _*_}
-use mathlib.Core.Path.{_≡_, refl, sym, ap, _∙_}
-use mathlib.Core.List.{List, map}
-use lib.ListN.{length, take}
+use Prim.Native.Nat.{_-_}
 use Rattle.ordering.proofs.AscendLaws.{copied-makes, copied-full}
 use native.Mathlib.Omega.{arith}
 use borrow.Author.Needs.{needs}
 use Rattle.ordering.proofs.ascending.copy_ascending.Statement.{statement}
 use Rattle.ordering.proofs.ascending.copy_ascending.Tie as tie
-use Rattle.ordering.proofs.ascending.copy_ascending.Reads as reads
-use Rattle.ordering.proofs.ascending.copy_ascending.Lts as lts
-use Rattle.values.proofs.placing.write_row.Reads as write-row-reads
 
 -- src/ascending.rt:46:17
 mul-words : tie.Need-mul-words

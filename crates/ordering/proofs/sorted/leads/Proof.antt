@@ -1,11 +1,10 @@
 use borrow.Author.Tests.{ne-eqb, eq-eqb}
-use Prim.Native.Nat.{ℕ, _≤_, _<_, _-_, _+_, _*_, _%_}
-use mathlib.Core.Path.{_≡_, refl, sym, ap, ap₂, _∙_}
-use mathlib.Core.List.{List, [], _∷_, _++_}
-use lib.ListN.{length, getD, take}
-use mathlib.Core.Bool.{true, false, _&&_}
-use lib.Dec.{leb, eqb}
-use borrow.Author.Tests.{le-leb, lt-leb, not-true, not-false}
+use Prim.Native.Nat.{_≤_, _-_, _+_}
+use mathlib.Core.Path.{_≡_, refl, sym, ap, _∙_}
+use lib.ListN.{getD}
+use mathlib.Core.Bool.{true, false}
+use lib.Dec.{eqb}
+use borrow.Author.Tests.{le-leb, lt-leb}
 use Rattle.sorting.specs.Numbers.{allBelow}
 use Rattle.sorting.proofs.SortLaws.{all-none, all-turn}
 use Rattle.ordering.specs.Offering.{leads}
@@ -13,9 +12,6 @@ use borrow.Author.Needs.{needs}
 use native.Mathlib.Omega.{arith}
 use Rattle.ordering.proofs.sorted.leads.Statement.{statement}
 use Rattle.ordering.proofs.sorted.leads.Tie as tie
-use Rattle.ordering.proofs.sorted.leads.Reads as reads
-use Rattle.ordering.proofs.sorted.leads.Lts as lts
-use Rattle.sorting.proofs.columns.wide.Reads as wide-reads
 
 abbrev Inv-loop : tie.InvT-loop
 Inv-loop list count width left₀ left = (left ≤ count) × (leads count width list ≡ allBelow (λ i. eqb (getD list i 0) (i + 1)) left)

@@ -1,6 +1,6 @@
-use mathlib.Core.Path.{_≡_, sym, _∙_}
-use mathlib.Core.List.{List, map}
-use lib.ListN.{length, take}
+use mathlib.Core.Path.{sym, _∙_}
+use mathlib.Core.List.{map}
+use lib.ListN.{take}
 use Rattle.values.specs.Words.{rowsOf}
 use Rattle.values.specs.Building.{Makes}
 use Rattle.values.proofs.RowsLaws.{rowsAt-wide}
@@ -10,11 +10,6 @@ use native.Mathlib.Omega.{arith}
 use borrow.Author.Needs.{needs}
 use Rattle.ordering.proofs.sorted.load.Statement.{statement}
 use Rattle.ordering.proofs.sorted.load.Tie as tie
-use Rattle.ordering.proofs.sorted.load.Reads as reads
-use Rattle.ordering.proofs.sorted.load.Lts as lts
-use Rattle.ordering.proofs.ascending.ascends.Reads as ascends-reads
-use Rattle.ordering.proofs.ascending.copy_ascending.Reads as copy-ascending-reads
-use Rattle.ordering.proofs.taking.take_rows.Reads as take-rows-reads
 
 ascends-requires : tie.Need-ascends-requires
 ascends-requires c κs = search needs

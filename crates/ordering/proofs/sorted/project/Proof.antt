@@ -1,8 +1,5 @@
-use Prim.Native.Nat.{ℕ, _≤_, _<_, _-_, _+_, _*_, _%_}
-use mathlib.Core.Path.{_≡_, refl, sym, ap, ap₂, _∙_}
-use mathlib.Core.List.{List, map}
-use lib.ListN.{length, take, drop}
-use Rattle.relations.specs.Columns.{attribute, pick}
+use Prim.Native.Nat.{_-_}
+use mathlib.Core.List.{map}
 use Rattle.values.specs.Words.{rowsOf}
 use Rattle.values.specs.Building.{Makes}
 use Rattle.values.proofs.RowsLaws.{rowsAt-wide}
@@ -12,10 +9,6 @@ use native.Mathlib.Omega.{arith}
 use borrow.Author.Needs.{needs}
 use Rattle.ordering.proofs.sorted.project.Statement.{statement}
 use Rattle.ordering.proofs.sorted.project.Tie as tie
-use Rattle.ordering.proofs.sorted.project.Reads as reads
-use Rattle.ordering.proofs.sorted.project.Lts as lts
-use Rattle.ordering.proofs.sorted.leads.Reads as leads-reads
-use Rattle.ordering.proofs.taking.take_rows.Reads as take-rows-reads
 
 -- src/sorted.rt:55:9
 leads-requires : tie.Need-leads-requires

@@ -3,13 +3,9 @@ use Prim.Native.Nat.{_+_, _*_, _-_, _≤_}
 use lib.ListN.{length, getD, length-set}
 use Rattle.relations.specs.Limits.{tripleLimit}
 use Rattle.partners.proofs.BoundSteps.{Begins, bounding-here, none-before-next, none-behind-here, none-behind-next, begins-next}
-use borrow.Author.Needs.{needs}
 use native.Mathlib.Omega.{arith}
 use Rattle.partners.proofs.bounds.bounds_of.Statement.{statement}
 use Rattle.partners.proofs.bounds.bounds_of.Tie as tie
-use Rattle.partners.proofs.bounds.bounds_of.Reads as reads
-use Rattle.partners.proofs.bounds.bounds_of.Lts as lts
-use Rattle.partners.proofs.sieve.likely_entry.Reads as likely-entry-reads
 
 abbrev Inv-loop : tie.InvT-loop
 Inv-loop sieve count width lows₀ highs₀ k₀ lows highs k =

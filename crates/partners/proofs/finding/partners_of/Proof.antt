@@ -1,4 +1,4 @@
-use mathlib.Core.Path.{_≡_, sym}
+use mathlib.Core.Path.{sym}
 use Prim.Native.Nat.{_≤_}
 use lib.ListN.{take}
 use lib.Seq.{length-take-le}
@@ -10,10 +10,6 @@ use native.Mathlib.Omega.{arith}
 use borrow.Author.Needs.{needs}
 use Rattle.partners.proofs.finding.partners_of.Statement.{statement}
 use Rattle.partners.proofs.finding.partners_of.Tie as tie
-use Rattle.partners.proofs.finding.partners_of.Reads as reads
-use Rattle.partners.proofs.finding.partners_of.Lts as lts
-use Rattle.partners.proofs.bounds.bounds_of.Reads as bounds-of-reads
-use Rattle.partners.proofs.finding.rows_before.Reads as rows-before-reads
 
 -- src/finding.rt:36:9
 bounds-of-requires : tie.Need-bounds-of-requires

@@ -1,13 +1,9 @@
 use mathlib.Core.Path.{sym}
 use Rattle.values.specs.Words.{rowsOf}
 use Rattle.partners.proofs.BoundSteps.{none-before-nothing}
-use native.Mathlib.Omega.{arith}
 use borrow.Author.Needs.{needs}
 use Rattle.partners.proofs.finding.rows_before.Statement.{statement}
 use Rattle.partners.proofs.finding.rows_before.Tie as tie
-use Rattle.partners.proofs.finding.rows_before.Reads as reads
-use Rattle.partners.proofs.finding.rows_before.Lts as lts
-use Rattle.values.proofs.search.count_before.Reads as count-before-reads
 
 -- src/finding.rt:27:9
 returns : tie.Need-returns

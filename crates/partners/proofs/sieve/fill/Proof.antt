@@ -7,16 +7,9 @@ use Rattle.relations.specs.Columns.{meets}
 use Rattle.operations.specs.Lists.{triplesIn}
 use Rattle.partners.specs.Sieves.{sifts}
 use Rattle.partners.proofs.SieveLaws.{filled-step, filled-over}
-use borrow.Author.Needs.{needs}
 use native.Mathlib.Omega.{arith}
 use Rattle.partners.proofs.sieve.fill.Statement.{statement}
 use Rattle.partners.proofs.sieve.fill.Tie as tie
-use Rattle.partners.proofs.sieve.fill.Reads as reads
-use Rattle.partners.proofs.sieve.fill.Lts as lts
-use Rattle.operations.proofs.columns.column_of.Reads as column-of-reads
-use Rattle.terms.proofs.operator.operator_of.Reads as operator-of-reads
-use Rattle.partners.proofs.sieve.narrow.Reads as narrow-reads
-use Rattle.partners.proofs.sieve.range_of.Reads as range-of-reads
 
 abbrev Inv-loop : tie.InvT-loop
 Inv-loop list count row sieve₀ at₀ more₀ made₀ sieve at more made =

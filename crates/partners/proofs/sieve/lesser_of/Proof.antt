@@ -1,10 +1,6 @@
 use borrow.Author.Tests.{lt-ltb, le-ltb}
-use borrow.Author.Needs.{needs}
-use native.Mathlib.Omega.{arith}
 use Rattle.partners.proofs.sieve.lesser_of.Statement.{statement}
 use Rattle.partners.proofs.sieve.lesser_of.Tie as tie
-use Rattle.partners.proofs.sieve.lesser_of.Reads as reads
-use Rattle.partners.proofs.sieve.lesser_of.Lts as lts
 
 -- src/sieve.rt:100:1
 returns : tie.Need-returns

@@ -7,9 +7,6 @@ use borrow.Author.Needs.{needs}
 use native.Mathlib.Omega.{arith}
 use Rattle.partners.proofs.sieve.lets_through.Statement.{statement}
 use Rattle.partners.proofs.sieve.lets_through.Tie as tie
-use Rattle.partners.proofs.sieve.lets_through.Reads as reads
-use Rattle.partners.proofs.sieve.lets_through.Lts as lts
-use Rattle.partners.proofs.sieve.word_at.Reads as word-at-reads
 
 abbrev Inv-loop : tie.InvT-loop
 Inv-loop sieve count row at₀ more₀ at more = (at + more * 4 ≤ length sieve) × (sifts count sieve row ≡ sifts more (drop at sieve) row)

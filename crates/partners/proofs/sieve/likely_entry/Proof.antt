@@ -1,11 +1,8 @@
 use mathlib.Core.Path.{_≡_}
 use Prim.Native.Nat.{_*_, _-_, _≤_}
-use borrow.Author.Needs.{needs}
 use native.Mathlib.Omega.{arith}
 use Rattle.partners.proofs.sieve.likely_entry.Statement.{statement}
 use Rattle.partners.proofs.sieve.likely_entry.Tie as tie
-use Rattle.partners.proofs.sieve.likely_entry.Reads as reads
-use Rattle.partners.proofs.sieve.likely_entry.Lts as lts
 
 abbrev Inv-loop : tie.InvT-loop
 Inv-loop sieve count column at₀ i₀ at i = (at ≡ i * 4) × (i ≤ count)

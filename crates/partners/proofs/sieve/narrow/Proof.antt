@@ -6,11 +6,6 @@ use native.Mathlib.Omega.{arith}
 use borrow.Author.Needs.{needs}
 use Rattle.partners.proofs.sieve.narrow.Statement.{statement}
 use Rattle.partners.proofs.sieve.narrow.Tie as tie
-use Rattle.partners.proofs.sieve.narrow.Reads as reads
-use Rattle.partners.proofs.sieve.narrow.Lts as lts
-use Rattle.partners.proofs.sieve.greater_of.Reads as greater-of-reads
-use Rattle.partners.proofs.sieve.lesser_of.Reads as lesser-of-reads
-use Rattle.partners.proofs.sieve.likely_entry.Reads as likely-entry-reads
 
 -- src/sieve.rt:116:9
 likely-entry-requires : tie.Need-likely-entry-requires

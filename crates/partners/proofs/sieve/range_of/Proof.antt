@@ -3,8 +3,6 @@ use native.Mathlib.Omega.{arith}
 use borrow.Author.Needs.{needs}
 use Rattle.partners.proofs.sieve.range_of.Statement.{statement}
 use Rattle.partners.proofs.sieve.range_of.Tie as tie
-use Rattle.partners.proofs.sieve.range_of.Reads as reads
-use Rattle.partners.proofs.sieve.range_of.Lts as lts
 
 -- src/sieve.rt:38:28
 enum-told : tie.Need-enum-told

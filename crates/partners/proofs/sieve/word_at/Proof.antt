@@ -4,8 +4,6 @@ use native.Mathlib.Omega.{arith}
 use borrow.Author.Needs.{needs}
 use Rattle.partners.proofs.sieve.word_at.Statement.{statement}
 use Rattle.partners.proofs.sieve.word_at.Tie as tie
-use Rattle.partners.proofs.sieve.word_at.Reads as reads
-use Rattle.partners.proofs.sieve.word_at.Lts as lts
 
 -- src/sieve.rt:161:9
 returns : tie.Need-returns

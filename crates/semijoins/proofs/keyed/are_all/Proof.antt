@@ -1,13 +1,8 @@
-use mathlib.Core.Path.{_≡_, refl, sym, ap, ap₂, _∙_}
-use Prim.Native.Nat.{ℕ, _+_, _*_, _-_, _≤_, _<_}
-use lib.ListN.{length, getD, take, drop, length-set}
-use Rattle.relations.specs.Limits.{columnLimit}
-use borrow.Author.Needs.{needs}
+use mathlib.Core.Path.{_≡_, refl}
+use Prim.Native.Nat.{_+_, _-_, _≤_}
 use native.Mathlib.Omega.{arith}
 use Rattle.semijoins.proofs.keyed.are_all.Statement.{statement}
 use Rattle.semijoins.proofs.keyed.are_all.Tie as tie
-use Rattle.semijoins.proofs.keyed.are_all.Reads as reads
-use Rattle.semijoins.proofs.keyed.are_all.Lts as lts
 
 abbrev Inv-loop : tie.InvT-loop
 Inv-loop width numbers count number₀ i₀ number i = (i ≤ count) × (number ≡ i + 1)

@@ -1,15 +1,11 @@
-use mathlib.Core.Path.{_≡_, refl, sym, ap, _∙_}
-use Prim.Native.Nat.{ℕ, _+_, _*_, _-_, _≤_, _<_}
-use lib.ListN.{length, getD, drop}
+use mathlib.Core.Path.{_≡_, refl, sym, _∙_}
+use Prim.Native.Nat.{_+_, _*_, _-_, _≤_}
+use lib.ListN.{length, drop}
 use Rattle.semijoins.specs.Keys.{renumbers}
 use Rattle.semijoins.proofs.KeyLaws.{renumbers-left, renumbers-operator, renumbers-right, renumbers-on}
-use borrow.Author.Needs.{needs}
 use native.Mathlib.Omega.{arith}
 use Rattle.semijoins.proofs.keyed.are_renumbered.Statement.{statement}
 use Rattle.semijoins.proofs.keyed.are_renumbered.Tie as tie
-use Rattle.semijoins.proofs.keyed.are_renumbered.Reads as reads
-use Rattle.semijoins.proofs.keyed.are_renumbered.Lts as lts
-use Rattle.operations.proofs.columns.column_of.Reads as column-of-reads
 
 abbrev Inv-loop : tie.InvT-loop
 Inv-loop list count columns other at₀ more₀ at more = (at + more * 3 ≤ length list) × (at + more * 3 ≤ length other) × (renumbers count columns list other ≡ renumbers more columns (drop at list) (drop at other))

@@ -1,7 +1,4 @@
-use mathlib.Core.Path.{_≡_, refl, sym, ap, ap₂, _∙_}
-use Prim.Native.Nat.{ℕ, _+_, _*_, _-_, _≤_, _<_}
-use lib.ListN.{length, getD, take, drop, length-set}
-use Rattle.relations.specs.Limits.{columnLimit}
+use Prim.Native.Nat.{_-_}
 use lib.Seq.{take-length}
 use Rattle.values.specs.Words.{rowsOf}
 use Rattle.operations.specs.Lists.{triplesIn}
@@ -10,11 +7,6 @@ use native.Mathlib.Omega.{arith}
 use borrow.Author.Needs.{needs}
 use Rattle.semijoins.proofs.keyed.keep_by_key.Statement.{statement}
 use Rattle.semijoins.proofs.keyed.keep_by_key.Tie as tie
-use Rattle.semijoins.proofs.keyed.keep_by_key.Reads as reads
-use Rattle.semijoins.proofs.keyed.keep_by_key.Lts as lts
-use Rattle.semijoins.proofs.wanted.keep_by_rows.Reads as keep-by-rows-reads
-use Rattle.ordering.proofs.sorted.project.Reads as project-reads
-use Rattle.values.proofs.placing.move_down.Reads as move-down-reads
 
 -- src/keyed.rt:165:11
 project-requires : tie.Need-project-requires

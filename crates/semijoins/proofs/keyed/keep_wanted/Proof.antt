@@ -1,17 +1,10 @@
-use mathlib.Core.Path.{_≡_, refl, sym, ap, ap₂, _∙_}
-use Prim.Native.Nat.{ℕ, _+_, _*_, _-_, _≤_, _<_}
-use lib.ListN.{length, getD, take, drop, length-set}
-use Rattle.relations.specs.Limits.{columnLimit}
+use Prim.Native.Nat.{_-_}
 use Rattle.values.proofs.MakeLaws.{builds-makes}
 use Rattle.semijoins.proofs.TriedLaws.{tried-told}
 use native.Mathlib.Omega.{arith}
 use borrow.Author.Needs.{needs}
 use Rattle.semijoins.proofs.keyed.keep_wanted.Statement.{statement}
 use Rattle.semijoins.proofs.keyed.keep_wanted.Tie as tie
-use Rattle.semijoins.proofs.keyed.keep_wanted.Reads as reads
-use Rattle.semijoins.proofs.keyed.keep_wanted.Lts as lts
-use Rattle.semijoins.proofs.wanted.keep_by_rows.Reads as keep-by-rows-reads
-use Rattle.semijoins.proofs.keyed.try_keys.Reads as try-keys-reads
 
 -- src/keyed.rt:276:11
 try-keys-requires : tie.Need-try-keys-requires

@@ -1,17 +1,7 @@
-use mathlib.Core.Path.{_≡_, refl, sym, ap, ap₂, _∙_}
-use Prim.Native.Nat.{ℕ, _+_, _*_, _-_, _≤_, _<_}
-use lib.ListN.{length, getD, take, drop, length-set}
-use Rattle.relations.specs.Limits.{columnLimit}
-use borrow.Author.Needs.{needs}
+use Prim.Native.Nat.{_-_, _≤_}
 use native.Mathlib.Omega.{arith}
 use Rattle.semijoins.proofs.keyed.names_others.Statement.{statement}
 use Rattle.semijoins.proofs.keyed.names_others.Tie as tie
-use Rattle.semijoins.proofs.keyed.names_others.Reads as reads
-use Rattle.semijoins.proofs.keyed.names_others.Lts as lts
-use Rattle.semijoins.proofs.keyed.triple_with.Reads as triple-with-reads
-use Rattle.semijoins.proofs.keyed.are_all.Reads as are-all-reads
-use Rattle.semijoins.proofs.keyed.equated.Reads as equated-reads
-use Rattle.semijoins.proofs.keyed.named_columns.Reads as named-columns-reads
 
 abbrev Inv-loop : tie.InvT-loop
 Inv-loop list count width next i₀ i = i ≤ count

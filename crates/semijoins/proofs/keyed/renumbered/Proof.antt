@@ -1,14 +1,10 @@
-use mathlib.Core.Path.{_≡_, refl, sym, ap, ap₂, _∙_}
-use Prim.Native.Nat.{ℕ, _+_, _*_, _-_, _≤_, _<_}
-use lib.ListN.{length, getD, take, drop, length-set}
+use mathlib.Core.Path.{_≡_, refl}
+use Prim.Native.Nat.{_-_, _≤_}
+use lib.ListN.{length, length-set}
 use Rattle.relations.specs.Limits.{columnLimit}
-use borrow.Author.Needs.{needs}
 use native.Mathlib.Omega.{arith}
 use Rattle.semijoins.proofs.keyed.renumbered.Statement.{statement}
 use Rattle.semijoins.proofs.keyed.renumbered.Tie as tie
-use Rattle.semijoins.proofs.keyed.renumbered.Reads as reads
-use Rattle.semijoins.proofs.keyed.renumbered.Lts as lts
-use Rattle.semijoins.proofs.keyed.place_among.Reads as place-among-reads
 
 abbrev Inv-loop : tie.InvT-loop
 Inv-loop list count columns made₀ i₀ made i = (i ≤ count) × (length made ≡ columnLimit)

@@ -1,12 +1,7 @@
-use mathlib.Core.Path.{_≡_, refl, sym, ap, _∙_}
-use Prim.Native.Nat.{ℕ, _+_, _*_, _-_, _≤_, _<_}
-use lib.ListN.{length, getD, drop}
-use borrow.Author.Needs.{needs}
+use Prim.Native.Nat.{_-_, _≤_}
 use native.Mathlib.Omega.{arith}
 use Rattle.semijoins.proofs.keyed.triple_with.Statement.{statement}
 use Rattle.semijoins.proofs.keyed.triple_with.Tie as tie
-use Rattle.semijoins.proofs.keyed.triple_with.Reads as reads
-use Rattle.semijoins.proofs.keyed.triple_with.Lts as lts
 
 abbrev Inv-loop : tie.InvT-loop
 Inv-loop list count operator right i₀ i = i ≤ count

@@ -1,7 +1,6 @@
-use mathlib.Core.Path.{_≡_, refl, sym, ap, ap₂, _∙_}
-use Prim.Native.Nat.{ℕ, _+_, _*_, _-_, _≤_, _<_}
-use lib.ListN.{length, getD, take, drop, length-set}
-use Rattle.relations.specs.Limits.{columnLimit}
+use mathlib.Core.Path.{_≡_, refl, sym, _∙_}
+use Prim.Native.Nat.{_-_}
+use lib.ListN.{length, take}
 use lib.Seq.{length-take-le}
 use Rattle.values.specs.Words.{rowsOf}
 use Rattle.semijoins.proofs.KeyLaws.{wanted-by-key}
@@ -9,13 +8,6 @@ use native.Mathlib.Omega.{arith}
 use borrow.Author.Needs.{needs}
 use Rattle.semijoins.proofs.keyed.try_keys.Statement.{statement}
 use Rattle.semijoins.proofs.keyed.try_keys.Tie as tie
-use Rattle.semijoins.proofs.keyed.try_keys.Reads as reads
-use Rattle.semijoins.proofs.keyed.try_keys.Lts as lts
-use Rattle.semijoins.proofs.keyed.are_renumbered.Reads as are-renumbered-reads
-use Rattle.semijoins.proofs.keyed.keep_by_key.Reads as keep-by-key-reads
-use Rattle.semijoins.proofs.keyed.named_columns.Reads as named-columns-reads
-use Rattle.semijoins.proofs.keyed.names_others.Reads as names-others-reads
-use Rattle.semijoins.proofs.keyed.renumbered.Reads as renumbered-reads
 
 -- src/keyed.rt:232:9
 returns : tie.Need-returns

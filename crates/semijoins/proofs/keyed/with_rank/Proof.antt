@@ -1,14 +1,8 @@
-use mathlib.Core.Path.{_≡_, refl, sym, ap, ap₂, _∙_}
-use Prim.Native.Nat.{ℕ, _+_, _*_, _-_, _≤_, _<_}
-use lib.ListN.{length, getD, take, drop, length-set}
+use Prim.Native.Nat.{_-_, _≤_}
 use Rattle.relations.specs.Limits.{columnLimit}
-use borrow.Author.Needs.{needs}
 use native.Mathlib.Omega.{arith}
 use Rattle.semijoins.proofs.keyed.with_rank.Statement.{statement}
 use Rattle.semijoins.proofs.keyed.with_rank.Tie as tie
-use Rattle.semijoins.proofs.keyed.with_rank.Reads as reads
-use Rattle.semijoins.proofs.keyed.with_rank.Lts as lts
-use Rattle.semijoins.proofs.keyed.with_triple.Reads as with-triple-reads
 
 abbrev Inv-loop : tie.InvT-loop
 Inv-loop list count wanted all₀ i₀ all i = (i ≤ count) × (all .count ≤ columnLimit)

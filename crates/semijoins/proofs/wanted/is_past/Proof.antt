@@ -1,11 +1,7 @@
 use borrow.Author.Tests.{eq-eqb, ne-eqb}
-use native.Mathlib.Omega.{arith}
 use borrow.Author.Needs.{needs}
 use Rattle.semijoins.proofs.wanted.is_past.Statement.{statement}
 use Rattle.semijoins.proofs.wanted.is_past.Tie as tie
-use Rattle.semijoins.proofs.wanted.is_past.Reads as reads
-use Rattle.semijoins.proofs.wanted.is_past.Lts as lts
-use Rattle.values.proofs.search.stands_behind.Reads as stands-behind-reads
 
 -- src/wanted.rt:35:9
 stands-behind-requires : tie.Need-stands-behind-requires

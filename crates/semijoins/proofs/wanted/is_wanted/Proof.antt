@@ -1,12 +1,7 @@
-use mathlib.Core.Path.{_≡_, sym, ap, _∙_}
-use native.Mathlib.Omega.{arith}
+use mathlib.Core.Path.{_∙_}
 use borrow.Author.Needs.{needs}
 use Rattle.semijoins.proofs.wanted.is_wanted.Statement.{statement}
 use Rattle.semijoins.proofs.wanted.is_wanted.Tie as tie
-use Rattle.semijoins.proofs.wanted.is_wanted.Reads as reads
-use Rattle.semijoins.proofs.wanted.is_wanted.Lts as lts
-use Rattle.semijoins.proofs.wanted.meets_some.Reads as meets-some-reads
-use Rattle.values.proofs.rows.row.Reads as row-reads
 
 row-requires : tie.Need-row-requires
 row-requires c κs = search needs

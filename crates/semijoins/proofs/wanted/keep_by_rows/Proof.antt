@@ -1,9 +1,6 @@
-use mathlib.Core.Path.{_≡_, sym, ap, _∙_}
-use mathlib.Core.List.{[], _∷_}
 use Prim.Native.Nat.{_+_, _*_, _≤_, _-_}
 use native.Mathlib.Omega.{arith}
 use borrow.Author.Needs.{needs}
-use lib.ListN.{length}
 use Rattle.relations.specs.Lists.{filter}
 use Rattle.values.specs.Words.{rowsAt, rowsOf}
 use Rattle.values.proofs.RowsLaws.{times-step}
@@ -15,9 +12,6 @@ use Rattle.semijoins.specs.Keys.{wantedRow, wantedRows}
 use Rattle.semijoins.proofs.WantedLaws.{wanted-now}
 use Rattle.semijoins.proofs.wanted.keep_by_rows.Statement.{statement}
 use Rattle.semijoins.proofs.wanted.keep_by_rows.Tie as tie
-use Rattle.semijoins.proofs.wanted.keep_by_rows.Reads as reads
-use Rattle.semijoins.proofs.wanted.keep_by_rows.Lts as lts
-use Rattle.semijoins.proofs.wanted.keep_row.Reads as keep-row-reads
 
 abbrev Inv-loop : tie.InvT-loop
 Inv-loop list count work₀ right wanted out width at₀ more₀ made₀ work at more made =

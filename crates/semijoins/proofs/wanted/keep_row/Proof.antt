@@ -1,13 +1,9 @@
-use mathlib.Core.Path.{_≡_, sym, ap, _∙_}
+use mathlib.Core.Path.{sym, _∙_}
 use native.Mathlib.Omega.{arith}
 use borrow.Author.Needs.{needs}
 use Rattle.values.proofs.FillLaws.{filled-still}
 use Rattle.semijoins.proofs.wanted.keep_row.Statement.{statement}
 use Rattle.semijoins.proofs.wanted.keep_row.Tie as tie
-use Rattle.semijoins.proofs.wanted.keep_row.Reads as reads
-use Rattle.semijoins.proofs.wanted.keep_row.Lts as lts
-use Rattle.semijoins.proofs.wanted.is_wanted.Reads as is-wanted-reads
-use Rattle.values.proofs.placing.place_row.Reads as place-row-reads
 
 is-wanted-requires : tie.Need-is-wanted-requires
 is-wanted-requires c κs = let p = c .before .before .before .pre in (p .2, omega arith, p .6, p .7)

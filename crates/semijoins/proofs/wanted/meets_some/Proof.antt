@@ -1,4 +1,4 @@
-use mathlib.Core.Path.{_≡_, sym, _∙_}
+use mathlib.Core.Path.{sym, _∙_}
 use Prim.Native.Nat.{_+_, _-_, _*_}
 use native.Mathlib.Omega.{arith}
 use borrow.Author.Needs.{needs}
@@ -7,11 +7,6 @@ use Rattle.values.specs.Words.{rowsAt, rowsOf}
 use Rattle.partners.proofs.RestLaws.{any-through}
 use Rattle.semijoins.proofs.wanted.meets_some.Statement.{statement}
 use Rattle.semijoins.proofs.wanted.meets_some.Tie as tie
-use Rattle.semijoins.proofs.wanted.meets_some.Reads as reads
-use Rattle.semijoins.proofs.wanted.meets_some.Lts as lts
-use Rattle.semijoins.proofs.wanted.some_through.Reads as some-through-reads
-use Rattle.partners.proofs.finding.partners_of.Reads as partners-of-reads
-use Rattle.partners.proofs.sieve.fill.Reads as fill-reads
 
 slice-aggregate-fill : tie.Need-slice-aggregate-fill
 slice-aggregate-fill c = search needs

@@ -13,16 +13,9 @@ use Rattle.values.proofs.BoundLaws.{ascending-from, ascending-next, any-behind-
 use Rattle.operations.proofs.RowSteps.{any-step, no-rows}
 use Rattle.partners.specs.Sieves.{sifts}
 use Rattle.partners.proofs.RestLaws.{times-rest}
-use borrow.Author.Needs.{needs}
 use native.Mathlib.Omega.{arith}
 use Rattle.semijoins.proofs.wanted.some_through.Statement.{statement}
 use Rattle.semijoins.proofs.wanted.some_through.Tie as tie
-use Rattle.semijoins.proofs.wanted.some_through.Reads as reads
-use Rattle.semijoins.proofs.wanted.some_through.Lts as lts
-use Rattle.semijoins.proofs.wanted.is_past.Reads as is-past-reads
-use Rattle.semijoins.proofs.wanted.next_wait.Reads as next-wait-reads
-use Rattle.partners.proofs.sieve.lets_through.Reads as lets-through-reads
-use Rattle.values.proofs.rows.row.Reads as row-reads
 
 abbrev Inv-loop : tie.InvT-loop
 Inv-loop sieve entries work number high width rows at₀ left₀ wait₀ at left wait =
