@@ -75,16 +75,6 @@ rows-wide columns zero words h = tt
 rows-wide columns (suc rows) words h =
     (length-take-le columns words (omega (arith, mul-suc columns rows)), rows-wide columns rows (drop columns words) (omega (arith, mul-suc columns rows, length-drop columns words)))
 
-pub stored-many : (catalogue tables : List ℕ) (relation : ℕ) → length (storedTables catalogue tables relation) ≡ rowCountOf catalogue relation
-stored-many catalogue tables relation = rows-many (columnsOf catalogue relation) (rowCountOf catalogue relation) (drop (startOf catalogue relation) tables)
-
--- a row of a stored table is a part of the tables
-pub stored-row : (catalogue tables : List ℕ) (relation row : ℕ) → row < rowCountOf catalogue relation
-    → getD (storedTables catalogue tables relation) row [] ≡ take (columnsOf catalogue relation) (drop (startOf catalogue relation + columnsOf catalogue relation * row) tables)
-stored-row catalogue tables relation row h =
-    rows-at (columnsOf catalogue relation) (rowCountOf catalogue relation) (drop (startOf catalogue relation) tables) row h
-    ∙ ap (take (columnsOf catalogue relation)) (drop-drop (columnsOf catalogue relation * row) (startOf catalogue relation) tables)
-
 -- tables that hold the words of all relations have rows of the catalogue's widths
 pub stored-wide : (catalogue tables : List ℕ) → startOf catalogue (relationsOf catalogue) ≤ length tables → (relation : ℕ) → Wide (columnsOf catalogue relation) (storedTables catalogue tables relation)
 unfolding rowsIn

@@ -1,6 +1,6 @@
 -- The columns that remain in a division, and the rows that pass. Assumes nothing.
 use mathlib.Core.Path.{_≡_, refl, sym, ap, ap₂, _∙_}
-use mathlib.Core.Bool.{Bool, true, false, not, _&&_, _||_, cond, So}
+use mathlib.Core.Bool.{Bool, true, false, not, _&&_, cond, So}
 use mathlib.Core.List.{List, [], _∷_, _++_, map, append-assoc}
 use Prim.Native.Nat.{ℕ, zero, suc, _+_, _*_, _-_, _≤_, _<_}
 use native.Mathlib.Omega.{arith}
@@ -32,12 +32,6 @@ use Rattle.operations.proofs.FillSteps.{filled-row}
 use Rattle.operations.proofs.MadeLaws.{map-append}
 use Rattle.operations.specs.Lists.{firstPair}
 use Rattle.division.specs.Divisions.{columnsLeft, kept, withPairs, divides, quotient}
-
--- a turn of the loop over the pairs
-pub listed-step : (list : List ℕ) (at more number : ℕ) → 0 < more
-    → listed number (leftNumbers (readPairs more (drop at list))) ≡ (eqb number (firstPair (drop at list) .left .number) || listed number (leftNumbers (readPairs (more - 1) (drop (at + 2) list))))
-listed-step list at zero number h = absurd (omega arith)
-listed-step list at (suc more) number h = let e : suc more - 1 ≡ more = omega arith in rw (e, drop-drop 2 at list)
 
 -- a turn of the loop over the columns of two rows
 pub same-step : (columns : List ℕ) (i : ℕ) (a b : Row) → i < length columns

@@ -9,7 +9,7 @@ ghost use Rattle.relations.specs.Limits.{columnLimit};
 ghost use Rattle.relations.specs.Legality.{distinct};
 ghost use Rattle.relations.specs.Lists.{All};
 ghost use Rattle.relations.specs.Rows.{sameRow};
-ghost use Rattle.relations.specs.Columns.{leftNumbers, listed};
+ghost use Rattle.relations.specs.Columns.{leftNumbers};
 ghost use Rattle.relations.specs.Operations.{divideCandidates};
 ghost use Rattle.relations.specs.PlanWords.{readPairs};
 ghost use Rattle.relations.specs.Values.{Ascending, member};
@@ -21,6 +21,7 @@ ghost use Rattle.division.specs.Divisions.{columnsLeft, kept, withPairs,
 use operations::columns::column_of;
 use operations::columns::pair_at;
 use operations::project::place_picked;
+use plan_reading::legal::is_listed;
 use relations::limits::COLUMNS;
 use terms::attribute::Attribute;
 use values::placing::Placed;
@@ -28,24 +29,6 @@ use values::placing::write_row;
 use values::rows::Value;
 use values::rows::row;
 use values::search::has_row;
-
-// Whether a column is the left attribute of one of so many pairs.
-fn is_listed(list: &[u32], count: usize, number: u32) -> bool
-    requires { ⌜ count * 2 ≤ length (now list) ⌝ }
-    ensures { λ r. ⌜ r ≡ listed number (leftNumbers (readPairs count (now (list .entry)))) ⌝ }
-{
-    let mut at: usize = 0;
-    let mut more = count;
-    while 0 < more {
-        let pair = pair_at(list, at);
-        if number == pair.left.0 {
-            return true;
-        }
-        at += 2;
-        more -= 1;
-    }
-    false
-}
 
 // The numbers of the columns that are no pair's left attribute, written in front; and how many they are.
 fn remaining_columns(list: &[u32], count: usize, width: usize, columns: &mut [u32]) -> usize
@@ -56,7 +39,7 @@ fn remaining_columns(list: &[u32], count: usize, width: usize, columns: &mut [u3
     let mut left = width;
     let mut kept: usize = 0;
     while 0 < left {
-        if is_listed(list, count, number) {
+        if is_listed(number, list, 0, count) {
             number += 1;
             left -= 1;
         } else {

@@ -4,7 +4,7 @@ use mathlib.Core.Bool.{Bool}
 use mathlib.Core.List.{List, [], _∷_}
 use mathlib.Core.Option.{Option, some, none}
 use lib.ListN.{getD, drop}
-use Rattle.relations.specs.Limits.{headWords}
+use Rattle.relations.specs.Limits.{headWords, operatorCount}
 use Rattle.relations.specs.Lists.{all}
 use Rattle.relations.specs.Legality.{between}
 use Rattle.relations.specs.Nodes as nodes
@@ -59,7 +59,7 @@ fits operation words = shapeFits (shapeOf operation) (getD words 2 0) (getD word
 
 -- every triple's operator is 1 to 6
 abbrev pub operatorsKnown : List ℕ → Bool
-operatorsKnown words = all (between 1 6) (spaced 3 (getD words 3 0) (drop (headWords + 1) words))
+operatorsKnown words = all (between 1 operatorCount) (spaced 3 (getD words 3 0) (drop (headWords + 1) words))
 
 abbrev pub headIn : Operation → List ℕ → PlanNode
 headIn operation words = record { operation = operation; left = getD words 1 0; right = getD words 2 0; count = getD words 3 0 }

@@ -62,7 +62,7 @@ pub fn width_of(catalogue: &[u32], widths: &[usize], node: PlanNode) -> usize
 }
 
 // Whether `number` is one of the left attributes of `count` pairs, from `from` on.
-fn is_listed(number: u32, words: &[u32], from: usize, count: usize) -> bool
+pub fn is_listed(number: u32, words: &[u32], from: usize, count: usize) -> bool
     requires { ⌜ from + 2 * count < length (now words) + 2 ⌝ }
     ensures { λ r. ⌜ r ≡ listed number (spaced 2 count (drop from (now (words .entry)))) ⌝ }
 {

@@ -107,10 +107,6 @@ unfolding wordsOf
 words-append [] v = refl
 words-append (r ∷ u) v = ap (λ (x : List ℕ). r ++ x) (words-append u v) ∙ sym (append-assoc r (wordsOf u) (wordsOf v))
 
-pub words-none : length (wordsOf []) ≡ 0
-unfolding wordsOf
-words-none = refl
-
 -- a value in front of what is stored is as it was
 pub rowsAt-before : (w n a i : ℕ) (l vs : List ℕ) → a + n * w ≤ i → i ≤ length l → rowsAt w n a (sets l i vs) ≡ rowsAt w n a l
 unfolding rowsAt

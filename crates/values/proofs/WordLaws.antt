@@ -16,12 +16,6 @@ length-part a n l h = length-take-le n (drop a l) (rw length-drop (omega arith))
 pub getD-part : (a n : ℕ) (l : List ℕ) (i : ℕ) → i < n → getD (part a n l) i 0 ≡ getD l (a + i) 0
 getD-part a n l i h = getD-take n (drop a l) i 0 h ∙ getD-drop a l i 0
 
--- one word more at the end, and at the front
-pub part-suc : (a n : ℕ) (l : List ℕ) → a + n < length l → part a (suc n) l ≡ part a n l ++ (getD l (a + n) 0 ∷ [])
-part-suc a n l h =
-    take-suc (drop a l) n 0 (rw length-drop (omega arith))
-    ∙ ap (λ (x : ℕ). part a n l ++ (x ∷ [])) (getD-drop a l n 0)
-
 pub part-cons : (a n : ℕ) (l : List ℕ) → a < length l → part a (suc n) l ≡ getD l a 0 ∷ part (suc a) n l
 part-cons a n l h = ap (take (suc n)) (drop-cons l a 0 h)
 

@@ -1,7 +1,8 @@
 use Rattle.division.proofs.DivisionLaws.{column-in, column-out, column-written}
 use Rattle.division.specs.Divisions.{columnsLeft}
 use Rattle.relations.specs.PlanWords.{readPairs}
-use Rattle.relations.specs.Columns.{leftNumbers}
+use Rattle.relations.specs.Columns.{listed, leftNumbers}
+use Rattle.plan_reading.proofs.ListedLaws.{pairs-lefts}
 use lib.ListN.{length, take, length-set}
 use Prim.Native.Nat.{_+_, _≤_, _-_}
 use mathlib.Core.List.{_++_, append-nil}
@@ -24,7 +25,7 @@ loop-holds c = (omega arith, omega arith, refl, refl)
 
 -- src/divide.rt:48:12
 is-listed-requires : tie.Need-is-listed-requires Inv-loop μ-loop
-is-listed-requires c κs = c .before .before .before .before .pre .0
+is-listed-requires c κs = omega (arith, c .before .before .before .before .pre .0)
 
 -- src/divide.rt:49:13
 add-number : tie.Need-add-number Inv-loop μ-loop
@@ -41,7 +42,7 @@ loop-less c = omega arith
 -- src/divide.rt:47:5
 loop-again : tie.Need-loop-again Inv-loop μ-loop
 loop-again c = let s = c .before .before .before .before .before .before .args in let l = c .before .before .before .loop in let ns = leftNumbers (readPairs (s .count) (s .list .now)) in
-    (omega arith, omega arith, l .inv .2, l .inv .3 ∙ ap (λ r. take (l .kept) (l .columns) ++ r) (column-out ns (l .number) (l .left) (omega arith) (sym (c .before .is-listed .ensures) ∙ c .if1 .taken)))
+    (omega arith, omega arith, l .inv .2, l .inv .3 ∙ ap (λ r. take (l .kept) (l .columns) ++ r) (column-out ns (l .number) (l .left) (omega arith) (ap (listed (l .number)) (pairs-lefts (s .count) (s .list .now)) ∙ sym (c .before .is-listed .ensures) ∙ c .if1 .taken)))
 
 -- src/divide.rt:52:13
 mul-columns : tie.Need-mul-columns Inv-loop μ-loop
@@ -73,7 +74,7 @@ loop-again-2 c = let s = c .before .before .before .before .before .before .args
   omega arith,
   omega arith,
   simp length-set (l .inv .2),
-  l .inv .3 ∙ ap (λ r. take (l .kept) (l .columns) ++ r) (column-in ns (l .number) (l .left) (omega arith) (sym (c .before .is-listed .ensures) ∙ c .if1 .left))
+  l .inv .3 ∙ ap (λ r. take (l .kept) (l .columns) ++ r) (column-in ns (l .number) (l .left) (omega arith) (ap (listed (l .number)) (pairs-lefts (s .count) (s .list .now)) ∙ sym (c .before .is-listed .ensures) ∙ c .if1 .left))
       ∙ column-written (l .columns) (columnsLeft (l .number + 1) (l .left - 1) ns) (l .kept) (l .number) (omega arith),
 )
 
