@@ -13,7 +13,7 @@ use lib.Bits.{bitAnd, bitOr, bitXor, differ, and-shr, or-shr, xor-shr, and-step,
 use lib.Count.{trailingZeros, under}
 use lib.Dec.{eqb}
 use borrow.Author.Tests.{eq-eqb, ne-eqb}
-use Rattle.nodes.specs.References.{hit, seen, firstFrom, lowest, notOnce, references, referencesTo}
+use Rattle.nodes.specs.References.{hit, seen, firstFrom, lowest, notOnce, referencesTo}
 use Rattle.nodes.specs.Nodes.{nodeAt}
 use Rattle.nodes.specs.Marks.{bit, Stepped, Marks}
 
@@ -166,13 +166,13 @@ marked ws w m s =
 
 -- and of the three references of a node more
 pub marked-node : {o t o' t' o″ t″ o‴ t‴ : ℕ} (words : List ℕ) (i : ℕ) → Marks o t (referencesTo words i)
-    → Stepped o t (references (nodeAt words i) .first) o' t' → Stepped o' t' (references (nodeAt words i) .second) o″ t″ → Stepped o″ t″ (references (nodeAt words i) .third) o‴ t‴
+    → Stepped o t (nodeAt words i .a) o' t' → Stepped o' t' (nodeAt words i .b) o″ t″ → Stepped o″ t″ (nodeAt words i .c) o‴ t‴
     → Marks o‴ t‴ (referencesTo words (i + 1))
 unfolding referencesTo
 marked-node {o‴ = o‴} {t‴ = t‴} words i m a b c =
-    let r = references (nodeAt words i) in
+    let r = nodeAt words i in
     let ws = referencesTo words i in
-    let e : ((ws ++ (r .first ∷ [])) ++ (r .second ∷ [])) ++ (r .third ∷ []) ≡ ws ++ (r .first ∷ r .second ∷ r .third ∷ []) = simp append-assoc in
+    let e : ((ws ++ (r .a ∷ [])) ++ (r .b ∷ [])) ++ (r .c ∷ []) ≡ ws ++ (r .a ∷ r .b ∷ r .c ∷ []) = simp append-assoc in
     rw add-one (subst (λ (l : List ℕ). Marks o‴ t‴ l) e (marked _ _ (marked _ _ (marked _ _ m a) b) c))
 
 pub none-marked : Marks 0 0 []

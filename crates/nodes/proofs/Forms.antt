@@ -1,4 +1,4 @@
--- What the form of a decoded node gives: its variables are there, and its references are lower. Assumes nothing.
+-- What the form of a decoded node gives: its variables are there, and its references are lower nodes of the sorts that its parts ask for. Assumes nothing.
 use mathlib.Core.Path.{_≡_, refl, sym, _∙_}
 use mathlib.Core.Bool.{Bool, true, false, cond, _&&_, _||_, true≢false}
 use mathlib.Core.List.{List}
@@ -10,18 +10,68 @@ use lib.ListN.{getD}
 use borrow.Author.Tests.{ltb-true, eqb-true}
 use Rattle.relations.specs.Limits.{columnLimit, questionNodeWords, variableCount, operatorCount}
 use Rattle.relations.proofs.BoolLaws.{and-left, and-right, and-both, or-cases, true-or-false}
-use Rattle.nodes.specs.Kinds.{isTarget, isBinding, isRange, isCondition, fieldsOf, wordsFit}
-use Rattle.nodes.specs.Nodes.{kindNamed, spelled, nodeAt, wordOf, OperandVariableFits, VariableFits}
-use Rattle.nodes.specs.References.{references}
+use Rattle.nodes.specs.Kinds.{isOf, fieldsOf, fieldFits, wordsFit, referenceIn}
+use Rattle.nodes.specs.Nodes.{kindNamed, formOf, nodeAt, wordOf, OperandVariableFits, VariablesFit}
 use Rattle.nodes.proofs.Tests.{named-below}
+use Rattle.nodes.specs.declared.kinds.Sort.{Sort}
+use Rattle.nodes.specs.declared.kinds.Sort.the-variants as sort
+use Rattle.nodes.specs.declared.kinds.Field.{Field}
+use Rattle.nodes.specs.declared.kinds.Field.the-variants.{Unused, Number, Variable, Attribute, AttributeOrRow, Operator, Reference, Optional}
 use Rattle.nodes.specs.declared.node.Operand.{Operand}
 use Rattle.nodes.specs.declared.node.Operand.the-variants.{Of, Fixed}
 use Rattle.nodes.specs.declared.node.Atom.{Atom}
+use Rattle.nodes.specs.declared.node.Connective.{Connective}
+use Rattle.nodes.specs.declared.node.Connective.the-variants.{And, Or, Not}
+use Rattle.nodes.specs.declared.node.Binder.{Binder}
+use Rattle.nodes.specs.declared.node.Binder.the-variants.{Binding, Quantifies}
+use Rattle.nodes.specs.declared.node.Form.{Form}
+use Rattle.nodes.specs.declared.node.Form.the-variants.{Table, Alpha, Target, Binds, Combines, Compares, Connects, IllFormed}
 use Rattle.nodes.specs.declared.node.Node.{Node}
-use Rattle.nodes.specs.declared.node.Node.the-variants.{Table, Alpha, Target, Binding, RangeOr, RangeAnd, RangeAndNot, Atom as AtomNode, And, Or, Not, Some, Every, IllFormed}
-use Rattle.nodes.specs.declared.references.References.{References}
 
--- the table of kinds, said of a decoded node
+-- What a node's a, b or c may refer to: nothing, a node of a sort, or either.
+pub data Part : Type 0 where
+  none : Part
+  must : Sort → Part
+  may : Sort → Part
+
+abbrev pub partIn : Field → Part
+partIn Unused = none
+partIn Number = none
+partIn Variable = none
+partIn Attribute = none
+partIn AttributeOrRow = none
+partIn Operator = none
+partIn (Reference sort) = must sort
+partIn (Optional sort) = may sort
+
+pub record Parts : Type 0 where
+  pub a : Part
+  pub b : Part
+  pub c : Part
+
+abbrev pub parts : (a b c : Part) → Parts
+parts a b c = record { a = a; b = b; c = c }
+
+abbrev pub binderParts : Binder → Parts
+binderParts Binding = parts none (must sort.Range) (may sort.Binding)
+binderParts (Quantifies quantifier) = parts none (must sort.Range) (must sort.Condition)
+
+abbrev pub connectiveParts : Connective → Parts
+connectiveParts And = parts (must sort.Condition) (must sort.Condition) none
+connectiveParts Or = parts (must sort.Condition) (must sort.Condition) none
+connectiveParts Not = parts (must sort.Condition) none none
+
+abbrev pub partsOf : Form → Parts
+partsOf (Table relation) = parts none none none
+partsOf Alpha = parts (must sort.Target) (must sort.Binding) (may sort.Condition)
+partsOf (Target variable attribute) = parts none none (may sort.Target)
+partsOf (Binds variable binder) = binderParts binder
+partsOf (Combines combination) = parts (must sort.Range) (must sort.Range) none
+partsOf (Compares atom) = parts none none none
+partsOf (Connects connective) = connectiveParts connective
+partsOf IllFormed = parts none none none
+
+-- the words that are no references
 abbrev pub operandFits : Operand → Bool
 operandFits (Of variable attribute) = ltb variable variableCount && leb 1 (attribute .0) && leb (attribute .0) columnLimit
 operandFits (Fixed constant) = true
@@ -30,25 +80,37 @@ abbrev pub atomFits : Atom → Bool
 atomFits atom =
     ltb (atom .variable) variableCount && leb 1 (atom .attribute .0) && leb (atom .attribute .0) columnLimit && leb 1 (atom .operator) && leb (atom .operator) operatorCount && operandFits (atom .operand)
 
-module _ (kind : ℕ → ℕ) where
-  abbrev pub quantifierFits : (variable range condition : ℕ) → Bool
-  quantifierFits variable range condition = ltb variable variableCount && isRange (kind range) && isCondition (kind condition)
+abbrev pub formFits : Form → Bool
+formFits (Table relation) = true
+formFits Alpha = true
+formFits (Target variable attribute) = ltb variable variableCount && leb (attribute .0) columnLimit
+formFits (Binds variable binder) = ltb variable variableCount
+formFits (Combines combination) = true
+formFits (Compares atom) = atomFits atom
+formFits (Connects connective) = true
+formFits IllFormed = true
 
-  abbrev pub fits : Node → Bool
-  fits (Table relation) = true
-  fits (Alpha target binding condition) = isTarget (kind target) && isBinding (kind binding) && (eqb condition 0 || isCondition (kind condition))
-  fits (Target variable attribute next) = ltb variable variableCount && leb attribute columnLimit && (eqb next 0 || isTarget (kind next))
-  fits (Binding variable range next) = ltb variable variableCount && isRange (kind range) && (eqb next 0 || isBinding (kind next))
-  fits (RangeOr left right) = isRange (kind left) && isRange (kind right)
-  fits (RangeAnd left right) = isRange (kind left) && isRange (kind right)
-  fits (RangeAndNot left right) = isRange (kind left) && isRange (kind right)
-  fits (AtomNode atom) = atomFits atom
-  fits (And left right) = isCondition (kind left) && isCondition (kind right)
-  fits (Or left right) = isCondition (kind left) && isCondition (kind right)
-  fits (Not inner) = isCondition (kind inner)
-  fits (Some variable range condition) = quantifierFits variable range condition
-  fits (Every variable range condition) = quantifierFits variable range condition
-  fits IllFormed = true
+module _ (kind : ℕ → ℕ) where
+  abbrev pub partFits : Part → ℕ → Bool
+  partFits none word = eqb word 0
+  partFits (must sort) word = isOf sort (kind word)
+  partFits (may sort) word = eqb word 0 || isOf sort (kind word)
+
+  pub record Fits (node : Node) : Type 0 where
+    pub words-fit : formFits (node .form) ≡ true
+    pub a-fits : partFits (partsOf (node .form) .a) (node .a) ≡ true
+    pub b-fits : partFits (partsOf (node .form) .b) (node .b) ≡ true
+    pub c-fits : partFits (partsOf (node .form) .c) (node .c) ≡ true
+
+  part-fits : (field : Field) (word : ℕ) → fieldFits kind field word ≡ true → partFits (partIn field) (referenceIn field word) ≡ true
+  part-fits Unused word h = refl
+  part-fits Number word h = refl
+  part-fits Variable word h = refl
+  part-fits Attribute word h = refl
+  part-fits AttributeOrRow word h = refl
+  part-fits Operator word h = refl
+  part-fits (Reference sort) word h = h
+  part-fits (Optional sort) word h = h
 
 -- the five tests of an atom, in the order of its words
 atom-tests : (v a b p q o : Bool) → (v && (a && b) && (p && q) && o) ≡ true → (v && a && b && p && q && o) ≡ true
@@ -70,62 +132,81 @@ operand-tests l v a b h =
 module _ (kind : ℕ → ℕ) (a b c d e : ℕ) where
   -- words that the table lets stand spell a node that fits
   FitsAt : ℕ → Type 0
-  FitsAt k = wordsFit kind (fieldsOf k) a b c d e ≡ true → fits kind (spelled k a b c d e) ≡ true
+  FitsAt k =
+      wordsFit kind (fieldsOf k) a b c d e ≡ true
+      → Fits kind (record { form = formOf k a b c d e; a = referenceIn (fieldsOf k .a) a; b = referenceIn (fieldsOf k .b) b; c = referenceIn (fieldsOf k .c) c })
 
   fits-if : (k n : ℕ) → FitsAt n → (eqb k n ≡ false → FitsAt k) → FitsAt k
   fits-if k n here else = ⊎-elim (λ (t : eqb k n ≡ true). rw (eqb-true k n t) here) else (true-or-false (eqb k n))
 
-  three-words : (x y z : Bool) → (x && y && z && eqb d 0 && eqb e 0) ≡ true → (x && y && z) ≡ true
-  three-words x y z h = and-left (x && y && z) (eqb d 0) (and-left (x && y && z && eqb d 0) (eqb e 0) h)
+  three-words : (x y z v w : Bool) → (x && y && z && v && w) ≡ true → (x && y && z) ≡ true
+  three-words x y z v w h = and-left (x && y && z) v (and-left (x && y && z && v) w h)
 
-  two-words : (x y : Bool) → (x && y && eqb c 0 && eqb d 0 && eqb e 0) ≡ true → (x && y) ≡ true
-  two-words x y h = and-left (x && y) (eqb c 0) (three-words x y (eqb c 0) h)
+  two-words : (x y z v w : Bool) → (x && y && z && v && w) ≡ true → (x && y) ≡ true
+  two-words x y z v w h = and-left (x && y) z (three-words x y z v w h)
 
-  one-word : (x : Bool) → (x && eqb b 0 && eqb c 0 && eqb d 0 && eqb e 0) ≡ true → x ≡ true
-  one-word x h = and-left x (eqb b 0) (two-words x (eqb b 0) h)
+  one-word : (x y z v w : Bool) → (x && y && z && v && w) ≡ true → x ≡ true
+  one-word x y z v w h = and-left x y (two-words x y z v w h)
+
+  -- a kind whose form has the parts that its fields say
+  as-the-table : (k : ℕ) (form : Form) → partsOf form ≡ parts (partIn (fieldsOf k .a)) (partIn (fieldsOf k .b)) (partIn (fieldsOf k .c)) → formFits form ≡ true → wordsFit kind (fieldsOf k) a b c d e ≡ true
+      → Fits kind (record { form = form; a = referenceIn (fieldsOf k .a) a; b = referenceIn (fieldsOf k .b) b; c = referenceIn (fieldsOf k .c) c })
+  as-the-table k form same own h =
+      let f : Field → ℕ → Bool = fieldFits kind in
+      let x : Bool = f (fieldsOf k .a) a in
+      let y : Bool = f (fieldsOf k .b) b in
+      let z : Bool = f (fieldsOf k .c) c in
+      let v : Bool = f (fieldsOf k .d) d in
+      let w : Bool = f (fieldsOf k .e) e in
+      record {
+        words-fit = own;
+        a-fits = rw same (part-fits kind (fieldsOf k .a) a (one-word x y z v w h));
+        b-fits = rw same (part-fits kind (fieldsOf k .b) b (and-right x y (two-words x y z v w h)));
+        c-fits = rw same (part-fits kind (fieldsOf k .c) c (and-right (x && y) z (three-words x y z v w h)));
+      }
 
   fits-spelled : (k : ℕ) → FitsAt k
-  unfolding FitsAt fieldsOf spelled
+  unfolding FitsAt fieldsOf formOf
   fits-spelled k =
-      fits-if k 1 (λ h. refl) λ n1.
-      fits-if k 2 (λ h. three-words (isTarget (kind a)) (isBinding (kind b)) (eqb c 0 || isCondition (kind c)) h) λ n2.
-      fits-if k 3 (λ h. three-words (ltb a variableCount) (leb b columnLimit) (eqb c 0 || isTarget (kind c)) h) λ n3.
-      fits-if k 4 (λ h. three-words (ltb a variableCount) (isRange (kind b)) (eqb c 0 || isBinding (kind c)) h) λ n4.
-      fits-if k 5 (λ h. two-words (isRange (kind a)) (isRange (kind b)) h) λ n5.
-      fits-if k 6 (λ h. two-words (isRange (kind a)) (isRange (kind b)) h) λ n6.
-      fits-if k 7 (λ h. two-words (isRange (kind a)) (isRange (kind b)) h) λ n7.
-      fits-if k 8 (λ h. atom-tests (ltb a variableCount) (leb 1 b) (leb b columnLimit) (leb 1 c) (leb c operatorCount) true (and-left (ltb a variableCount && (leb 1 b && leb b columnLimit) && (leb 1 c && leb c operatorCount) && true) (eqb e 0) h)) λ n8.
-      fits-if k 9 (λ h. atom-tests (ltb a variableCount) (leb 1 b) (leb b columnLimit) (leb 1 c) (leb c operatorCount) (ltb d variableCount && leb 1 e && leb e columnLimit) (operand-tests (ltb a variableCount && (leb 1 b && leb b columnLimit) && (leb 1 c && leb c operatorCount)) (ltb d variableCount) (leb 1 e) (leb e columnLimit) h)) λ n9.
-      fits-if k 10 (λ h. two-words (isCondition (kind a)) (isCondition (kind b)) h) λ n10.
-      fits-if k 11 (λ h. two-words (isCondition (kind a)) (isCondition (kind b)) h) λ n11.
-      fits-if k 12 (λ h. one-word (isCondition (kind a)) h) λ n12.
-      fits-if k 13 (λ h. three-words (ltb a variableCount) (isRange (kind b)) (isCondition (kind c)) h) λ n13.
-      fits-if k 14 (λ h. three-words (ltb a variableCount) (isRange (kind b)) (isCondition (kind c)) h) λ n14 h.
-      rw (n1, n2, n3, n4, n5, n6, n7, n8, n9, n10, n11, n12, n13, n14)
+      fits-if k 1 (as-the-table 1 (formOf 1 a b c d e) refl refl) λ n1.
+      fits-if k 2 (as-the-table 2 (formOf 2 a b c d e) refl refl) λ n2.
+      fits-if k 3 (λ h. as-the-table 3 (formOf 3 a b c d e) refl (two-words (ltb a variableCount) (leb b columnLimit) _ _ _ h) h) λ n3.
+      fits-if k 4 (λ h. as-the-table 4 (formOf 4 a b c d e) refl (one-word (ltb a variableCount) _ _ _ _ h) h) λ n4.
+      fits-if k 5 (as-the-table 5 (formOf 5 a b c d e) refl refl) λ n5.
+      fits-if k 6 (as-the-table 6 (formOf 6 a b c d e) refl refl) λ n6.
+      fits-if k 7 (as-the-table 7 (formOf 7 a b c d e) refl refl) λ n7.
+      fits-if k 8 (λ h. as-the-table 8 (formOf 8 a b c d e) refl (atom-tests (ltb a variableCount) (leb 1 b) (leb b columnLimit) (leb 1 c) (leb c operatorCount) true (and-left (ltb a variableCount && (leb 1 b && leb b columnLimit) && (leb 1 c && leb c operatorCount) && true) (eqb e 0) h)) h) λ n8.
+      fits-if k 9 (λ h. as-the-table 9 (formOf 9 a b c d e) refl (atom-tests (ltb a variableCount) (leb 1 b) (leb b columnLimit) (leb 1 c) (leb c operatorCount) (ltb d variableCount && leb 1 e && leb e columnLimit) (operand-tests (ltb a variableCount && (leb 1 b && leb b columnLimit) && (leb 1 c && leb c operatorCount)) (ltb d variableCount) (leb 1 e) (leb e columnLimit) h)) h) λ n9.
+      fits-if k 10 (as-the-table 10 (formOf 10 a b c d e) refl refl) λ n10.
+      fits-if k 11 (as-the-table 11 (formOf 11 a b c d e) refl refl) λ n11.
+      fits-if k 12 (as-the-table 12 (formOf 12 a b c d e) refl refl) λ n12.
+      fits-if k 13 (λ h. as-the-table 13 (formOf 13 a b c d e) refl (one-word (ltb a variableCount) _ _ _ _ h) h) λ n13.
+      fits-if k 14 (λ h. as-the-table 14 (formOf 14 a b c d e) refl (one-word (ltb a variableCount) _ _ _ _ h) h) λ n14 h.
+      rw (n1, n2, n3, n4, n5, n6, n7, n8, n9, n10, n11, n12, n13, n14) (record { words-fit = refl; a-fits = refl; b-fits = refl; c-fits = refl })
 
-kept : (test : Bool) (kind : ℕ → ℕ) (node : Node) → (test ≡ true → fits kind node ≡ true) → fits kind (cond test node IllFormed) ≡ true
+kept : (test : Bool) (kind : ℕ → ℕ) (node : Node) → (test ≡ true → Fits kind node) → Fits kind (cond test node (record { form = IllFormed; a = 0; b = 0; c = 0 }))
 kept true kind node h = h refl
-kept false kind node h = refl
+kept false kind node h = record { words-fit = refl; a-fits = refl; b-fits = refl; c-fits = refl }
 
 -- every node of a table fits
-pub node-fits : (words : List ℕ) (i : ℕ) → fits (kindNamed words i) (nodeAt words i) ≡ true
+pub node-fits : (words : List ℕ) (i : ℕ) → Fits (kindNamed words i) (nodeAt words i)
 unfolding nodeAt FitsAt
 node-fits words i =
     let k : ℕ = getD words (i * questionNodeWords) 0 in
     let w : ℕ → ℕ = wordOf words i in
-    kept (wordsFit (kindNamed words i) (fieldsOf k) (w 1) (w 2) (w 3) (w 4) (w 5)) (kindNamed words i) (spelled k (w 1) (w 2) (w 3) (w 4) (w 5)) (fits-spelled (kindNamed words i) (w 1) (w 2) (w 3) (w 4) (w 5) k)
+    kept (wordsFit (kindNamed words i) (fieldsOf k) (w 1) (w 2) (w 3) (w 4) (w 5)) (kindNamed words i) _ (fits-spelled (kindNamed words i) (w 1) (w 2) (w 3) (w 4) (w 5) k)
 
 -- a reference that names a sort is of a lower node
 pub lower : (words : List ℕ) (i reference : ℕ) (sort : ℕ → Bool) → sort 0 ≡ false → sort (kindNamed words i reference) ≡ true → (1 ≤ reference) × (reference ≤ i)
 unfolding kindNamed
-lower words i reference sort none h =
+lower words i reference sort absent h =
     ⊎-elim (λ e. named-below reference i e)
-    (λ e. absurd (true≢false (sym h ∙ rw e none)))
+    (λ e. absurd (true≢false (sym h ∙ rw e absent)))
     (true-or-false (leb 1 reference && leb reference i))
 
 pub lower-if-any : (words : List ℕ) (i reference : ℕ) (sort : ℕ → Bool) → sort 0 ≡ false → (eqb reference 0 || sort (kindNamed words i reference)) ≡ true → reference ≤ i
-lower-if-any words i reference sort none h =
-    ⊎-elim (λ e. omega (arith, eqb-true reference 0 e)) (λ e. lower words i reference sort none e .1) (or-cases (eqb reference 0) (sort (kindNamed words i reference)) h)
+lower-if-any words i reference sort absent h =
+    ⊎-elim (λ e. omega (arith, eqb-true reference 0 e)) (λ e. lower words i reference sort absent e .1) (or-cases (eqb reference 0) (sort (kindNamed words i reference)) h)
 
 -- the tests of a node with three parts, and of one with two
 pub first-of : (a b c : Bool) → (a && b && c) ≡ true → a ≡ true
@@ -141,94 +222,46 @@ pub operand-variable : (operand : Operand) → operandFits operand ≡ true → 
 operand-variable (Of variable attribute) h = ltb-true variable variableCount (first-of (ltb variable variableCount) (leb 1 (attribute .0)) (leb (attribute .0) columnLimit) h)
 operand-variable (Fixed constant) h = tt
 
-module _ (kind : ℕ → ℕ) where
-  pub variable-fits : (node : Node) → fits kind node ≡ true → VariableFits node
-  variable-fits (Table relation) h = tt
-  variable-fits (Alpha target binding condition) h = tt
-  variable-fits (Target variable attribute next) h = ltb-true variable variableCount (first-of (ltb variable variableCount) (leb attribute columnLimit) (eqb next 0 || isTarget (kind next)) h)
-  variable-fits (Binding variable range next) h = ltb-true variable variableCount (first-of (ltb variable variableCount) (isRange (kind range)) (eqb next 0 || isBinding (kind next)) h)
-  variable-fits (RangeOr left right) h = tt
-  variable-fits (RangeAnd left right) h = tt
-  variable-fits (RangeAndNot left right) h = tt
-  variable-fits (AtomNode atom) h =
-      let v : Bool = ltb (atom .variable) variableCount in
-      let a : Bool = leb 1 (atom .attribute .0) in
-      let b : Bool = leb (atom .attribute .0) columnLimit in
-      let p : Bool = leb 1 (atom .operator) in
-      let q : Bool = leb (atom .operator) operatorCount in (
-        ltb-true (atom .variable) variableCount (first-of v a b (first-of (v && a && b) p q (and-left (v && a && b && p && q) (operandFits (atom .operand)) h))),
-        operand-variable (atom .operand) (and-right (v && a && b && p && q) (operandFits (atom .operand)) h),
-      )
-  variable-fits (And left right) h = tt
-  variable-fits (Or left right) h = tt
-  variable-fits (Not inner) h = tt
-  variable-fits (Some variable range condition) h = ltb-true variable variableCount (first-of (ltb variable variableCount) (isRange (kind range)) (isCondition (kind condition)) h)
-  variable-fits (Every variable range condition) h = ltb-true variable variableCount (first-of (ltb variable variableCount) (isRange (kind range)) (isCondition (kind condition)) h)
-  variable-fits IllFormed h = tt
+pub variables-fit : (form : Form) → formFits form ≡ true → VariablesFit form
+variables-fit (Table relation) h = tt
+variables-fit Alpha h = tt
+variables-fit (Target variable attribute) h = ltb-true variable variableCount (and-left (ltb variable variableCount) (leb (attribute .0) columnLimit) h)
+variables-fit (Binds variable binder) h = ltb-true variable variableCount h
+variables-fit (Combines combination) h = tt
+variables-fit (Compares atom) h =
+    let v : Bool = ltb (atom .variable) variableCount in
+    let a : Bool = leb 1 (atom .attribute .0) in
+    let b : Bool = leb (atom .attribute .0) columnLimit in
+    let p : Bool = leb 1 (atom .operator) in
+    let q : Bool = leb (atom .operator) operatorCount in (
+      ltb-true (atom .variable) variableCount (first-of v a b (first-of (v && a && b) p q (and-left (v && a && b && p && q) (operandFits (atom .operand)) h))),
+      operand-variable (atom .operand) (and-right (v && a && b && p && q) (operandFits (atom .operand)) h),
+    )
+variables-fit (Connects connective) h = tt
+variables-fit IllFormed h = tt
 
-pub record Lower (r : References) (i : ℕ) : Type 0 where
-  pub first-lower : r .first ≤ i
-  pub second-lower : r .second ≤ i
-  pub third-lower : r .third ≤ i
+pub no-kind : (sort : Sort) → isOf sort 0 ≡ false
+no-kind sort.Target = refl
+no-kind sort.Binding = refl
+no-kind sort.Range = refl
+no-kind sort.Condition = refl
 
 module _ (words : List ℕ) (i : ℕ) where
-  abbrev kind : ℕ → ℕ
-  kind reference = kindNamed words i reference
+  part-lower : (part : Part) (word : ℕ) → partFits (kindNamed words i) part word ≡ true → word ≤ i
+  part-lower none word h = omega (arith, eqb-true word 0 h)
+  part-lower (must sort) word h = lower words i word (isOf sort) (no-kind sort) h .1
+  part-lower (may sort) word h = lower-if-any words i word (isOf sort) (no-kind sort) h
 
-  range-lower : (reference : ℕ) → isRange (kind reference) ≡ true → reference ≤ i
-  range-lower reference h = lower words i reference isRange refl h .1
+  pub record Lower : Type 0 where
+    pub a-lower : nodeAt words i .a ≤ i
+    pub b-lower : nodeAt words i .b ≤ i
+    pub c-lower : nodeAt words i .c ≤ i
 
-  condition-lower : (reference : ℕ) → isCondition (kind reference) ≡ true → reference ≤ i
-  condition-lower reference h = lower words i reference isCondition refl h .1
+  pub node-lower : Lower
+  node-lower =
+      let node : Node = nodeAt words i in
+      let it = node-fits words i in
+      record { a-lower = part-lower (partsOf (node .form) .a) (node .a) (it .a-fits); b-lower = part-lower (partsOf (node .form) .b) (node .b) (it .b-fits); c-lower = part-lower (partsOf (node .form) .c) (node .c) (it .c-fits) }
 
-  two-ranges : (left right : ℕ) → (isRange (kind left) && isRange (kind right)) ≡ true → Lower (record { first = left; second = right; third = 0 }) i
-  two-ranges left right h =
-      record { first-lower = range-lower left (and-left (isRange (kind left)) (isRange (kind right)) h); second-lower = range-lower right (and-right (isRange (kind left)) (isRange (kind right)) h); third-lower = omega arith }
-
-  two-conditions : (left right : ℕ) → (isCondition (kind left) && isCondition (kind right)) ≡ true → Lower (record { first = left; second = right; third = 0 }) i
-  two-conditions left right h =
-      record { first-lower = condition-lower left (and-left (isCondition (kind left)) (isCondition (kind right)) h); second-lower = condition-lower right (and-right (isCondition (kind left)) (isCondition (kind right)) h); third-lower = omega arith }
-
-  quantified : (variable range condition : ℕ) → (ltb variable variableCount && isRange (kind range) && isCondition (kind condition)) ≡ true → Lower (record { first = range; second = condition; third = 0 }) i
-  quantified variable range condition h =
-      record {
-        first-lower = range-lower range (second-of (ltb variable variableCount) (isRange (kind range)) (isCondition (kind condition)) h);
-        second-lower = condition-lower condition (third-of (ltb variable variableCount) (isRange (kind range)) (isCondition (kind condition)) h);
-        third-lower = omega arith;
-      }
-
-  no-references : Lower (record { first = 0; second = 0; third = 0 }) i
-  no-references = record { first-lower = omega arith; second-lower = omega arith; third-lower = omega arith }
-
-  pub references-lower : (node : Node) → fits (kindNamed words i) node ≡ true → Lower (references node) i
-  references-lower (Table relation) h = no-references
-  references-lower (Alpha target binding condition) h =
-      record {
-        first-lower = lower words i binding isBinding refl (second-of (isTarget (kind target)) (isBinding (kind binding)) (eqb condition 0 || isCondition (kind condition)) h) .1;
-        second-lower = lower words i target isTarget refl (first-of (isTarget (kind target)) (isBinding (kind binding)) (eqb condition 0 || isCondition (kind condition)) h) .1;
-        third-lower = lower-if-any words i condition isCondition refl (third-of (isTarget (kind target)) (isBinding (kind binding)) (eqb condition 0 || isCondition (kind condition)) h);
-      }
-  references-lower (Target variable attribute next) h =
-      record { first-lower = lower-if-any words i next isTarget refl (third-of (ltb variable variableCount) (leb attribute columnLimit) (eqb next 0 || isTarget (kind next)) h); second-lower = omega arith; third-lower = omega arith }
-  references-lower (Binding variable range next) h =
-      record {
-        first-lower = range-lower range (second-of (ltb variable variableCount) (isRange (kind range)) (eqb next 0 || isBinding (kind next)) h);
-        second-lower = lower-if-any words i next isBinding refl (third-of (ltb variable variableCount) (isRange (kind range)) (eqb next 0 || isBinding (kind next)) h);
-        third-lower = omega arith;
-      }
-  references-lower (RangeOr left right) h = two-ranges left right h
-  references-lower (RangeAnd left right) h = two-ranges left right h
-  references-lower (RangeAndNot left right) h = two-ranges left right h
-  references-lower (AtomNode atom) h = no-references
-  references-lower (And left right) h = two-conditions left right h
-  references-lower (Or left right) h = two-conditions left right h
-  references-lower (Not inner) h = record { first-lower = condition-lower inner h; second-lower = omega arith; third-lower = omega arith }
-  references-lower (Some variable range condition) h = quantified variable range condition h
-  references-lower (Every variable range condition) h = quantified variable range condition h
-  references-lower IllFormed h = no-references
-
-  pub node-lower : Lower (references (nodeAt words i)) i
-  node-lower = references-lower (nodeAt words i) (node-fits words i)
-
-  pub node-variable : VariableFits (nodeAt words i)
-  node-variable = variable-fits (kindNamed words i) (nodeAt words i) (node-fits words i)
+  pub node-variables : VariablesFit (nodeAt words i .form)
+  node-variables = variables-fit (nodeAt words i .form) (node-fits words i .words-fit)

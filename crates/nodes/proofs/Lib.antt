@@ -1,3 +1,4 @@
 pub mod Tests
+pub mod FieldLaws
 pub mod Bits
 pub mod Forms

@@ -1,5 +1,5 @@
 -- Document 01, "The question": the table of kinds. Of which sort a node is, what each of its words a to e is, and what may stand there. Assumes nothing.
--- A new kind is a line of `fieldsOf`, and a word in the sentence on its sort.
+-- A new kind is a line of `fieldsOf`, a word in the sentence on its sort, and a line of `formOf` (Nodes).
 use Prim.Native.Nat.{ℕ}
 use mathlib.Core.Bool.{Bool, true, cond, _&&_, _||_}
 use lib.Dec.{ltb, leb, eqb}
@@ -47,7 +47,7 @@ fieldsOf kind =
     (cond (eqb kind 2) (three (Reference Target) (Reference Binding) (Optional Condition))
     (cond (eqb kind 3) (three Variable AttributeOrRow (Optional Target))
     (cond (eqb kind 4) (three Variable (Reference Range) (Optional Binding))
-    (cond (leb 5 kind && leb kind 7) (two (Reference Range) (Reference Range))
+    (cond (eqb kind 5 || eqb kind 6 || eqb kind 7) (two (Reference Range) (Reference Range))
     (cond (eqb kind 8) (five Variable Attribute Operator Number Unused)
     (cond (eqb kind 9) (five Variable Attribute Operator Variable Attribute)
     (cond (eqb kind 10 || eqb kind 11) (two (Reference Condition) (Reference Condition))
@@ -70,3 +70,14 @@ module _ (kind : ℕ → ℕ) where
 
   abbrev pub wordsFit : Fields → (a b c d e : ℕ) → Bool
   wordsFit fields a b c d e = fieldFits (fields .a) a && fieldFits (fields .b) b && fieldFits (fields .c) c && fieldFits (fields .d) d && fieldFits (fields .e) e
+
+-- the node that a word names, as a node's number plus one; 0 is none
+abbrev pub referenceIn : Field → ℕ → ℕ
+referenceIn Unused word = 0
+referenceIn Number word = 0
+referenceIn Variable word = 0
+referenceIn Attribute word = 0
+referenceIn AttributeOrRow word = 0
+referenceIn Operator word = 0
+referenceIn (Reference sort) word = word
+referenceIn (Optional sort) word = word

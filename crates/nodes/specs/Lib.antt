@@ -1,6 +1,5 @@
 -- In reading order. Document 01, "The question".
 pub mod Kinds
-pub mod Roles
 pub mod Nodes
 pub mod References
 -- What the code keeps instead

@@ -5,14 +5,16 @@ use mathlib.Core.Bool.{Bool, true, false, cond, _&&_}
 use lib.ListN.{getD, length}
 use lib.Dec.{leb, eqb}
 use Rattle.relations.specs.Limits.{questionNodeWords, variableCount}
-use Rattle.nodes.specs.Kinds.{fieldsOf, wordsFit}
-use Rattle.nodes.specs.Roles.{roleOf}
-use Rattle.nodes.specs.declared.roles.Role.{Role}
-use Rattle.nodes.specs.declared.roles.Role.the-variants.{Stored, Opens, Takes, Binds, Sides, Compares, Joins}
+use Rattle.nodes.specs.Kinds.{fieldsOf, wordsFit, referenceIn}
 use Rattle.nodes.specs.declared.node.Operand.{Operand}
 use Rattle.nodes.specs.declared.node.Operand.the-variants.{Of, Fixed}
+use Rattle.nodes.specs.declared.node.Combination.the-variants as combination
+use Rattle.nodes.specs.declared.node.Connective.the-variants as connective
+use Rattle.nodes.specs.declared.node.Quantifier.the-variants as quantifier
+use Rattle.nodes.specs.declared.node.Binder.the-variants.{Binding, Quantifies}
+use Rattle.nodes.specs.declared.node.Form.{Form}
+use Rattle.nodes.specs.declared.node.Form.the-variants.{Table, Alpha, Target, Binds, Combines, Compares, Connects, IllFormed}
 use Rattle.nodes.specs.declared.node.Node.{Node}
-use Rattle.nodes.specs.declared.node.Node.the-variants.{Table, Alpha, Target, Binding, RangeOr, RangeAnd, RangeAndNot, Atom as AtomNode, And, Or, Not, Some, Every, IllFormed}
 
 -- how many whole nodes there are
 abbrev pub nodeCount : List ℕ → ℕ
@@ -23,23 +25,26 @@ unfoldable pub kindNamed : List ℕ → ℕ → ℕ → ℕ
 kindNamed words i reference =
     cond (leb 1 reference && leb reference i) (getD words ((reference - 1) * questionNodeWords) 0) 0
 
--- the table of kinds: the node that the words of a kind spell
-unfoldable pub spelled : (kind a b c d e : ℕ) → Node
-spelled kind a b c d e =
+abbrev pub compares : (variable attribute operator : ℕ) → Operand → Form
+compares variable attribute operator operand = Compares (record { variable = variable; attribute = record { 0 = attribute }; operator = operator; operand = operand })
+
+-- the table of kinds: what the words of a kind say, but for the nodes that they name
+unfoldable pub formOf : (kind a b c d e : ℕ) → Form
+formOf kind a b c d e =
     cond (eqb kind 1) (Table a)
-    (cond (eqb kind 2) (Alpha a b c)
-    (cond (eqb kind 3) (Target a b c)
-    (cond (eqb kind 4) (Binding a b c)
-    (cond (eqb kind 5) (RangeOr a b)
-    (cond (eqb kind 6) (RangeAnd a b)
-    (cond (eqb kind 7) (RangeAndNot a b)
-    (cond (eqb kind 8) (AtomNode (record { variable = a; attribute = record { 0 = b }; operator = c; operand = Fixed (record { 0 = d }) }))
-    (cond (eqb kind 9) (AtomNode (record { variable = a; attribute = record { 0 = b }; operator = c; operand = Of d (record { 0 = e }) }))
-    (cond (eqb kind 10) (And a b)
-    (cond (eqb kind 11) (Or a b)
-    (cond (eqb kind 12) (Not a)
-    (cond (eqb kind 13) (Some a b c)
-    (cond (eqb kind 14) (Every a b c)
+    (cond (eqb kind 2) Alpha
+    (cond (eqb kind 3) (Target a (record { 0 = b }))
+    (cond (eqb kind 4) (Binds a Binding)
+    (cond (eqb kind 5) (Combines combination.Or)
+    (cond (eqb kind 6) (Combines combination.And)
+    (cond (eqb kind 7) (Combines combination.AndNot)
+    (cond (eqb kind 8) (compares a b c (Fixed (record { 0 = d })))
+    (cond (eqb kind 9) (compares a b c (Of d (record { 0 = e })))
+    (cond (eqb kind 10) (Connects connective.And)
+    (cond (eqb kind 11) (Connects connective.Or)
+    (cond (eqb kind 12) (Connects connective.Not)
+    (cond (eqb kind 13) (Binds a (Quantifies quantifier.Some))
+    (cond (eqb kind 14) (Binds a (Quantifies quantifier.Every))
     IllFormed)))))))))))))
 
 -- word j of node i
@@ -49,27 +54,23 @@ wordOf words i j = getD words (i * questionNodeWords + j) 0
 -- the node that six words spell, at node i
 abbrev pub formed : List ℕ → ℕ → (kind a b c d e : ℕ) → Node
 formed words i kind a b c d e =
-    cond (wordsFit (kindNamed words i) (fieldsOf kind) a b c d e) (spelled kind a b c d e) IllFormed
+    cond (wordsFit (kindNamed words i) (fieldsOf kind) a b c d e)
+    (record { form = formOf kind a b c d e; a = referenceIn (fieldsOf kind .a) a; b = referenceIn (fieldsOf kind .b) b; c = referenceIn (fieldsOf kind .c) c })
+    (record { form = IllFormed; a = 0; b = 0; c = 0 })
 
 -- node i of the table
 unfoldable pub nodeAt : List ℕ → ℕ → Node
 nodeAt words i =
     formed words i (getD words (i * questionNodeWords) 0) (wordOf words i 1) (wordOf words i 2) (wordOf words i 3) (wordOf words i 4) (wordOf words i 5)
 
-abbrev pub isIllFormed : Node → Bool
+abbrev pub isIllFormed : Form → Bool
 isIllFormed (Table relation) = false
-isIllFormed (Alpha target binding condition) = false
-isIllFormed (Target variable attribute next) = false
-isIllFormed (Binding variable range next) = false
-isIllFormed (RangeOr left right) = false
-isIllFormed (RangeAnd left right) = false
-isIllFormed (RangeAndNot left right) = false
-isIllFormed (AtomNode atom) = false
-isIllFormed (And left right) = false
-isIllFormed (Or left right) = false
-isIllFormed (Not inner) = false
-isIllFormed (Some variable range condition) = false
-isIllFormed (Every variable range condition) = false
+isIllFormed Alpha = false
+isIllFormed (Target variable attribute) = false
+isIllFormed (Binds variable binder) = false
+isIllFormed (Combines combination) = false
+isIllFormed (Compares atom) = false
+isIllFormed (Connects connective) = false
 isIllFormed IllFormed = true
 
 -- the variables that a node speaks of are there
@@ -77,14 +78,12 @@ abbrev pub OperandVariableFits : Operand → Type 0
 OperandVariableFits (Of variable attribute) = variable < variableCount
 OperandVariableFits (Fixed constant) = Unit {0}
 
-abbrev pub RoleFits : Role → Type 0
-RoleFits (Stored relation) = Unit {0}
-RoleFits Opens = Unit {0}
-RoleFits (Takes operand) = OperandVariableFits operand
-RoleFits (Binds variable) = variable < variableCount
-RoleFits Sides = Unit {0}
-RoleFits (Compares left right) = OperandVariableFits left × OperandVariableFits right
-RoleFits Joins = Unit {0}
-
-abbrev pub VariableFits : Node → Type 0
-VariableFits node = RoleFits (roleOf node)
+abbrev pub VariablesFit : Form → Type 0
+VariablesFit (Table relation) = Unit {0}
+VariablesFit Alpha = Unit {0}
+VariablesFit (Target variable attribute) = variable < variableCount
+VariablesFit (Binds variable binder) = variable < variableCount
+VariablesFit (Combines combination) = Unit {0}
+VariablesFit (Compares atom) = (atom .variable < variableCount) × OperandVariableFits (atom .operand)
+VariablesFit (Connects connective) = Unit {0}
+VariablesFit IllFormed = Unit {0}

@@ -5,36 +5,15 @@ use mathlib.Core.Bool.{Bool, cond, not}
 use lib.Dec.{eqb}
 use Rattle.nodes.specs.Nodes.{nodeAt}
 use Rattle.nodes.specs.declared.node.Node.{Node}
-use Rattle.nodes.specs.declared.node.Node.the-variants.{Table, Alpha, Target, Binding, RangeOr, RangeAnd, RangeAndNot, Atom as AtomNode, And, Or, Not, Some, Every, IllFormed}
-use Rattle.nodes.specs.declared.references.References.{References}
 
-abbrev pub three : (first second third : ℕ) → References
-three first second third = record { first = first; second = second; third = third }
-
--- what a node refers to, a range or the bindings before what sees their variables; 0 is none
-abbrev pub references : Node → References
-references (Table relation) = three 0 0 0
-references (Alpha target binding condition) = three binding target condition
-references (Target variable attribute next) = three next 0 0
-references (Binding variable range next) = three range next 0
-references (RangeOr left right) = three left right 0
-references (RangeAnd left right) = three left right 0
-references (RangeAndNot left right) = three left right 0
-references (AtomNode atom) = three 0 0 0
-references (And left right) = three left right 0
-references (Or left right) = three left right 0
-references (Not inner) = three inner 0 0
-references (Some variable range condition) = three range condition 0
-references (Every variable range condition) = three range condition 0
-references IllFormed = three 0 0 0
-
-abbrev pub referenceList : References → List ℕ
-referenceList r = r .first ∷ r .second ∷ r .third ∷ []
+-- what a node refers to; 0 is none
+abbrev pub referenceList : Node → List ℕ
+referenceList node = node .a ∷ node .b ∷ node .c ∷ []
 
 -- the references of the first n nodes
 unfoldable pub referencesTo : List ℕ → ℕ → List ℕ
 referencesTo words zero = []
-referencesTo words (suc n) = referencesTo words n ++ referenceList (references (nodeAt words n))
+referencesTo words (suc n) = referencesTo words n ++ referenceList (nodeAt words n)
 
 -- 1 where a reference names node j, else 0
 abbrev pub hit : ℕ → ℕ → ℕ

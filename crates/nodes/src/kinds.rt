@@ -1,6 +1,6 @@
-// Document 01's table of kinds: what each word of a node is. A new kind is a line of `fields_of`, of `spell` (node.rt), of `references_of` and of `role_of`.
+// Document 01's table of kinds: what each word of a node is. A new kind is a line of `fields_of` and of `form_of` (node.rt).
 ghost use mathlib.Core.Path.{_≡_};
-ghost use Rattle.nodes.specs.Kinds.{isOf, one, two, three, five, fieldsOf};
+ghost use Rattle.nodes.specs.Kinds.{isOf, referenceIn, one, two, three, five, fieldsOf};
 
 pub enum Sort {
     Target,
@@ -40,6 +40,17 @@ pub fn is_of(sort: Sort, kind: u32) -> bool
         Sort::Binding => kind == 4,
         Sort::Range => (kind == 1) | (kind == 2) | ((5 <= kind) & (kind <= 7)),
         Sort::Condition => (8 <= kind) & (kind <= 14),
+    }
+}
+
+// The node that a word names; 0 is none.
+pub fn reference_in(field: Field, word: u32) -> u32
+    ensures { λ r. ⌜ r ≡ referenceIn field word ⌝ }
+{
+    match field {
+        Field::Reference(_) => word,
+        Field::Optional(_) => word,
+        _ => 0,
     }
 }
 
@@ -95,7 +106,7 @@ pub fn fields_of(kind: u32) -> Fields
             Field::Optional(Sort::Binding),
         );
     }
-    if (5 <= kind) & (kind <= 7) {
+    if (kind == 5) | (kind == 6) | (kind == 7) {
         return two(Field::Reference(Sort::Range), Field::Reference(Sort::Range));
     }
     if kind == 8 {

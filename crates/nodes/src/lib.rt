@@ -2,4 +2,3 @@
 pub mod kinds;
 pub mod node;
 pub mod references;
-pub mod roles;

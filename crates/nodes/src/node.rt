@@ -4,10 +4,12 @@ ghost use Prim.Native.Nat.{_+_, _*_, _≤_};
 ghost use lib.ListN.{length};
 ghost use Rattle.relations.specs.Limits.{questionNodeWords};
 ghost use Rattle.nodes.specs.Kinds.{fieldFits};
-ghost use Rattle.nodes.specs.Nodes.{kindNamed, spelled, nodeAt};
+ghost use Rattle.nodes.specs.declared.node.Form.the-variants.{Binds};
+ghost use Rattle.nodes.specs.Nodes.{kindNamed, compares, formOf, nodeAt};
 use crate::kinds::Field;
 use crate::kinds::fields_of;
 use crate::kinds::is_of;
+use crate::kinds::reference_in;
 use relations::limits::ATTRIBUTES;
 use relations::limits::OPERATORS;
 use relations::limits::QUESTION_NODE_WORDS;
@@ -27,62 +29,54 @@ pub struct Atom {
     pub operand: Operand,
 }
 
-// A reference is a node's number plus one; 0, where a field may have none, names no node.
-pub enum Node {
-    Table {
-        relation: u32,
-    },
-    Alpha {
-        target: u32,
-        binding: u32,
-        condition: u32,
-    },
-    // Attribute 0 is the whole row.
-    Target {
-        variable: u32,
-        attribute: u32,
-        next: u32,
-    },
-    Binding {
-        variable: u32,
-        range: u32,
-        next: u32,
-    },
-    RangeOr {
-        left: u32,
-        right: u32,
-    },
-    RangeAnd {
-        left: u32,
-        right: u32,
-    },
-    RangeAndNot {
-        left: u32,
-        right: u32,
-    },
-    Atom(Atom),
-    And {
-        left: u32,
-        right: u32,
-    },
-    Or {
-        left: u32,
-        right: u32,
-    },
-    Not {
-        inner: u32,
-    },
-    Some {
-        variable: u32,
-        range: u32,
-        condition: u32,
-    },
-    Every {
-        variable: u32,
-        range: u32,
-        condition: u32,
-    },
+pub enum Combination {
+    Or,
+    And,
+    AndNot,
+}
+
+pub enum Connective {
+    And,
+    Or,
+    Not,
+}
+
+pub enum Quantifier {
+    Some,
+    Every,
+}
+
+// What binds a variable to the rows of b: a binding, whose c is the next one, or a quantifier, whose c is its condition.
+pub enum Binder {
+    Binding,
+    Quantifies(Quantifier),
+}
+
+// What a node is, but for the nodes that it refers to. Kinds that stand in a scope alike share a case.
+pub enum Form {
+    // 1: the rows of a relation.
+    Table(u32),
+    // 2: opens a scope of its own; a and c see what all of b's bindings bind.
+    Alpha,
+    // 3: an attribute of a variable, or its whole row (attribute 0); c is the next target.
+    Target { variable: u32, attribute: Attribute },
+    // 4, 13, 14: c sees the variable.
+    Binds { variable: u32, binder: Binder },
+    // 5, 6, 7: two ranges of one width, a and b.
+    Combines(Combination),
+    // 8, 9.
+    Compares(Atom),
+    // 10, 11, 12: conditions that see what it sees.
+    Connects(Connective),
     IllFormed,
+}
+
+// A reference is a node's number plus one; 0 names no node. No kind has one in d or e.
+pub struct Node {
+    pub form: Form,
+    pub a: u32,
+    pub b: u32,
+    pub c: u32,
 }
 
 // The kind of the node that a reference of node `i` names: 0, the kind of none, unless that node is lower.
@@ -114,59 +108,54 @@ fn field_fits(words: &[u32], i: usize, field: Field, word: u32) -> bool
     }
 }
 
-// The node of a kind, with its fields as they are.
-fn spell(kind: u32, a: u32, b: u32, c: u32, d: u32, e: u32) -> Node
-    ensures { λ r. ⌜ r ≡ spelled kind a b c d e ⌝ }
+fn binds(variable: u32, binder: Binder) -> Form
+    ensures { λ r. ⌜ r ≡ Binds variable binder ⌝ }
+{
+    Form::Binds { variable, binder }
+}
+
+fn compares(variable: u32, attribute: u32, operator: u32, operand: Operand) -> Form
+    ensures { λ r. ⌜ r ≡ compares variable attribute operator operand ⌝ }
+{
+    Form::Compares(Atom {
+        variable,
+        attribute: Attribute(attribute),
+        operator,
+        operand,
+    })
+}
+
+// What the words of a kind say.
+fn form_of(kind: u32, a: u32, b: u32, c: u32, d: u32, e: u32) -> Form
+    ensures { λ r. ⌜ r ≡ formOf kind a b c d e ⌝ }
 {
     match kind {
-        1 => Node::Table { relation: a },
-        2 => Node::Alpha {
-            target: a,
-            binding: b,
-            condition: c,
-        },
-        3 => Node::Target {
-            variable: a,
-            attribute: b,
-            next: c,
-        },
-        4 => Node::Binding {
-            variable: a,
-            range: b,
-            next: c,
-        },
-        5 => Node::RangeOr { left: a, right: b },
-        6 => Node::RangeAnd { left: a, right: b },
-        7 => Node::RangeAndNot { left: a, right: b },
-        8 => Node::Atom(Atom {
+        1 => Form::Table(a),
+        2 => Form::Alpha,
+        3 => Form::Target {
             variable: a,
             attribute: Attribute(b),
-            operator: c,
-            operand: Operand::Fixed(Constant(d)),
-        }),
-        9 => Node::Atom(Atom {
-            variable: a,
-            attribute: Attribute(b),
-            operator: c,
-            operand: Operand::Of {
+        },
+        4 => binds(a, Binder::Binding),
+        5 => Form::Combines(Combination::Or),
+        6 => Form::Combines(Combination::And),
+        7 => Form::Combines(Combination::AndNot),
+        8 => compares(a, b, c, Operand::Fixed(Constant(d))),
+        9 => compares(
+            a,
+            b,
+            c,
+            Operand::Of {
                 variable: d,
                 attribute: Attribute(e),
             },
-        }),
-        10 => Node::And { left: a, right: b },
-        11 => Node::Or { left: a, right: b },
-        12 => Node::Not { inner: a },
-        13 => Node::Some {
-            variable: a,
-            range: b,
-            condition: c,
-        },
-        14 => Node::Every {
-            variable: a,
-            range: b,
-            condition: c,
-        },
-        _ => Node::IllFormed,
+        ),
+        10 => Form::Connects(Connective::And),
+        11 => Form::Connects(Connective::Or),
+        12 => Form::Connects(Connective::Not),
+        13 => binds(a, Binder::Quantifies(Quantifier::Some)),
+        14 => binds(a, Binder::Quantifies(Quantifier::Every)),
+        _ => Form::IllFormed,
     }
 }
 
@@ -194,7 +183,17 @@ pub fn decode(words: &[u32], i: usize) -> Node
         & field_fits(words, i, fourth, d)
         & field_fits(words, i, fifth, e)
     {
-        return spell(kind, a, b, c, d, e);
+        return Node {
+            form: form_of(kind, a, b, c, d, e),
+            a: reference_in(first, a),
+            b: reference_in(second, b),
+            c: reference_in(third, c),
+        };
     }
-    Node::IllFormed
+    Node {
+        form: Form::IllFormed,
+        a: 0,
+        b: 0,
+        c: 0,
+    }
 }

@@ -76,12 +76,21 @@ field-fits-requires-4 c κs = search needs
 field-fits-requires-5 : tie.Need-field-fits-requires-5
 field-fits-requires-5 c κs = search needs
 
-spell-requires : tie.Need-spell-requires
-spell-requires c κs = search needs
+form-of-requires : tie.Need-form-of-requires
+form-of-requires c κs = search needs
+
+reference-in-requires : tie.Need-reference-in-requires
+reference-in-requires c κs = search needs
+
+reference-in-requires-2 : tie.Need-reference-in-requires-2
+reference-in-requires-2 c κs = search needs
+
+reference-in-requires-3 : tie.Need-reference-in-requires-3
+reference-in-requires-3 c κs = search needs
 
 returns : tie.Need-returns
 unfolding nodeAt
-returns c = simp (c .spell .ensures, rw (c .before .before .before .before .before .before .field-fits .ensures, c .before .before .before .before .before .field-fits2 .ensures, c .before .before .before .before .field-fits3 .ensures, c .before .before .before .field-fits4 .ensures, c .before .before .field-fits5 .ensures, c .before .before .before .before .before .before .before .fields-of .ensures) at (c .before .if1 .taken))
+returns c = simp (c .before .before .before .form-of .ensures, c .before .before .reference-in .ensures, c .before .reference-in2 .ensures, c .reference-in3 .ensures, c .before .before .before .before .before .before .before .before .before .before .fields-of .ensures, rw (c .before .before .before .before .before .before .before .before .before .field-fits .ensures, c .before .before .before .before .before .before .before .before .field-fits2 .ensures, c .before .before .before .before .before .before .before .field-fits3 .ensures, c .before .before .before .before .before .before .field-fits4 .ensures, c .before .before .before .before .before .field-fits5 .ensures, c .before .before .before .before .before .before .before .before .before .before .fields-of .ensures) at (c .before .before .before .before .if1 .taken))
 
 returns-2 : tie.Need-returns-2
 unfolding nodeAt
@@ -115,6 +124,9 @@ decode-spec =
     field-fits-requires-3
     field-fits-requires-4
     field-fits-requires-5
-    spell-requires
+    form-of-requires
+    reference-in-requires
+    reference-in-requires-2
+    reference-in-requires-3
     returns
     returns-2)

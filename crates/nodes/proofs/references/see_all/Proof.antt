@@ -2,7 +2,7 @@
 -- The measure is the number of nodes left. Assumes nothing.
 use Rattle.nodes.proofs.Forms.{node-lower}
 use Rattle.nodes.proofs.Bits.{none-marked, marked-node}
-use Rattle.nodes.specs.declared.references.References.{References}
+use Rattle.nodes.specs.declared.node.Node.{Node}
 use Rattle.nodes.specs.References.{referencesTo}
 use Rattle.nodes.specs.Marks.{Marks}
 use mathlib.Core.Path.{_≡_, ap}
@@ -24,17 +24,14 @@ loop-holds c = (omega arith, none-marked)
 decode-requires : tie.Need-decode-requires Inv-loop μ-loop
 decode-requires c κs = omega arith
 
-references-of-requires : tie.Need-references-of-requires Inv-loop μ-loop
-references-of-requires c κs = tt
-
 see-requires : tie.Need-see-requires Inv-loop μ-loop
-see-requires c κs = omega (arith, node-lower (c .before .before .before .before .before .args .words .now) (c .before .before .before .loop .i) .first-lower, ap (λ (r : References). r .first) (rw (c .before .decode .ensures) at (c .references-of .ensures)))
+see-requires c κs = omega (arith, node-lower (c .before .before .before .before .args .words .now) (c .before .before .loop .i) .a-lower, ap (λ (r : Node). r .a) (c .decode .ensures))
 
 see-requires-2 : tie.Need-see-requires-2 Inv-loop μ-loop
-see-requires-2 c κs = omega (arith, node-lower (c .before .before .before .before .before .before .args .words .now) (c .before .before .before .before .loop .i) .second-lower, ap (λ (r : References). r .second) (rw (c .before .before .decode .ensures) at (c .before .references-of .ensures)))
+see-requires-2 c κs = omega (arith, node-lower (c .before .before .before .before .before .args .words .now) (c .before .before .before .loop .i) .b-lower, ap (λ (r : Node). r .b) (c .before .decode .ensures))
 
 see-requires-3 : tie.Need-see-requires-3 Inv-loop μ-loop
-see-requires-3 c κs = omega (arith, node-lower (c .before .before .before .before .before .before .before .args .words .now) (c .before .before .before .before .before .loop .i) .third-lower, ap (λ (r : References). r .third) (rw (c .before .before .before .decode .ensures) at (c .before .before .references-of .ensures)))
+see-requires-3 c κs = omega (arith, node-lower (c .before .before .before .before .before .before .args .words .now) (c .before .before .before .before .loop .i) .c-lower, ap (λ (r : Node). r .c) (c .before .before .decode .ensures))
 
 add-i : tie.Need-add-i Inv-loop μ-loop
 add-i c = omega arith
@@ -43,8 +40,8 @@ loop-less : tie.Need-loop-less Inv-loop μ-loop
 loop-less c = omega arith
 
 loop-again : tie.Need-loop-again Inv-loop μ-loop
-loop-again c = let r = rw (c .before .before .before .before .decode .ensures) at (c .before .before .before .references-of .ensures) in
-    (omega arith, marked-node (c .before .before .before .before .before .before .before .before .args .words .now) (c .before .before .before .before .before .before .loop .i) (c .before .before .before .before .before .before .loop .inv .1) (rw r at (c .before .before .see .ensures)) (rw r at (c .before .see2 .ensures)) (rw r at (c .see3 .ensures)))
+loop-again c = let r = c .before .before .before .decode .ensures in
+    (omega arith, marked-node (c .before .before .before .before .before .before .before .args .words .now) (c .before .before .before .before .before .loop .i) (c .before .before .before .before .before .loop .inv .1) (rw r at (c .before .before .see .ensures)) (rw r at (c .before .see2 .ensures)) (rw r at (c .see3 .ensures)))
 
 returns : tie.Need-returns Inv-loop μ-loop
 returns c = let e : c .before .loop .i ≡ c .before .before .before .args .nodes = omega arith in rw e at (c .before .loop .inv .1)
@@ -57,7 +54,6 @@ see-all-spec =
     μ-loop
     loop-holds
     decode-requires
-    references-of-requires
     see-requires
     see-requires-2
     see-requires-3
