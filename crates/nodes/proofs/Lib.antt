@@ -1,4 +1,3 @@
 pub mod Tests
-pub mod FieldLaws
 pub mod Bits
 pub mod Forms

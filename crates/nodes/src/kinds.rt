@@ -48,9 +48,14 @@ pub fn reference_in(field: Field, word: u32) -> u32
     ensures { λ r. ⌜ r ≡ referenceIn field word ⌝ }
 {
     match field {
+        Field::Unused => 0,
+        Field::Number => 0,
+        Field::Variable => 0,
+        Field::Attribute => 0,
+        Field::AttributeOrRow => 0,
+        Field::Operator => 0,
         Field::Reference(_) => word,
         Field::Optional(_) => word,
-        _ => 0,
     }
 }
 

@@ -10,7 +10,7 @@ use lib.ListN.{length}
 use borrow.Author.Tests.{leb-true, eqb-true, ne-eqb}
 use Rattle.relations.specs.Limits.{questionNodeLimit, questionNodeWords}
 use Rattle.nodes.specs.Nodes.{nodeCount, nodeAt}
-use Rattle.nodes.specs.References.{references, referenceList, referencesTo, hit, seen, firstFrom, lowest, notOnce}
+use Rattle.nodes.specs.References.{referenceList, referencesTo, hit, seen, firstFrom, lowest, notOnce}
 use Rattle.question.specs.Judgement.{countOk, lastNode, lowestNotOnce}
 use Rattle.nodes.proofs.Bits.{seen-append}
 use Rattle.nodes.proofs.Forms.{node-lower, first-of, second-of, third-of}
@@ -39,8 +39,8 @@ unfolding referencesTo seen
 not-seen words zero j h = refl
 not-seen words (suc n) j h =
     let l = node-lower words n in
-    let r = references (nodeAt words n) in
-    omega (arith, seen-append (referencesTo words n) (referenceList r) j, not-seen words n j (omega arith), missed (r .first) j (omega (arith, l .first-lower)), missed (r .second) j (omega (arith, l .second-lower)), missed (r .third) j (omega (arith, l .third-lower)))
+    let r = nodeAt words n in
+    omega (arith, seen-append (referencesTo words n) (referenceList r) j, not-seen words n j (omega arith), missed (r .a) j (omega (arith, l .a-lower)), missed (r .b) j (omega (arith, l .b-lower)), missed (r .c) j (omega (arith, l .c-lower)))
 
 -- a search ends where its test holds
 cut : (test : ℕ → Bool) (k more j : ℕ) → test (j + k) ≡ true → firstFrom test (suc (k + more)) j ≡ firstFrom test k j

@@ -40,10 +40,10 @@ module _ (catalogue words : List ℕ) {ill : ℕ} (i : ill ≡ lowestIllFormed w
     unfolding judgeNodes
     once-refused h = rw (← i, le-ltb ill (nodeCount words) formed, ← o, lt-ltb once (lastNode words) h)
 
-    pub tree-judged : lastNode words ≤ once → isAlpha (nodeAt words (lastNode words)) ≡ true → judgeTree catalogue words ≡ judgeNodes catalogue words
+    pub tree-judged : lastNode words ≤ once → isAlpha (nodeAt words (lastNode words) .form) ≡ true → judgeTree catalogue words ≡ judgeNodes catalogue words
     unfolding judgeNodes
     tree-judged g h = rw (← i, le-ltb ill (nodeCount words) formed, ← o, le-ltb once (lastNode words) g, h)
 
-    pub last-refused : lastNode words ≤ once → isAlpha (nodeAt words (lastNode words)) ≡ false → Refused 3 (lastNode words) ≡ judgeNodes catalogue words
+    pub last-refused : lastNode words ≤ once → isAlpha (nodeAt words (lastNode words) .form) ≡ false → Refused 3 (lastNode words) ≡ judgeNodes catalogue words
     unfolding judgeNodes
     last-refused g h = rw (← i, le-ltb ill (nodeCount words) formed, ← o, le-ltb once (lastNode words) g, h)

@@ -8,7 +8,6 @@ use native.Mathlib.Omega.{arith}
 use lib.ListN.{length, getD, length-append, List·getD-append}
 use lib.Seq.{getD-at}
 use Rattle.nodes.specs.Nodes.{nodeAt}
-use Rattle.nodes.specs.References.{references}
 use Rattle.question.specs.Trees.{nothing, branch, named, grown, treesBelow, treeOf}
 use Rattle.nodes.proofs.Forms.{node-lower}
 
@@ -32,14 +31,14 @@ module _ (words : List ℕ) where
   named-is n zero h = refl
   named-is n (suc i) h = trees-at n i h
 
-  pub tree-is : (i : ℕ) → treeOf words (suc i) ≡ branch i (nodeAt words i) (treeOf words (references (nodeAt words i) .first)) (treeOf words (references (nodeAt words i) .second)) (treeOf words (references (nodeAt words i) .third))
+  pub tree-is : (i : ℕ) → treeOf words (suc i) ≡ branch i (nodeAt words i .form) (treeOf words (nodeAt words i .a)) (treeOf words (nodeAt words i .b)) (treeOf words (nodeAt words i .c))
   unfolding treeOf
   tree-is i =
       let l = node-lower words i in
-      rw (named-is i (references (nodeAt words i) .first) (l .first-lower), named-is i (references (nodeAt words i) .second) (l .second-lower), named-is i (references (nodeAt words i) .third) (l .third-lower))
+      rw (named-is i (nodeAt words i .a) (l .a-lower), named-is i (nodeAt words i .b) (l .b-lower), named-is i (nodeAt words i .c) (l .c-lower))
 
   pub tree-of-reference : (reference : ℕ) → 1 ≤ reference
-      → treeOf words reference ≡ branch (reference - 1) (nodeAt words (reference - 1)) (treeOf words (references (nodeAt words (reference - 1)) .first)) (treeOf words (references (nodeAt words (reference - 1)) .second)) (treeOf words (references (nodeAt words (reference - 1)) .third))
+      → treeOf words reference ≡ branch (reference - 1) (nodeAt words (reference - 1) .form) (treeOf words (nodeAt words (reference - 1) .a)) (treeOf words (nodeAt words (reference - 1) .b)) (treeOf words (nodeAt words (reference - 1) .c))
   tree-of-reference zero h = absurd (omega arith)
   tree-of-reference (suc i) h =
       let e : suc i - 1 ≡ i = omega arith in

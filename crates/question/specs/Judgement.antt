@@ -8,10 +8,8 @@ use Rattle.relations.specs.Limits.{questionNodeLimit, questionNodeWords}
 use Rattle.nodes.specs.Nodes.{nodeCount, nodeAt, isIllFormed}
 use Rattle.nodes.specs.References.{referencesTo, lowest, notOnce}
 use Rattle.catalogue.specs.Stored.{relationsOf}
-use Rattle.nodes.specs.Roles.{roleOf}
-use Rattle.nodes.specs.declared.roles.Role.{Role}
-use Rattle.nodes.specs.declared.roles.Role.the-variants.{Stored, Opens, Takes, Binds, Sides, Compares, Joins}
-use Rattle.nodes.specs.declared.node.Node.{Node}
+use Rattle.nodes.specs.declared.node.Form.{Form}
+use Rattle.nodes.specs.declared.node.Form.the-variants.{Table, Alpha, Target, Binds, Combines, Compares, Connects, IllFormed}
 use Rattle.question.specs.declared.judgement.Judgement.{Judgement}
 use Rattle.question.specs.declared.judgement.Judgement.the-variants.{Accepted, Refused}
 
@@ -22,34 +20,30 @@ countOk words = eqb (length words % questionNodeWords) 0 && leb 1 (nodeCount wor
 abbrev pub judgeCount : List ℕ → Judgement
 judgeCount words = cond (countOk words) Accepted (Refused 1 0)
 
-abbrev pub isAlphaRole : Role → Bool
-isAlphaRole (Stored relation) = false
-isAlphaRole Opens = true
-isAlphaRole (Takes operand) = false
-isAlphaRole (Binds variable) = false
-isAlphaRole Sides = false
-isAlphaRole (Compares left right) = false
-isAlphaRole Joins = false
+abbrev pub isAlpha : Form → Bool
+isAlpha (Table relation) = false
+isAlpha Alpha = true
+isAlpha (Target variable attribute) = false
+isAlpha (Binds variable binder) = false
+isAlpha (Combines combination) = false
+isAlpha (Compares atom) = false
+isAlpha (Connects connective) = false
+isAlpha IllFormed = false
 
-abbrev pub isAlpha : Node → Bool
-isAlpha node = isAlphaRole (roleOf node)
-
-abbrev pub isUnknownRole : ℕ → Role → Bool
-isUnknownRole relations (Stored relation) = leb relations relation
-isUnknownRole relations Opens = false
-isUnknownRole relations (Takes operand) = false
-isUnknownRole relations (Binds variable) = false
-isUnknownRole relations Sides = false
-isUnknownRole relations (Compares left right) = false
-isUnknownRole relations Joins = false
-
-abbrev pub isUnknown : ℕ → Node → Bool
-isUnknown relations node = isUnknownRole relations (roleOf node)
+abbrev pub isUnknown : ℕ → Form → Bool
+isUnknown relations (Table relation) = leb relations relation
+isUnknown relations Alpha = false
+isUnknown relations (Target variable attribute) = false
+isUnknown relations (Binds variable binder) = false
+isUnknown relations (Combines combination) = false
+isUnknown relations (Compares atom) = false
+isUnknown relations (Connects connective) = false
+isUnknown relations IllFormed = false
 
 module _ (words : List ℕ) where
   -- 2: "a word breaks the node's form": "lowest such node"
   abbrev pub lowestIllFormed : ℕ
-  lowestIllFormed = lowest (λ i. isIllFormed (nodeAt words i)) (nodeCount words)
+  lowestIllFormed = lowest (λ i. isIllFormed (nodeAt words i .form)) (nodeCount words)
 
   -- 3: "a node but the last isn't referenced exactly once; else the last isn't an alpha"
   abbrev pub lastNode : ℕ
@@ -61,4 +55,4 @@ module _ (words : List ℕ) where
 module _ (catalogue words : List ℕ) where
   -- 4: "unknown relation": "lowest table node"
   abbrev pub lowestUnknown : ℕ
-  lowestUnknown = lowest (λ i. isUnknown (relationsOf catalogue) (nodeAt words i)) (nodeCount words)
+  lowestUnknown = lowest (λ i. isUnknown (relationsOf catalogue) (nodeAt words i .form)) (nodeCount words)

@@ -7,17 +7,24 @@ use Rattle.relations.specs.Comparison.{equal, operatorNamed}
 use Rattle.relations.specs.Columns.{attribute, constant}
 use Rattle.calculus.specs.Question as calculus
 use Rattle.nodes.specs.Nodes.{nodeAt, nodeCount}
-use Rattle.nodes.specs.References.{references}
 use Rattle.nodes.specs.declared.node.Operand.{Operand}
 use Rattle.nodes.specs.declared.node.Operand.the-variants.{Of, Fixed}
 use Rattle.nodes.specs.declared.node.Atom.{Atom}
-use Rattle.nodes.specs.declared.node.Node.{Node}
-use Rattle.nodes.specs.declared.node.Node.the-variants.{Table, Alpha, Target, Binding, RangeOr, RangeAnd, RangeAndNot, Atom as AtomNode, And, Or, Not, Some, Every, IllFormed}
+use Rattle.nodes.specs.declared.node.Combination.{Combination}
+use Rattle.nodes.specs.declared.node.Combination.the-variants as combination
+use Rattle.nodes.specs.declared.node.Connective.{Connective}
+use Rattle.nodes.specs.declared.node.Connective.the-variants as connective
+use Rattle.nodes.specs.declared.node.Quantifier.{Quantifier}
+use Rattle.nodes.specs.declared.node.Quantifier.the-variants as quantifier
+use Rattle.nodes.specs.declared.node.Binder.{Binder}
+use Rattle.nodes.specs.declared.node.Binder.the-variants.{Binding, Quantifies}
+use Rattle.nodes.specs.declared.node.Form.{Form}
+use Rattle.nodes.specs.declared.node.Form.the-variants.{Table, Alpha, Target, Binds, Combines, Compares, Connects, IllFormed}
 
--- a node with its number, and the trees of its three references
+-- a node's number and form, and the trees of the nodes that its a, b and c name
 pub data Tree : Type 0 where
   nothing : Tree
-  branch : ℕ → Node → Tree → Tree → Tree → Tree
+  branch : ℕ → Form → Tree → Tree → Tree → Tree
 
 -- the tree that a reference names, among the trees of the nodes in order; 0 names none
 abbrev pub named : List Tree → ℕ → Tree
@@ -26,8 +33,7 @@ named trees (suc i) = getD trees i nothing
 
 module _ (words : List ℕ) where
   abbrev pub grown : ℕ → List Tree → Tree
-  grown i below =
-      branch i (nodeAt words i) (named below (references (nodeAt words i) .first)) (named below (references (nodeAt words i) .second)) (named below (references (nodeAt words i) .third))
+  grown i below = branch i (nodeAt words i .form) (named below (nodeAt words i .a)) (named below (nodeAt words i .b)) (named below (nodeAt words i .c))
 
   unfoldable pub treesBelow : ℕ → List Tree
   treesBelow zero = []
@@ -44,7 +50,7 @@ module _ (words : List ℕ) where
 
 unfoldable pub treeNodes : Tree → ℕ
 treeNodes nothing = 0
-treeNodes (branch i node first second third) = treeNodes first + treeNodes second + treeNodes third + 1
+treeNodes (branch i form a b c) = treeNodes a + treeNodes b + treeNodes c + 1
 
 -- What a tree is as a part of `calculus`' question, whatever its place asks for; sorts that do not fit give something that refusal 2 shuts out.
 pub record Reading : Type 0 where
@@ -72,8 +78,14 @@ noCondition = calculus.atom (calculus.compare 0 (attribute 0) equal (calculus.fi
 abbrev pub blank : Reading
 blank = record { targets = []; range = calculus.table 0; bindings = calculus.noMore; restriction = calculus.noCondition; condition = noCondition }
 
+abbrev pub someTargets : List calculus.Target → Reading
+someTargets targets = record { targets = targets; range = calculus.table 0; bindings = calculus.noMore; restriction = calculus.noCondition; condition = noCondition }
+
 abbrev pub aRange : calculus.Range → Reading
 aRange range = record { targets = []; range = range; bindings = calculus.noMore; restriction = calculus.noCondition; condition = noCondition }
+
+abbrev pub someBindings : calculus.Bindings → Reading
+someBindings bindings = record { targets = []; range = calculus.table 0; bindings = bindings; restriction = calculus.noCondition; condition = noCondition }
 
 abbrev pub aCondition : calculus.Condition → Reading
 aCondition condition = record { targets = []; range = calculus.table 0; bindings = calculus.noMore; restriction = calculus.onCondition condition; condition = condition }
@@ -83,28 +95,38 @@ abbrev pub alphaOf : List calculus.Target → calculus.Bindings → calculus.May
 alphaOf targets calculus.noMore restriction = calculus.table 0
 alphaOf targets (calculus.bind variable range bindings) restriction = calculus.alpha targets variable range bindings restriction
 
--- a node's reading, from those of its references
-abbrev pub readingOf : Node → (first second third : Reading) → Reading
-readingOf (Table relation) first second third = aRange (calculus.table relation)
-readingOf (Alpha target binding condition) first second third = aRange (alphaOf (second .targets) (first .bindings) (third .restriction))
-readingOf (Target variable number next) first second third =
-    record { targets = targetOf variable number ∷ first .targets; range = calculus.table 0; bindings = calculus.noMore; restriction = calculus.noCondition; condition = noCondition }
-readingOf (Binding variable range next) first second third =
-    record { targets = []; range = calculus.table 0; bindings = calculus.bind variable (first .range) (second .bindings); restriction = calculus.noCondition; condition = noCondition }
-readingOf (RangeOr left right) first second third = aRange (calculus.rangeOr (first .range) (second .range))
-readingOf (RangeAnd left right) first second third = aRange (calculus.rangeAnd (first .range) (second .range))
-readingOf (RangeAndNot left right) first second third = aRange (calculus.rangeAndNot (first .range) (second .range))
-readingOf (AtomNode atom) first second third = aCondition (calculus.atom (atomOf atom))
-readingOf (And left right) first second third = aCondition (calculus.conditionAnd (first .condition) (second .condition))
-readingOf (Or left right) first second third = aCondition (calculus.conditionOr (first .condition) (second .condition))
-readingOf (Not inner) first second third = aCondition (calculus.conditionNot (first .condition))
-readingOf (Some variable range condition) first second third = aCondition (calculus.forSome variable (first .range) (second .condition))
-readingOf (Every variable range condition) first second third = aCondition (calculus.forEvery variable (first .range) (second .condition))
-readingOf IllFormed first second third = blank
+abbrev pub combined : Combination → (left right : calculus.Range) → calculus.Range
+combined combination.Or left right = calculus.rangeOr left right
+combined combination.And left right = calculus.rangeAnd left right
+combined combination.AndNot left right = calculus.rangeAndNot left right
+
+abbrev pub connected : Connective → (left right : calculus.Condition) → calculus.Condition
+connected connective.And left right = calculus.conditionAnd left right
+connected connective.Or left right = calculus.conditionOr left right
+connected connective.Not left right = calculus.conditionNot left
+
+abbrev pub quantified : Quantifier → ℕ → calculus.Range → calculus.Condition → calculus.Condition
+quantified quantifier.Some variable range condition = calculus.forSome variable range condition
+quantified quantifier.Every variable range condition = calculus.forEvery variable range condition
+
+abbrev pub binderReading : Binder → ℕ → (b c : Reading) → Reading
+binderReading Binding variable b c = someBindings (calculus.bind variable (b .range) (c .bindings))
+binderReading (Quantifies quantifier) variable b c = aCondition (quantified quantifier variable (b .range) (c .condition))
+
+-- a node's reading, from those of its a, b and c
+abbrev pub readingOf : Form → (a b c : Reading) → Reading
+readingOf (Table relation) a b c = aRange (calculus.table relation)
+readingOf Alpha a b c = aRange (alphaOf (a .targets) (b .bindings) (c .restriction))
+readingOf (Target variable number) a b c = someTargets (targetOf variable (number .0) ∷ c .targets)
+readingOf (Binds variable binder) a b c = binderReading binder variable b c
+readingOf (Combines combination) a b c = aRange (combined combination (a .range) (b .range))
+readingOf (Compares atom) a b c = aCondition (calculus.atom (atomOf atom))
+readingOf (Connects connective) a b c = aCondition (connected connective (a .condition) (b .condition))
+readingOf IllFormed a b c = blank
 
 unfoldable pub reading : Tree → Reading
 reading nothing = blank
-reading (branch i node first second third) = readingOf node (reading first) (reading second) (reading third)
+reading (branch i form a b c) = readingOf form (reading a) (reading b) (reading c)
 
 -- the question of a table
 abbrev pub questionOf : List ℕ → calculus.Range

@@ -9,15 +9,13 @@ use lib.Dec.{ltb, eqb}
 use lib.ListN.{length, getD, set, replicate}
 use Rattle.relations.specs.Limits.{columnLimit, questionNodeLimit, variableCount}
 use Rattle.catalogue.specs.Stored.{columnsOf}
-use Rattle.nodes.specs.Roles.{roleOf}
-use Rattle.nodes.specs.declared.roles.Role.{Role}
-use Rattle.nodes.specs.declared.roles.Role.the-variants.{Stored, Opens, Takes, Binds, Sides, Compares, Joins}
 use Rattle.nodes.specs.Nodes.{nodeCount, nodeAt}
 use Rattle.question.specs.Trees.{Tree, nothing, branch, questionTree}
 use Rattle.question.specs.Judgement.{countOk, isAlpha, lowestIllFormed, lastNode, lowestNotOnce, lowestUnknown}
 use Rattle.nodes.specs.declared.node.Operand.{Operand}
 use Rattle.nodes.specs.declared.node.Operand.the-variants.{Of, Fixed}
-use Rattle.nodes.specs.declared.node.Node.{Node}
+use Rattle.nodes.specs.declared.node.Form.{Form}
+use Rattle.nodes.specs.declared.node.Form.the-variants.{Table, Alpha, Target, Binds, Combines, Compares, Connects, IllFormed}
 use Rattle.question.specs.declared.judgement.Judgement.{Judgement}
 use Rattle.question.specs.declared.judgement.Judgement.the-variants.{Accepted, Refused}
 
@@ -44,14 +42,15 @@ abbrev pub bind : List ℕ → ℕ → ℕ → List ℕ
 bind scope variable width = set (set scope variable (boundWidth width)) variableCount (addWidths (columnsKept scope) width)
 
 -- the variable that a node binds; none is one past the last
-abbrev pub boundBy : Role → ℕ
-boundBy (Stored relation) = variableCount
-boundBy Opens = variableCount
-boundBy (Takes operand) = variableCount
-boundBy (Binds variable) = variable
-boundBy Sides = variableCount
-boundBy (Compares left right) = variableCount
-boundBy Joins = variableCount
+abbrev pub boundBy : Form → ℕ
+boundBy (Table relation) = variableCount
+boundBy Alpha = variableCount
+boundBy (Target variable attribute) = variableCount
+boundBy (Binds variable binder) = variable
+boundBy (Combines combination) = variableCount
+boundBy (Compares atom) = variableCount
+boundBy (Connects connective) = variableCount
+boundBy IllFormed = variableCount
 
 abbrev pub entered : List ℕ → (variable width : ℕ) → List ℕ
 entered scope variable width = cond (ltb variable variableCount) (bind scope variable width) scope
@@ -67,10 +66,6 @@ operandUnfitAt scope (Fixed constant) = false
 abbrev pub targetWidthKept : List ℕ → (variable attribute : ℕ) → ℕ
 targetWidthKept scope variable attribute = cond (eqb attribute 0) (widthKept scope variable) 1
 
-abbrev pub takenWidth : List ℕ → Operand → ℕ
-takenWidth scope (Of variable attribute) = targetWidthKept scope variable (attribute .0)
-takenWidth scope (Fixed constant) = 1
-
 -- What the walk of a tree finds: the lowest places of 5 and 6, the node limit where there is none; its width as a range, or as targets; the
 -- scope behind it, which only bindings change.
 pub record Found : Type 0 where
@@ -79,81 +74,68 @@ pub record Found : Type 0 where
   pub width : ℕ
   pub scope : List ℕ
 
--- What the walk asks of a node that stands in a scope.
+-- What the walk asks of a node that stands in a scope: b is walked first, then a and c.
 pub record Step : Type 0 where
-  -- the scope of its first part, and that of the others, from what the first one gave
+  -- the scope of b, and that of a and c, from what b gave
   pub opening : List ℕ
   pub inside : Found → List ℕ
-  -- the scope behind it, from what its second part gave
+  -- the scope behind it, from what c gave
   pub behind : Found → List ℕ
-  -- whether it is at fault by 5; by 6, from the widths of its first two parts
+  -- whether it is at fault by 5; by 6, from the widths of a and b
   pub unbound : Bool
-  pub unfit : (first second : ℕ) → Bool
-  -- its width as a range, or as targets from it on, from those widths and the catalogue's columns
-  pub width : (columns : ℕ → ℕ) (first second : ℕ) → ℕ
+  pub unfit : (a b : ℕ) → Bool
+  -- its width as a range, or as targets from it on, from the widths of a and c and the catalogue's columns
+  pub width : (columns : ℕ → ℕ) (a c : ℕ) → ℕ
 
 -- a node whose parts see what it sees
-abbrev pub stay : List ℕ → Bool → ((first second : ℕ) → Bool) → ((columns : ℕ → ℕ) (first second : ℕ) → ℕ) → Step
-stay scope unbound unfit width = record { opening = scope; inside = λ first. scope; behind = λ second. scope; unbound = unbound; unfit = unfit; width = width }
+abbrev pub stay : List ℕ → Bool → ((a b : ℕ) → Bool) → ((columns : ℕ → ℕ) (a c : ℕ) → ℕ) → Step
+stay scope unbound unfit width = record { opening = scope; inside = λ b. scope; behind = λ c. scope; unbound = unbound; unfit = unfit; width = width }
 
-abbrev pub stepOf : List ℕ → Role → Step
-stepOf scope (Stored relation) = stay scope false (λ first second. false) (λ columns first second. columns relation)
-stepOf scope Opens = record { opening = noWidths; inside = λ first. first .scope; behind = λ second. scope; unbound = false; unfit = λ first second. ltb columnLimit second; width = λ columns first second. second }
-stepOf scope (Takes operand) = stay scope (operandUnboundAt scope operand) (λ first second. operandUnfitAt scope operand) (λ columns first second. addWidths (takenWidth scope operand) first)
-stepOf scope (Binds variable) =
+abbrev pub stepOf : List ℕ → Form → Step
+stepOf scope (Table relation) = stay scope false (λ a b. false) (λ columns a c. columns relation)
+stepOf scope Alpha = record { opening = noWidths; inside = λ b. b .scope; behind = λ c. scope; unbound = false; unfit = λ a b. ltb columnLimit a; width = λ columns a c. a }
+stepOf scope (Target variable attribute) =
+    stay scope (eqb (widthKept scope variable) 0) (λ a b. ltb (widthKept scope variable) (attribute .0)) (λ columns a c. addWidths (targetWidthKept scope variable (attribute .0)) c)
+stepOf scope (Binds variable binder) =
     record {
       opening = scope;
-      inside = λ first. bind scope variable (first .width);
-      behind = λ second. second .scope;
+      inside = λ b. bind scope variable (b .width);
+      behind = λ c. c .scope;
       unbound = ltb 0 (widthKept scope variable);
-      unfit = λ first second. ltb columnLimit (addWidths (columnsKept scope) first);
-      width = λ columns first second. 0;
+      unfit = λ a b. ltb columnLimit (addWidths (columnsKept scope) b);
+      width = λ columns a c. 0;
     }
-stepOf scope Sides = stay scope false (λ first second. not (eqb first second)) (λ columns first second. first)
-stepOf scope (Compares left right) = stay scope (operandUnboundAt scope left || operandUnboundAt scope right) (λ first second. operandUnfitAt scope left || operandUnfitAt scope right) (λ columns first second. 0)
-stepOf scope Joins = stay scope false (λ first second. false) (λ columns first second. 0)
-
--- its parts, each the contract of a function
-abbrev pub opening : Node → List ℕ → List ℕ
-opening node scope = stepOf scope (roleOf node) .opening
-
-abbrev pub inside : Node → List ℕ → Found → List ℕ
-inside node scope first = stepOf scope (roleOf node) .inside first
-
-abbrev pub unboundAt : Node → List ℕ → Bool
-unboundAt node scope = stepOf scope (roleOf node) .unbound
-
-abbrev pub unfitAt : Node → List ℕ → (first second : ℕ) → Bool
-unfitAt node scope first second = stepOf scope (roleOf node) .unfit first second
-
-abbrev pub widthFound : (ℕ → ℕ) → Node → List ℕ → (first second : ℕ) → ℕ
-widthFound columns node scope first second = stepOf scope (roleOf node) .width columns first second
+stepOf scope (Combines combination) = stay scope false (λ a b. not (eqb a b)) (λ columns a c. a)
+stepOf scope (Compares atom) =
+    stay scope (eqb (widthKept scope (atom .variable)) 0 || operandUnboundAt scope (atom .operand)) (λ a b. ltb (widthKept scope (atom .variable)) (atom .attribute .0) || operandUnfitAt scope (atom .operand)) (λ columns a c. 0)
+stepOf scope (Connects connective) = stay scope false (λ a b. false) (λ columns a c. 0)
+stepOf scope IllFormed = stay scope false (λ a b. false) (λ columns a c. 0)
 
 -- a node's own place, where it is at fault
 abbrev pub placeOf : Bool → ℕ → ℕ
 placeOf fault i = cond fault i questionNodeLimit
 
 -- the lowest of it and of those found below
-abbrev pub lowestOf : Bool → (i first second third : ℕ) → ℕ
-lowestOf fault i first second third = min (placeOf fault i) (min first (min second third))
+abbrev pub lowestOf : Bool → (i a b c : ℕ) → ℕ
+lowestOf fault i a b c = min (placeOf fault i) (min a (min b c))
 
-abbrev pub foundAt : (ℕ → ℕ) → ℕ → Node → List ℕ → (first second third : Found) → Found
-foundAt columns i node scope first second third =
+abbrev pub foundAt : (ℕ → ℕ) → ℕ → Step → (a b c : Found) → Found
+foundAt columns i step a b c =
     record {
-      unbound = lowestOf (unboundAt node scope) i (first .unbound) (second .unbound) (third .unbound);
-      unfit = lowestOf (unfitAt node scope (first .width) (second .width)) i (first .unfit) (second .unfit) (third .unfit);
-      width = widthFound columns node scope (first .width) (second .width);
-      scope = stepOf scope (roleOf node) .behind second;
+      unbound = lowestOf (step .unbound) i (a .unbound) (b .unbound) (c .unbound);
+      unfit = lowestOf (step .unfit (a .width) (b .width)) i (a .unfit) (b .unfit) (c .unfit);
+      width = step .width columns (a .width) (c .width);
+      scope = step .behind c;
     }
 
 -- All faults of the tree are looked for, so none hides another; behind the last binding the scope is what all bound.
 unfoldable pub walk : (ℕ → ℕ) → Tree → List ℕ → Found
 walk columns nothing scope = record { unbound = questionNodeLimit; unfit = questionNodeLimit; width = 0; scope = scope }
-walk columns (branch i node first second third) scope =
-    foundAt columns i node scope
-    (walk columns first (opening node scope))
-    (walk columns second (inside node scope (walk columns first (opening node scope))))
-    (walk columns third (inside node scope (walk columns first (opening node scope))))
+walk columns (branch i form a b c) scope =
+    foundAt columns i (stepOf scope form)
+    (walk columns a (stepOf scope form .inside (walk columns b (stepOf scope form .opening))))
+    (walk columns b (stepOf scope form .opening))
+    (walk columns c (stepOf scope form .inside (walk columns b (stepOf scope form .opening))))
 
 -- What a call of the code leaves in the lent arrays: the scope, and the two lowest places so far with those that the tree has.
 abbrev pub lowered : List ℕ → (unbound unfit : ℕ) → List ℕ
@@ -168,11 +150,11 @@ pub record JudgedAt : Type 0 where
   pub width : ℕ
   pub lowest : List ℕ
 
-abbrev pub judgedAt : (ℕ → ℕ) → Role → ℕ → (scope : List ℕ) (first second : ℕ) (lowest : List ℕ) → JudgedAt
-judgedAt columns role i scope first second lowest =
+abbrev pub judgedAt : (ℕ → ℕ) → Form → ℕ → (scope : List ℕ) (a b c : ℕ) (lowest : List ℕ) → JudgedAt
+judgedAt columns form i scope a b c lowest =
     record {
-      width = stepOf scope role .width columns first second;
-      lowest = lowered lowest (placeOf (stepOf scope role .unbound) i) (placeOf (stepOf scope role .unfit first second) i);
+      width = stepOf scope form .width columns a c;
+      lowest = lowered lowest (placeOf (stepOf scope form .unbound) i) (placeOf (stepOf scope form .unfit a b) i);
     }
 
 pub record BindingsWalked : Type 0 where
@@ -208,7 +190,7 @@ module _ (catalogue words : List ℕ) where
   judgeNodes =
       cond (ltb (lowestIllFormed words) (nodeCount words)) (Refused 2 (lowestIllFormed words))
       (cond (ltb (lowestNotOnce words) (lastNode words)) (Refused 3 (lowestNotOnce words))
-      (cond (isAlpha (nodeAt words (lastNode words))) judgeTree (Refused 3 (lastNode words))))
+      (cond (isAlpha (nodeAt words (lastNode words) .form)) judgeTree (Refused 3 (lastNode words))))
 
   -- and 1 before all
   unfoldable pub judgedByWalk : Judgement

@@ -7,15 +7,13 @@ ghost use Rattle.question.specs.declared.judgement.Judgement.the-variant
 ghost use Rattle.relations.specs.Limits.{questionNodeLimit, questionNodeWords};
 ghost use Rattle.nodes.specs.Nodes.{nodeCount, nodeAt, isIllFormed};
 ghost use Rattle.nodes.specs.References.{lowest};
-ghost use Rattle.question.specs.Judgement.{countOk, judgeCount, isAlphaRole, isUnknownRole, isUnknown};
+ghost use Rattle.question.specs.Judgement.{countOk, judgeCount, isAlpha, isUnknown};
 ghost use Rattle.question.specs.Walk.{judgeTree, judgeNodes, judgedByWalk};
 use crate::walking::SCOPE;
 use crate::walking::walk;
-use nodes::node::Node;
+use nodes::node::Form;
 use nodes::node::decode;
 use nodes::references::lowest_not_once;
-use nodes::roles::Role;
-use nodes::roles::role_of;
 use relations::limits::QUESTION_NODE_WORDS;
 use relations::limits::QUESTION_NODES;
 
@@ -47,83 +45,85 @@ pub fn judge_count(words: &[u32]) -> Judgement
     refused(1, 0)
 }
 
-fn is_ill_formed(node: Node) -> bool
-    ensures { λ r. ⌜ r ≡ isIllFormed node ⌝ }
+pub fn form_at(words: &[u32], i: usize) -> Form
+    requires { ⌜ i * questionNodeWords + questionNodeWords ≤ length (now words) ⌝ }
+    ensures { λ r. ⌜ r ≡ nodeAt (now (words .entry)) i .form ⌝ }
 {
-    match node {
-        Node::Table { relation: _ } => false,
-        Node::Alpha {
-            target: _,
-            binding: _,
-            condition: _,
-        } => false,
-        Node::Target {
+    let node = decode(words, i);
+    node.form
+}
+
+fn is_ill_formed(form: Form) -> bool
+    ensures { λ r. ⌜ r ≡ isIllFormed form ⌝ }
+{
+    match form {
+        Form::Table(_) => false,
+        Form::Alpha => false,
+        Form::Target {
             variable: _,
             attribute: _,
-            next: _,
         } => false,
-        Node::Binding {
+        Form::Binds {
             variable: _,
-            range: _,
-            next: _,
+            binder: _,
         } => false,
-        Node::RangeOr { left: _, right: _ } => false,
-        Node::RangeAnd { left: _, right: _ } => false,
-        Node::RangeAndNot { left: _, right: _ } => false,
-        Node::Atom(_) => false,
-        Node::And { left: _, right: _ } => false,
-        Node::Or { left: _, right: _ } => false,
-        Node::Not { inner: _ } => false,
-        Node::Some {
-            variable: _,
-            range: _,
-            condition: _,
-        } => false,
-        Node::Every {
-            variable: _,
-            range: _,
-            condition: _,
-        } => false,
-        Node::IllFormed => true,
+        Form::Combines(_) => false,
+        Form::Compares(_) => false,
+        Form::Connects(_) => false,
+        Form::IllFormed => true,
     }
 }
 
-pub fn is_alpha(role: Role) -> bool
-    ensures { λ r. ⌜ r ≡ isAlphaRole role ⌝ }
+pub fn is_alpha(form: Form) -> bool
+    ensures { λ r. ⌜ r ≡ isAlpha form ⌝ }
 {
-    match role {
-        Role::Stored(_) => false,
-        Role::Opens => true,
-        Role::Takes(_) => false,
-        Role::Binds(_) => false,
-        Role::Sides => false,
-        Role::Compares { left: _, right: _ } => false,
-        Role::Joins => false,
+    match form {
+        Form::Table(_) => false,
+        Form::Alpha => true,
+        Form::Target {
+            variable: _,
+            attribute: _,
+        } => false,
+        Form::Binds {
+            variable: _,
+            binder: _,
+        } => false,
+        Form::Combines(_) => false,
+        Form::Compares(_) => false,
+        Form::Connects(_) => false,
+        Form::IllFormed => false,
     }
 }
 
-fn is_unknown(relations: usize, role: Role) -> bool
-    ensures { λ r. ⌜ r ≡ isUnknownRole relations role ⌝ }
+fn is_unknown(relations: usize, form: Form) -> bool
+    ensures { λ r. ⌜ r ≡ isUnknown relations form ⌝ }
 {
-    match role {
-        Role::Stored(relation) => relations <= (relation as usize),
-        Role::Opens => false,
-        Role::Takes(_) => false,
-        Role::Binds(_) => false,
-        Role::Sides => false,
-        Role::Compares { left: _, right: _ } => false,
-        Role::Joins => false,
+    match form {
+        Form::Table(relation) => relations <= (relation as usize),
+        Form::Alpha => false,
+        Form::Target {
+            variable: _,
+            attribute: _,
+        } => false,
+        Form::Binds {
+            variable: _,
+            binder: _,
+        } => false,
+        Form::Combines(_) => false,
+        Form::Compares(_) => false,
+        Form::Connects(_) => false,
+        Form::IllFormed => false,
     }
 }
 
 // Refusal 2: the lowest node whose words break its form, or the number of nodes.
 fn lowest_ill_formed(words: &[u32], nodes: usize) -> usize
     requires { ⌜ nodes * questionNodeWords ≤ length (now words) ⌝ }
-    ensures { λ r. ⌜ r ≡ lowest (λ i. isIllFormed (nodeAt (now (words .entry)) i)) nodes ⌝ }
+    ensures { λ r. ⌜ r ≡ lowest (λ i. isIllFormed (nodeAt (now (words .entry)) i .form)) nodes ⌝ }
 {
     let mut i = 0;
     while i < nodes {
-        if is_ill_formed(decode(words, i)) {
+        if is_ill_formed(form_at(words, i)) {
             return i;
         }
         i += 1;
@@ -134,11 +134,11 @@ fn lowest_ill_formed(words: &[u32], nodes: usize) -> usize
 // Refusal 4: the lowest table node with an unknown relation, or the number of nodes.
 fn lowest_unknown(relations: usize, words: &[u32], nodes: usize) -> usize
     requires { ⌜ nodes * questionNodeWords ≤ length (now words) ⌝ }
-    ensures { λ r. ⌜ r ≡ lowest (λ i. isUnknown relations (nodeAt (now (words .entry)) i)) nodes ⌝ }
+    ensures { λ r. ⌜ r ≡ lowest (λ i. isUnknown relations (nodeAt (now (words .entry)) i .form)) nodes ⌝ }
 {
     let mut i = 0;
     while i < nodes {
-        if is_unknown(relations, role_of(decode(words, i))) {
+        if is_unknown(relations, form_at(words, i)) {
             return i;
         }
         i += 1;
@@ -182,7 +182,7 @@ fn judge_nodes(catalogue: &[u32], words: &[u32]) -> Judgement
     if not_once < last as u32 {
         return refused(3, not_once);
     }
-    if is_alpha(role_of(decode(words, last))) {
+    if is_alpha(form_at(words, last)) {
         return judge_tree(catalogue, words, nodes);
     }
     refused(3, last as u32)

@@ -4,21 +4,20 @@ ghost use mathlib.Core.Path.{_≡_};
 ghost use Prim.Native.Nat.{_+_, _*_, _≤_, _<_, min};
 ghost use lib.ListN.{length};
 ghost use Rattle.relations.specs.Limits.{questionNodeWords, variableCount};
-ghost use Rattle.nodes.specs.Nodes.{nodeAt, RoleFits, OperandVariableFits};
-ghost use Rattle.nodes.specs.Roles.{roleOf};
+ghost use Rattle.nodes.specs.Nodes.{nodeAt, VariablesFit, OperandVariableFits};
 ghost use Rattle.catalogue.specs.Stored.{columnsOf};
 ghost use Rattle.question.specs.Trees.{treeOf};
-ghost use Rattle.question.specs.Walk.{widthKept, columnsKept, addWidths, boundWidth, bind, boundBy, entered, operandUnboundAt, operandUnfitAt, takenWidth, stepOf, placeOf, PlacesSoFar, judgedAt, walked, bindingsWalked};
+ghost use Rattle.question.specs.Walk.{widthKept, columnsKept, addWidths, boundWidth, bind, boundBy, entered, operandUnboundAt, operandUnfitAt, targetWidthKept, stepOf, placeOf, PlacesSoFar, judgedAt, walked, bindingsWalked};
+use crate::judgement::form_at;
 use crate::judgement::is_alpha;
 use catalogue::stored::columns_of;
+use nodes::node::Form;
 use nodes::node::Operand;
 use nodes::node::decode;
-use nodes::references::references_of;
-use nodes::roles::Role;
-use nodes::roles::role_of;
 use relations::limits::COLUMNS;
 use relations::limits::QUESTION_NODES;
 use relations::limits::VARIABLES;
+use terms::attribute::Attribute;
 
 const MOST_COLUMNS: u32 = COLUMNS as u32;
 
@@ -86,21 +85,28 @@ fn bind(scope: &mut [u8; SCOPE], variable: u32, width: u32)
 }
 
 // The variable that a node binds; none is one past the last, where the columns stand.
-fn bound_by(role: Role) -> u32
-    ensures { λ r. ⌜ r ≡ boundBy role ⌝ }
+fn bound_by(form: Form) -> u32
+    ensures { λ r. ⌜ r ≡ boundBy form ⌝ }
 {
-    match role {
-        Role::Stored(_) => VARIABLES,
-        Role::Opens => VARIABLES,
-        Role::Takes(_) => VARIABLES,
-        Role::Binds(variable) => variable,
-        Role::Sides => VARIABLES,
-        Role::Compares { left: _, right: _ } => VARIABLES,
-        Role::Joins => VARIABLES,
+    match form {
+        Form::Table(_) => VARIABLES,
+        Form::Alpha => VARIABLES,
+        Form::Target {
+            variable: _,
+            attribute: _,
+        } => VARIABLES,
+        Form::Binds {
+            variable,
+            binder: _,
+        } => variable,
+        Form::Combines(_) => VARIABLES,
+        Form::Compares(_) => VARIABLES,
+        Form::Connects(_) => VARIABLES,
+        Form::IllFormed => VARIABLES,
     }
 }
 
-// The scope of what stands behind a node's first part, which is so wide.
+// The scope of a node's a and c, where its b is so wide.
 fn enter(scope: &mut [u8; SCOPE], variable: u32, width: u32)
     ensures { λ r. ⌜ now (scope .exit) ≡ entered (now (scope .entry)) variable width ⌝ }
 {
@@ -123,20 +129,28 @@ fn operand_unbound(scope: &[u8; SCOPE], operand: Operand) -> bool
 }
 
 // Refusal 5 at a node: a variable that is not in scope, or bound while in scope.
-fn unbound_at(role: Role, scope: &[u8; SCOPE]) -> bool
-    requires { ⌜ RoleFits role ⌝ }
-    ensures { λ r. ⌜ r ≡ stepOf (now (scope .entry)) role .unbound ⌝ }
+fn unbound_at(form: Form, scope: &[u8; SCOPE]) -> bool
+    requires { ⌜ VariablesFit form ⌝ }
+    ensures { λ r. ⌜ r ≡ stepOf (now (scope .entry)) form .unbound ⌝ }
 {
-    match role {
-        Role::Stored(_) => false,
-        Role::Opens => false,
-        Role::Takes(operand) => operand_unbound(scope, operand),
-        Role::Binds(variable) => 0 < width_in(scope, variable),
-        Role::Sides => false,
-        Role::Compares { left, right } => {
-            operand_unbound(scope, left) | operand_unbound(scope, right)
+    match form {
+        Form::Table(_) => false,
+        Form::Alpha => false,
+        Form::Target {
+            variable,
+            attribute: _,
+        } => width_in(scope, variable) == 0,
+        Form::Binds {
+            variable,
+            binder: _,
+        } => 0 < width_in(scope, variable),
+        Form::Combines(_) => false,
+        Form::Compares(atom) => {
+            let operand = atom.operand;
+            (width_in(scope, atom.variable) == 0) | operand_unbound(scope, operand)
         }
-        Role::Joins => false,
+        Form::Connects(_) => false,
+        Form::IllFormed => false,
     }
 }
 
@@ -153,53 +167,64 @@ fn operand_unfit(scope: &[u8; SCOPE], operand: Operand) -> bool
     }
 }
 
-// Refusal 6 at a node; `first` and `second` are the widths of its first two parts.
-fn unfit_at(role: Role, scope: &[u8; SCOPE], first: u32, second: u32) -> bool
-    requires { ⌜ RoleFits role ⌝ }
-    ensures { λ r. ⌜ r ≡ stepOf (now (scope .entry)) role .unfit first second ⌝ }
+// Refusal 6 at a node; `a` and `b` are the widths of what it refers to.
+fn unfit_at(form: Form, scope: &[u8; SCOPE], a: u32, b: u32) -> bool
+    requires { ⌜ VariablesFit form ⌝ }
+    ensures { λ r. ⌜ r ≡ stepOf (now (scope .entry)) form .unfit a b ⌝ }
 {
-    match role {
-        Role::Stored(_) => false,
-        Role::Opens => MOST_COLUMNS < second,
-        Role::Takes(operand) => operand_unfit(scope, operand),
-        Role::Binds(_) => MOST_COLUMNS < add_widths(columns_in(scope), first),
-        Role::Sides => first != second,
-        Role::Compares { left, right } => operand_unfit(scope, left) | operand_unfit(scope, right),
-        Role::Joins => false,
+    match form {
+        Form::Table(_) => false,
+        Form::Alpha => MOST_COLUMNS < a,
+        Form::Target {
+            variable,
+            attribute,
+        } => width_in(scope, variable) < attribute.0,
+        Form::Binds {
+            variable: _,
+            binder: _,
+        } => MOST_COLUMNS < add_widths(columns_in(scope), b),
+        Form::Combines(_) => a != b,
+        Form::Compares(atom) => {
+            let attribute = atom.attribute;
+            let operand = atom.operand;
+            (width_in(scope, atom.variable) < attribute.0) | operand_unfit(scope, operand)
+        }
+        Form::Connects(_) => false,
+        Form::IllFormed => false,
     }
 }
 
 // The width of what a target takes; attribute 0 is the whole row.
-fn taken_width(scope: &[u8; SCOPE], operand: Operand) -> u32
-    requires { ⌜ OperandVariableFits operand ⌝ }
-    ensures { λ r. ⌜ r ≡ takenWidth (now (scope .entry)) operand ⌝ }
+fn taken_width(scope: &[u8; SCOPE], variable: u32, attribute: Attribute) -> u32
+    requires { ⌜ variable < variableCount ⌝ }
+    ensures { λ r. ⌜ r ≡ targetWidthKept (now (scope .entry)) variable (attribute .0) ⌝ }
 {
-    match operand {
-        Operand::Of {
-            variable,
-            attribute,
-        } => {
-            if attribute.0 == 0 {
-                return width_in(scope, variable);
-            }
-            1
-        }
-        Operand::Fixed(_) => 1,
+    if attribute.0 == 0 {
+        return width_in(scope, variable);
     }
+    1
 }
 
-fn width_of(catalogue: &[u32], role: Role, scope: &[u8; SCOPE], first: u32, second: u32) -> u32
-    requires { ⌜ RoleFits role ⌝ }
-    ensures { λ r. ⌜ r ≡ stepOf (now (scope .entry)) role .width (columnsOf (now (catalogue .entry))) first second ⌝ }
+// A range's width, or that of targets from this one on.
+fn width_of(catalogue: &[u32], form: Form, scope: &[u8; SCOPE], a: u32, c: u32) -> u32
+    requires { ⌜ VariablesFit form ⌝ }
+    ensures { λ r. ⌜ r ≡ stepOf (now (scope .entry)) form .width (columnsOf (now (catalogue .entry))) a c ⌝ }
 {
-    match role {
-        Role::Stored(relation) => columns_of(catalogue, relation as usize),
-        Role::Opens => second,
-        Role::Takes(operand) => add_widths(taken_width(scope, operand), first),
-        Role::Binds(_) => 0,
-        Role::Sides => first,
-        Role::Compares { left: _, right: _ } => 0,
-        Role::Joins => 0,
+    match form {
+        Form::Table(relation) => columns_of(catalogue, relation as usize),
+        Form::Alpha => a,
+        Form::Target {
+            variable,
+            attribute,
+        } => add_widths(taken_width(scope, variable, attribute), c),
+        Form::Binds {
+            variable: _,
+            binder: _,
+        } => 0,
+        Form::Combines(_) => a,
+        Form::Compares(_) => 0,
+        Form::Connects(_) => 0,
+        Form::IllFormed => 0,
     }
 }
 
@@ -228,19 +253,20 @@ fn judge_at(
     words: &[u32],
     i: u32,
     scope: &[u8; SCOPE],
-    first: u32,
-    second: u32,
+    a: u32,
+    b: u32,
+    c: u32,
     lowest: &mut [u32; 2],
 ) -> u32
     requires { ⌜ (i * questionNodeWords + questionNodeWords ≤ length (now words)) × PlacesSoFar (now lowest) ⌝ }
-    ensures { λ r. ⌜ record { width = r; lowest = now (lowest .exit) } ≡ judgedAt (columnsOf (now (catalogue .entry))) (roleOf (nodeAt (now (words .entry)) i)) i (now (scope .entry)) first second (now (lowest .entry)) ⌝ }
+    ensures { λ r. ⌜ record { width = r; lowest = now (lowest .exit) } ≡ judgedAt (columnsOf (now (catalogue .entry))) (nodeAt (now (words .entry)) i .form) i (now (scope .entry)) a b c (now (lowest .entry)) ⌝ }
 {
-    let role = role_of(decode(words, i as usize));
-    let unbound = lower(lowest[0], place_of(unbound_at(role, scope), i));
-    let unfit = lower(lowest[1], place_of(unfit_at(role, scope, first, second), i));
+    let form = form_at(words, i as usize);
+    let unbound = lower(lowest[0], place_of(unbound_at(form, scope), i));
+    let unfit = lower(lowest[1], place_of(unfit_at(form, scope, a, b), i));
     lowest[0] = unbound;
     lowest[1] = unfit;
-    width_of(catalogue, role, scope, first, second)
+    width_of(catalogue, form, scope, a, c)
 }
 
 // Bindings, each behind the one before it: the scope then has what all of them bind. Any other node is walked.
@@ -259,19 +285,20 @@ fn walk_bindings(
     }
     let i = reference - 1;
     let node = decode(words, i as usize);
-    let named = references_of(node);
-    let variable = bound_by(role_of(node));
+    let form = node.form;
+    let variable = bound_by(form);
     if variable < VARIABLES {
-        let width = walk(catalogue, words, named.first, scope, lowest);
-        judge_at(catalogue, words, i, scope, width, 0, lowest);
+        let width = walk(catalogue, words, node.b, scope, lowest);
+        judge_at(catalogue, words, i, scope, 0, width, 0, lowest);
         bind(scope, variable, width);
-        walk_bindings(catalogue, words, named.second, scope, lowest);
+        walk_bindings(catalogue, words, node.c, scope, lowest);
         return;
     }
     walk(catalogue, words, reference, scope, lowest);
 }
 
 // The tree that a reference names, in a scope, which is then as it was: its faults go to the lowest places, its width is the answer.
+// What a node's b binds, its a and c see.
 pub fn walk(
     catalogue: &[u32],
     words: &[u32],
@@ -287,22 +314,22 @@ pub fn walk(
     }
     let i = reference - 1;
     let node = decode(words, i as usize);
-    let named = references_of(node);
-    let role = role_of(node);
-    if is_alpha(role) {
+    let form = node.form;
+    if is_alpha(form) {
         let mut own = [0u8; SCOPE];
-        walk_bindings(catalogue, words, named.first, &mut own, lowest);
-        let width = walk(catalogue, words, named.second, &mut own, lowest);
-        walk(catalogue, words, named.third, &mut own, lowest);
-        return judge_at(catalogue, words, i, scope, 0, width, lowest);
+        walk_bindings(catalogue, words, node.b, &mut own, lowest);
+        let width = walk(catalogue, words, node.a, &mut own, lowest);
+        walk(catalogue, words, node.c, &mut own, lowest);
+        return judge_at(catalogue, words, i, scope, width, 0, 0, lowest);
     }
-    let variable = bound_by(role);
-    let first = walk(catalogue, words, named.first, scope, lowest);
+    let variable = bound_by(form);
+    let b = walk(catalogue, words, node.b, scope, lowest);
     let width = scope[variable as usize];
     let columns = scope[ALL_COLUMNS];
-    enter(scope, variable, first);
-    let second = walk(catalogue, words, named.second, scope, lowest);
+    enter(scope, variable, b);
+    let a = walk(catalogue, words, node.a, scope, lowest);
+    let c = walk(catalogue, words, node.c, scope, lowest);
     scope[variable as usize] = width;
     scope[ALL_COLUMNS] = columns;
-    judge_at(catalogue, words, i, scope, first, second, lowest)
+    judge_at(catalogue, words, i, scope, a, b, c, lowest)
 }

@@ -1,10 +1,10 @@
--- `question::judgement::is_unknown` meets its contract. In each arm the role is the one that the arm names. Assumes nothing.
+-- `question::judgement::is_unknown` meets its contract. In each arm the form is the one that the arm names. Assumes nothing.
 use borrow.Author.Needs.{needs}
 use Rattle.question.proofs.judgement.is_unknown.Statement.{statement}
 use Rattle.question.proofs.judgement.is_unknown.Tie as tie
 
-enum-known-role : tie.Need-enum-known-role
-enum-known-role c = search needs
+enum-known-form : tie.Need-enum-known-form
+enum-known-form c = search needs
 
 cast-result : tie.Need-cast-result
 cast-result c = search needs
@@ -27,8 +27,11 @@ enum-told-5 c = search needs
 enum-told-6 : tie.Need-enum-told-6
 enum-told-6 c = search needs
 
+enum-told-7 : tie.Need-enum-told-7
+enum-told-7 c = search needs
+
 returns : tie.Need-returns
-returns c = simp (c .before .role .given .1)
+returns c = simp (c .before .form .given .1)
 
 returns-2 : tie.Need-returns-2
 returns-2 c = search needs
@@ -48,11 +51,14 @@ returns-6 c = search needs
 returns-7 : tie.Need-returns-7
 returns-7 c = search needs
 
+returns-8 : tie.Need-returns-8
+returns-8 c = search needs
+
 pub is-unknown-spec : {M : Type 1} → statement M
 is-unknown-spec =
     tie.close
     (tie.spec
-    enum-known-role
+    enum-known-form
     cast-result
     enum-told
     enum-told-2
@@ -60,10 +66,12 @@ is-unknown-spec =
     enum-told-4
     enum-told-5
     enum-told-6
+    enum-told-7
     returns
     returns-2
     returns-3
     returns-4
     returns-5
     returns-6
-    returns-7)
+    returns-7
+    returns-8)

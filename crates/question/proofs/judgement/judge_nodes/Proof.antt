@@ -34,20 +34,17 @@ refused-requires-2 c κs = search needs
 returns-2 : tie.Need-returns-2
 returns-2 c = c .refused2 .ensures ∙ once-refused (c .before .before .before .before .before .before .before .args .catalogue .now) (c .before .before .before .before .before .before .before .args .words .now) (c .before .before .before .before .lowest-ill-formed .ensures) (c .before .before .lowest-not-once .ensures ∙ lowest-not-once (c .before .before .before .before .before .before .before .args .words .now) (counted (c .before .before .before .before .before .before .before .args .words .now) (c .before .before .before .before .before .before .before .pre))) (omega (arith, c .before .before .before .if1 .left)) (c .before .if2 .taken)
 
-decode-requires : tie.Need-decode-requires
-decode-requires c κs = omega (arith, counted (c .before .before .before .before .before .before .args .words .now) (c .before .before .before .before .before .before .pre) .whole, counted (c .before .before .before .before .before .before .args .words .now) (c .before .before .before .before .before .before .pre) .some)
-
-role-of-requires : tie.Need-role-of-requires
-role-of-requires c κs = search needs
+form-at-requires : tie.Need-form-at-requires
+form-at-requires c κs = omega (arith, counted (c .before .before .before .before .before .before .args .words .now) (c .before .before .before .before .before .before .pre) .whole, counted (c .before .before .before .before .before .before .args .words .now) (c .before .before .before .before .before .before .pre) .some)
 
 is-alpha-requires : tie.Need-is-alpha-requires
 is-alpha-requires c κs = search needs
 
 judge-tree-requires : tie.Need-judge-tree-requires
-judge-tree-requires c κs = (refl, counted (c .before .before .before .before .before .before .before .before .before .before .args .words .now) (c .before .before .before .before .before .before .before .before .before .before .pre) .few)
+judge-tree-requires c κs = (refl, counted (c .before .before .before .before .before .before .before .before .before .args .words .now) (c .before .before .before .before .before .before .before .before .before .pre) .few)
 
 returns-3 : tie.Need-returns-3
-returns-3 c = c .judge-tree .ensures ∙ tree-judged (c .before .before .before .before .before .before .before .before .before .before .before .args .catalogue .now) (c .before .before .before .before .before .before .before .before .before .before .before .args .words .now) (c .before .before .before .before .before .before .before .before .lowest-ill-formed .ensures) (c .before .before .before .before .before .before .lowest-not-once .ensures ∙ lowest-not-once (c .before .before .before .before .before .before .before .before .before .before .before .args .words .now) (counted (c .before .before .before .before .before .before .before .before .before .before .before .args .words .now) (c .before .before .before .before .before .before .before .before .before .before .before .pre))) (omega (arith, c .before .before .before .before .before .before .before .if1 .left)) (omega (arith, c .before .before .before .before .before .if2 .left)) (sym (rw (c .before .before .before .role-of .ensures, c .before .before .before .before .decode .ensures) at (c .before .before .is-alpha .ensures)) ∙ c .before .if3 .taken)
+returns-3 c = c .judge-tree .ensures ∙ tree-judged (c .before .before .before .before .before .before .before .before .before .before .args .catalogue .now) (c .before .before .before .before .before .before .before .before .before .before .args .words .now) (c .before .before .before .before .before .before .before .lowest-ill-formed .ensures) (c .before .before .before .before .before .lowest-not-once .ensures ∙ lowest-not-once (c .before .before .before .before .before .before .before .before .before .before .args .words .now) (counted (c .before .before .before .before .before .before .before .before .before .before .args .words .now) (c .before .before .before .before .before .before .before .before .before .before .pre))) (omega (arith, c .before .before .before .before .before .before .if1 .left)) (omega (arith, c .before .before .before .before .if2 .left)) (sym (rw (c .before .before .before .form-at .ensures) at (c .before .before .is-alpha .ensures)) ∙ c .before .if3 .taken)
 
 cast-refused-2 : tie.Need-cast-refused-2
 cast-refused-2 c = search needs
@@ -56,7 +53,7 @@ refused-requires-3 : tie.Need-refused-requires-3
 refused-requires-3 c κs = search needs
 
 returns-4 : tie.Need-returns-4
-returns-4 c = c .refused3 .ensures ∙ last-refused (c .before .before .before .before .before .before .before .before .before .before .before .args .catalogue .now) (c .before .before .before .before .before .before .before .before .before .before .before .args .words .now) (c .before .before .before .before .before .before .before .before .lowest-ill-formed .ensures) (c .before .before .before .before .before .before .lowest-not-once .ensures ∙ lowest-not-once (c .before .before .before .before .before .before .before .before .before .before .before .args .words .now) (counted (c .before .before .before .before .before .before .before .before .before .before .before .args .words .now) (c .before .before .before .before .before .before .before .before .before .before .before .pre))) (omega (arith, c .before .before .before .before .before .before .before .if1 .left)) (omega (arith, c .before .before .before .before .before .if2 .left)) (sym (rw (c .before .before .before .role-of .ensures, c .before .before .before .before .decode .ensures) at (c .before .before .is-alpha .ensures)) ∙ c .before .if3 .left)
+returns-4 c = c .refused3 .ensures ∙ last-refused (c .before .before .before .before .before .before .before .before .before .before .args .catalogue .now) (c .before .before .before .before .before .before .before .before .before .before .args .words .now) (c .before .before .before .before .before .before .before .lowest-ill-formed .ensures) (c .before .before .before .before .before .lowest-not-once .ensures ∙ lowest-not-once (c .before .before .before .before .before .before .before .before .before .before .args .words .now) (counted (c .before .before .before .before .before .before .before .before .before .before .args .words .now) (c .before .before .before .before .before .before .before .before .before .before .pre))) (omega (arith, c .before .before .before .before .before .before .if1 .left)) (omega (arith, c .before .before .before .before .if2 .left)) (sym (rw (c .before .before .before .form-at .ensures) at (c .before .before .is-alpha .ensures)) ∙ c .before .if3 .left)
 
 pub judge-nodes-spec : {M : Type 1} → statement M
 judge-nodes-spec =
@@ -71,8 +68,7 @@ judge-nodes-spec =
     cast-if2
     refused-requires-2
     returns-2
-    decode-requires
-    role-of-requires
+    form-at-requires
     is-alpha-requires
     judge-tree-requires
     returns-3

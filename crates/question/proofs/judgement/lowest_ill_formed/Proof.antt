@@ -9,22 +9,22 @@ use Rattle.question.proofs.judgement.lowest_ill_formed.Statement.{state
 use Rattle.question.proofs.judgement.lowest_ill_formed.Tie as tie
 
 abbrev Inv-loop : tie.InvT-loop
-Inv-loop words nodes i₀ i = (i ≤ nodes) × (lowest (λ j. isIllFormed (nodeAt words j)) nodes ≡ firstFrom (λ j. isIllFormed (nodeAt words j)) (nodes - i) i)
+Inv-loop words nodes i₀ i = (i ≤ nodes) × (lowest (λ j. isIllFormed (nodeAt words j .form)) nodes ≡ firstFrom (λ j. isIllFormed (nodeAt words j .form)) (nodes - i) i)
 
 abbrev μ-loop : tie.MeasureT-loop
 μ-loop words nodes i₀ i = nodes - i
 
 loop-holds : tie.Need-loop-holds Inv-loop μ-loop
-loop-holds c = (omega arith, search-start (λ j. isIllFormed (nodeAt (c .before .args .words .now) j)) (c .before .args .nodes))
+loop-holds c = (omega arith, search-start (λ j. isIllFormed (nodeAt (c .before .args .words .now) j .form)) (c .before .args .nodes))
 
-decode-requires : tie.Need-decode-requires Inv-loop μ-loop
-decode-requires c κs = omega arith
+form-at-requires : tie.Need-form-at-requires Inv-loop μ-loop
+form-at-requires c κs = omega arith
 
 is-ill-formed-requires : tie.Need-is-ill-formed-requires Inv-loop μ-loop
 is-ill-formed-requires c κs = tt
 
 returns : tie.Need-returns Inv-loop μ-loop
-returns c = sym (c .before .before .before .before .loop .inv .1 ∙ search-found (λ j. isIllFormed (nodeAt (c .before .before .before .before .before .before .args .words .now) j)) (c .before .before .before .before .before .before .args .nodes) (c .before .before .before .before .loop .i) (omega arith) (sym (rw (c .before .before .decode .ensures) at (c .before .is-ill-formed .ensures)) ∙ c .if1 .taken))
+returns c = sym (c .before .before .before .before .loop .inv .1 ∙ search-found (λ j. isIllFormed (nodeAt (c .before .before .before .before .before .before .args .words .now) j .form)) (c .before .before .before .before .before .before .args .nodes) (c .before .before .before .before .loop .i) (omega arith) (sym (rw (c .before .before .form-at .ensures) at (c .before .is-ill-formed .ensures)) ∙ c .if1 .taken))
 
 add-i : tie.Need-add-i Inv-loop μ-loop
 add-i c = omega arith
@@ -33,10 +33,10 @@ loop-less : tie.Need-loop-less Inv-loop μ-loop
 loop-less c = omega arith
 
 loop-again : tie.Need-loop-again Inv-loop μ-loop
-loop-again c = (omega arith, c .before .before .before .before .loop .inv .1 ∙ search-on (λ j. isIllFormed (nodeAt (c .before .before .before .before .before .before .args .words .now) j)) (c .before .before .before .before .before .before .args .nodes) (c .before .before .before .before .loop .i) (omega arith) (sym (rw (c .before .before .decode .ensures) at (c .before .is-ill-formed .ensures)) ∙ c .if1 .left))
+loop-again c = (omega arith, c .before .before .before .before .loop .inv .1 ∙ search-on (λ j. isIllFormed (nodeAt (c .before .before .before .before .before .before .args .words .now) j .form)) (c .before .before .before .before .before .before .args .nodes) (c .before .before .before .before .loop .i) (omega arith) (sym (rw (c .before .before .form-at .ensures) at (c .before .is-ill-formed .ensures)) ∙ c .if1 .left))
 
 returns-2 : tie.Need-returns-2 Inv-loop μ-loop
-returns-2 c = sym (c .before .loop .inv .1 ∙ search-end (λ j. isIllFormed (nodeAt (c .before .before .before .args .words .now) j)) (c .before .before .before .args .nodes) (c .before .loop .i) (omega arith))
+returns-2 c = sym (c .before .loop .inv .1 ∙ search-end (λ j. isIllFormed (nodeAt (c .before .before .before .args .words .now) j .form)) (c .before .before .before .args .nodes) (c .before .loop .i) (omega arith))
 
 pub lowest-ill-formed-spec : {M : Type 1} → statement M
 lowest-ill-formed-spec =
@@ -45,7 +45,7 @@ lowest-ill-formed-spec =
     Inv-loop
     μ-loop
     loop-holds
-    decode-requires
+    form-at-requires
     is-ill-formed-requires
     returns
     add-i

@@ -10,25 +10,22 @@ use Rattle.question.proofs.judgement.lowest_unknown.Statement.{statemen
 use Rattle.question.proofs.judgement.lowest_unknown.Tie as tie
 
 abbrev Inv-loop : tie.InvT-loop
-Inv-loop relations words nodes i₀ i = (i ≤ nodes) × (lowest (λ j. isUnknown relations (nodeAt words j)) nodes ≡ firstFrom (λ j. isUnknown relations (nodeAt words j)) (nodes - i) i)
+Inv-loop relations words nodes i₀ i = (i ≤ nodes) × (lowest (λ j. isUnknown relations (nodeAt words j .form)) nodes ≡ firstFrom (λ j. isUnknown relations (nodeAt words j .form)) (nodes - i) i)
 
 abbrev μ-loop : tie.MeasureT-loop
 μ-loop relations words nodes i₀ i = nodes - i
 
 loop-holds : tie.Need-loop-holds Inv-loop μ-loop
-loop-holds c = (omega arith, search-start (λ j. isUnknown (c .before .args .relations) (nodeAt (c .before .args .words .now) j)) (c .before .args .nodes))
+loop-holds c = (omega arith, search-start (λ j. isUnknown (c .before .args .relations) (nodeAt (c .before .args .words .now) j .form)) (c .before .args .nodes))
 
-decode-requires : tie.Need-decode-requires Inv-loop μ-loop
-decode-requires c κs = omega arith
-
-role-of-requires : tie.Need-role-of-requires Inv-loop μ-loop
-role-of-requires c κs = tt
+form-at-requires : tie.Need-form-at-requires Inv-loop μ-loop
+form-at-requires c κs = omega arith
 
 is-unknown-requires : tie.Need-is-unknown-requires Inv-loop μ-loop
 is-unknown-requires c κs = tt
 
 returns : tie.Need-returns Inv-loop μ-loop
-returns c = sym (c .before .before .before .before .before .loop .inv .1 ∙ search-found (λ j. isUnknown (c .before .before .before .before .before .before .before .args .relations) (nodeAt (c .before .before .before .before .before .before .before .args .words .now) j)) (c .before .before .before .before .before .before .before .args .nodes) (c .before .before .before .before .before .loop .i) (omega arith) (sym (rw (c .before .before .role-of .ensures, c .before .before .before .decode .ensures) at (c .before .is-unknown .ensures)) ∙ c .if1 .taken))
+returns c = sym (c .before .before .before .before .loop .inv .1 ∙ search-found (λ j. isUnknown (c .before .before .before .before .before .before .args .relations) (nodeAt (c .before .before .before .before .before .before .args .words .now) j .form)) (c .before .before .before .before .before .before .args .nodes) (c .before .before .before .before .loop .i) (omega arith) (sym (rw (c .before .before .form-at .ensures) at (c .before .is-unknown .ensures)) ∙ c .if1 .taken))
 
 add-i : tie.Need-add-i Inv-loop μ-loop
 add-i c = omega arith
@@ -37,10 +34,10 @@ loop-less : tie.Need-loop-less Inv-loop μ-loop
 loop-less c = omega arith
 
 loop-again : tie.Need-loop-again Inv-loop μ-loop
-loop-again c = (omega arith, c .before .before .before .before .before .loop .inv .1 ∙ search-on (λ j. isUnknown (c .before .before .before .before .before .before .before .args .relations) (nodeAt (c .before .before .before .before .before .before .before .args .words .now) j)) (c .before .before .before .before .before .before .before .args .nodes) (c .before .before .before .before .before .loop .i) (omega arith) (sym (rw (c .before .before .role-of .ensures, c .before .before .before .decode .ensures) at (c .before .is-unknown .ensures)) ∙ c .if1 .left))
+loop-again c = (omega arith, c .before .before .before .before .loop .inv .1 ∙ search-on (λ j. isUnknown (c .before .before .before .before .before .before .args .relations) (nodeAt (c .before .before .before .before .before .before .args .words .now) j .form)) (c .before .before .before .before .before .before .args .nodes) (c .before .before .before .before .loop .i) (omega arith) (sym (rw (c .before .before .form-at .ensures) at (c .before .is-unknown .ensures)) ∙ c .if1 .left))
 
 returns-2 : tie.Need-returns-2 Inv-loop μ-loop
-returns-2 c = sym (c .before .loop .inv .1 ∙ search-end (λ j. isUnknown (c .before .before .before .args .relations) (nodeAt (c .before .before .before .args .words .now) j)) (c .before .before .before .args .nodes) (c .before .loop .i) (omega arith))
+returns-2 c = sym (c .before .loop .inv .1 ∙ search-end (λ j. isUnknown (c .before .before .before .args .relations) (nodeAt (c .before .before .before .args .words .now) j .form)) (c .before .before .before .args .nodes) (c .before .loop .i) (omega arith))
 
 pub lowest-unknown-spec : {M : Type 1} → statement M
 lowest-unknown-spec =
@@ -49,8 +46,7 @@ lowest-unknown-spec =
     Inv-loop
     μ-loop
     loop-holds
-    decode-requires
-    role-of-requires
+    form-at-requires
     is-unknown-requires
     returns
     add-i

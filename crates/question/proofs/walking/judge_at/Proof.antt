@@ -1,21 +1,18 @@
--- `question::walking::judge_at` meets its contract. The node is decoded and judged by its role; the two places are set, each the lower of two. Assumes nothing.
+-- `question::walking::judge_at` meets its contract. The node's form is judged; the two places are set, each the lower of two. Assumes nothing.
 use Rattle.question.proofs.WalkLaws.{both-set}
-use Rattle.nodes.proofs.Forms.{node-variable}
+use Rattle.nodes.proofs.Forms.{node-variables}
 use borrow.Author.Needs.{needs}
 use Rattle.question.proofs.walking.judge_at.Statement.{statement}
 use Rattle.question.proofs.walking.judge_at.Tie as tie
 
-decode-requires : tie.Need-decode-requires
-decode-requires c κs = search needs
-
-role-of-requires : tie.Need-role-of-requires
-role-of-requires c κs = search needs
+form-at-requires : tie.Need-form-at-requires
+form-at-requires c κs = search needs
 
 element-copy-out-lower : tie.Need-element-copy-out-lower
 element-copy-out-lower c = search needs
 
 unbound-at-requires : tie.Need-unbound-at-requires
-unbound-at-requires c κs = rw (c .before .role-of .ensures, c .before .before .decode .ensures) (node-variable (c .before .before .before .before .before .args .words .now) (c .before .before .before .before .before .args .i))
+unbound-at-requires c κs = rw (c .before .form-at .ensures) (node-variables (c .before .before .before .before .args .words .now) (c .before .before .before .before .args .i))
 
 place-of-requires : tie.Need-place-of-requires
 place-of-requires c κs = search needs
@@ -27,7 +24,7 @@ element-copy-out-lower-2 : tie.Need-element-copy-out-lower-2
 element-copy-out-lower-2 c = search needs
 
 unfit-at-requires : tie.Need-unfit-at-requires
-unfit-at-requires c κs = rw (c .before .before .before .before .before .role-of .ensures, c .before .before .before .before .before .before .decode .ensures) (node-variable (c .before .before .before .before .before .before .before .before .before .args .words .now) (c .before .before .before .before .before .before .before .before .before .args .i))
+unfit-at-requires c κs = rw (c .before .before .before .before .before .form-at .ensures) (node-variables (c .before .before .before .before .before .before .before .before .args .words .now) (c .before .before .before .before .before .before .before .before .args .i))
 
 place-of-requires-2 : tie.Need-place-of-requires-2
 place-of-requires-2 c κs = search needs
@@ -42,17 +39,16 @@ element-write-lowest-2 : tie.Need-element-write-lowest-2
 element-write-lowest-2 c = search needs
 
 width-of-requires : tie.Need-width-of-requires
-width-of-requires c κs = rw (c .before .before .before .before .before .before .before .before .role-of .ensures, c .before .before .before .before .before .before .before .before .before .decode .ensures) (node-variable (c .before .before .before .before .before .before .before .before .before .before .before .before .args .words .now) (c .before .before .before .before .before .before .before .before .before .before .before .before .args .i))
+width-of-requires c κs = rw (c .before .before .before .before .before .before .before .before .form-at .ensures) (node-variables (c .before .before .before .before .before .before .before .before .before .before .before .args .words .now) (c .before .before .before .before .before .before .before .before .before .before .before .args .i))
 
 returns : tie.Need-returns
-returns c = rw (both-set (c .before .before .before .before .before .before .before .before .before .before .before .before .before .args .lowest .now) (c .before .before .before .before .before .lower .result) (c .before .lower2 .result) (c .before .before .before .before .before .before .before .before .before .before .before .before .before .pre .1 .two-places)) (simp (c .width-of .ensures, c .before .before .before .before .before .lower .ensures, c .before .lower2 .ensures, c .before .before .before .before .before .before .place-of .ensures, c .before .before .place-of2 .ensures, c .before .before .before .before .before .before .before .unbound-at .ensures, c .before .before .before .unfit-at .ensures, c .before .before .before .before .before .before .before .before .before .role-of .ensures, c .before .before .before .before .before .before .before .before .before .before .decode .ensures))
+returns c = rw (both-set (c .before .before .before .before .before .before .before .before .before .before .before .before .args .lowest .now) (c .before .before .before .before .before .lower .result) (c .before .lower2 .result) (c .before .before .before .before .before .before .before .before .before .before .before .before .pre .1 .two-places)) (simp (c .width-of .ensures, c .before .before .before .before .before .lower .ensures, c .before .lower2 .ensures, c .before .before .before .before .before .before .place-of .ensures, c .before .before .place-of2 .ensures, c .before .before .before .before .before .before .before .unbound-at .ensures, c .before .before .before .unfit-at .ensures, c .before .before .before .before .before .before .before .before .before .form-at .ensures))
 
 pub judge-at-spec : {M : Type 1} → statement M
 judge-at-spec =
     tie.close
     (tie.spec
-    decode-requires
-    role-of-requires
+    form-at-requires
     element-copy-out-lower
     unbound-at-requires
     place-of-requires

@@ -1,4 +1,4 @@
--- `question::walking::unbound_at` meets its contract. In each arm the role is the one that the arm names, and its variables are looked up. Assumes nothing.
+-- `question::walking::unbound_at` meets its contract. In each arm the form is the one that the arm names, and its variables are looked up. Assumes nothing.
 use borrow.Author.Needs.{needs}
 use Rattle.question.proofs.walking.unbound_at.Statement.{statement}
 use Rattle.question.proofs.walking.unbound_at.Tie as tie
@@ -9,32 +9,35 @@ enum-told c = search needs
 enum-told-2 : tie.Need-enum-told-2
 enum-told-2 c = search needs
 
-enum-known-role : tie.Need-enum-known-role
-enum-known-role c = search needs
-
-operand-unbound-requires : tie.Need-operand-unbound-requires
-operand-unbound-requires c κs = rw (c .before .role .given .1) at (c .before .before .before .pre)
-
-enum-known-role-2 : tie.Need-enum-known-role-2
-enum-known-role-2 c = search needs
+enum-known-form : tie.Need-enum-known-form
+enum-known-form c = search needs
 
 width-in-requires : tie.Need-width-in-requires
-width-in-requires c κs = rw (c .before .role2 .given .1) at (c .before .before .before .pre)
+width-in-requires c κs = rw (c .before .form .given .1) at (c .before .before .before .pre)
+
+enum-known-form-2 : tie.Need-enum-known-form-2
+enum-known-form-2 c = search needs
+
+width-in-requires-2 : tie.Need-width-in-requires-2
+width-in-requires-2 c κs = rw (c .before .form2 .given .1) at (c .before .before .before .pre)
 
 enum-told-3 : tie.Need-enum-told-3
 enum-told-3 c = search needs
 
-enum-known-role-3 : tie.Need-enum-known-role-3
-enum-known-role-3 c = search needs
+enum-known-form-3 : tie.Need-enum-known-form-3
+enum-known-form-3 c = search needs
 
-operand-unbound-requires-2 : tie.Need-operand-unbound-requires-2
-operand-unbound-requires-2 c κs = (rw (c .before .role3 .given .1) at (c .before .before .before .pre)) .0
+width-in-requires-3 : tie.Need-width-in-requires-3
+width-in-requires-3 c κs = (rw (c .before .form3 .given .1) at (c .before .before .before .pre)) .0
 
-operand-unbound-requires-3 : tie.Need-operand-unbound-requires-3
-operand-unbound-requires-3 c κs = (rw (c .before .before .role3 .given .1) at (c .before .before .before .before .pre)) .1
+operand-unbound-requires : tie.Need-operand-unbound-requires
+operand-unbound-requires c κs = (rw (c .before .before .form3 .given .1) at (c .before .before .before .before .pre)) .1
 
 enum-told-4 : tie.Need-enum-told-4
 enum-told-4 c = search needs
+
+enum-told-5 : tie.Need-enum-told-5
+enum-told-5 c = search needs
 
 returns : tie.Need-returns
 returns c = search needs
@@ -43,19 +46,22 @@ returns-2 : tie.Need-returns-2
 returns-2 c = search needs
 
 returns-3 : tie.Need-returns-3
-returns-3 c = simp (c .operand-unbound .ensures, c .before .before .role .given .1)
+returns-3 c = simp (c .width-in .ensures, c .before .before .form .given .1)
 
 returns-4 : tie.Need-returns-4
-returns-4 c = simp (c .width-in .ensures, c .before .before .role2 .given .1)
+returns-4 c = simp (c .width-in2 .ensures, c .before .before .form2 .given .1)
 
 returns-5 : tie.Need-returns-5
 returns-5 c = search needs
 
 returns-6 : tie.Need-returns-6
-returns-6 c = simp (c .before .operand-unbound2 .ensures, c .operand-unbound3 .ensures, c .before .before .before .role3 .given .1)
+returns-6 c = simp (c .before .width-in3 .ensures, c .operand-unbound .ensures, c .before .before .before .form3 .given .1)
 
 returns-7 : tie.Need-returns-7
 returns-7 c = search needs
+
+returns-8 : tie.Need-returns-8
+returns-8 c = search needs
 
 pub unbound-at-spec : {M : Type 1} → statement M
 unbound-at-spec =
@@ -63,19 +69,21 @@ unbound-at-spec =
     (tie.spec
     enum-told
     enum-told-2
-    enum-known-role
-    operand-unbound-requires
-    enum-known-role-2
+    enum-known-form
     width-in-requires
+    enum-known-form-2
+    width-in-requires-2
     enum-told-3
-    enum-known-role-3
-    operand-unbound-requires-2
-    operand-unbound-requires-3
+    enum-known-form-3
+    width-in-requires-3
+    operand-unbound-requires
     enum-told-4
+    enum-told-5
     returns
     returns-2
     returns-3
     returns-4
     returns-5
     returns-6
-    returns-7)
+    returns-7
+    returns-8)
