@@ -22,7 +22,7 @@ use Rattle.nodes.specs.declared.node.Atom as question-atom
 use Rattle.conditions.specs.Readings.{Names, rangeAt, restrictionAt, conditionAt}
 use Rattle.conditions.specs.Scopes.{scopeOf}
 use Rattle.conditions.specs.Atoms.{AtomNarrow}
-use Rattle.short_rules.specs.Rules.{atomNodes}
+use Rattle.rule_writing.specs.Rules.{atomNodes}
 use Rattle.emission.specs.Written.{Room, Written}
 use Rattle.plan_writing.specs.Quantifying.{wantedIn, oppositeWanted, oppositeIf, quantified}
 use Rattle.plan_writing.specs.Translating.{translateWanted, ConditionReady}

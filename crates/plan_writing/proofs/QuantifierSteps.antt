@@ -21,10 +21,10 @@ use Rattle.calculus.proofs.SizeTheorem.{range-size, condition-size}
 use Rattle.catalogue.specs.Stored.{relationsOf, columnsOf}
 use Rattle.conditions.specs.Readings.{Names, conditionAt, restrictionAt}
 use Rattle.conditions.specs.Scopes.{scopeOf, ScopeFits, Extended}
-use Rattle.short_rules.specs.Rules.{ruleAtoms, ruleNodes, dividendNodes, RuleReady}
+use Rattle.rule_writing.specs.Rules.{ruleAtoms, ruleNodes, dividendNodes, RuleReady}
 use Rattle.short_rules.specs.declared.fits.ShortRule.{ShortRule}
 use Rattle.short_rules.specs.declared.fits.ShortRule.the-variants.{S2, S3, S4, S5}
-use Rattle.short_rules.proofs.RuleLaws.{behind-range, rule-behind}
+use Rattle.rule_writing.proofs.RuleLaws.{behind-range, rule-behind}
 use Rattle.emission.specs.Written.{Room, Written}
 use Rattle.plan_writing.specs.Quantifying.{wantedIn, quantified, wayOf, keptNodes}
 use Rattle.plan_writing.specs.Translating.{RangeReady, RangeDone, GoodAs, ConditionReady, translateWanted}

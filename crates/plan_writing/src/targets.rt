@@ -23,7 +23,7 @@ use emission::node_list::with_columns;
 use emission::node_list::with_word;
 use nodes::node::Node;
 use nodes::node::decode;
-use short_rules::rules::write_project;
+use rule_writing::rules::write_project;
 
 // A target's columns behind those of the list; attribute 0 is the whole row.
 fn with_target(scope: &[u8; SCOPE_BYTES], variable: u32, attribute: u32, list: NodeList) -> NodeList

@@ -30,10 +30,10 @@ use emission::emit::pair;
 use emission::emit::product;
 use nodes::node::Node;
 use nodes::node::decode;
+use rule_writing::rules::write_atom;
+use rule_writing::rules::write_rule;
 use short_rules::fits::ShortRule;
 use short_rules::fits::rule_fits;
-use short_rules::rules::write_atom;
-use short_rules::rules::write_rule;
 
 // How many nodes the plan has behind a range, and the range's width.
 pub struct MadeRange {

@@ -16,7 +16,7 @@ use Rattle.nodes.proofs.node.Node.{the-type}
 use Rattle.nodes.specs.Nodes.{nodeAt}
 use Rattle.conditions.specs.Readings.{Names, rangeAt, conditionAt}
 use Rattle.conditions.proofs.Readings.{condition-is, some-parts}
-use Rattle.short_rules.specs.Rules.{ruleFits}
+use Rattle.short_rules.specs.Fits.{ruleFits}
 use Rattle.short_rules.specs.declared.fits.ShortRule.{ShortRule}
 
 some-nodes-below : {x : ℕ} {range : Range} {f g : Condition} → g ≡ forSome x range f → conditionNodes g ≤ questionNodeLimit → conditionNodes f ≤ questionNodeLimit

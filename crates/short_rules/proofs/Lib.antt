@@ -1,5 +1,6 @@
 -- S1
 pub mod ProjectLaws
--- When the rules fit, and what they write
+-- A rule's leaves; when the rules fit, and what they list
+pub mod LeafSteps
 pub mod FitLaws
-pub mod RuleLaws
+pub mod ListLaws

@@ -1,2 +1,3 @@
--- What the short rules write behind a range
-pub mod Rules
+-- When the short rules fit, and what they list
+pub mod Fits
+pub mod Lists

@@ -9,7 +9,7 @@ ghost use Rattle.calculus.specs.ShortRules.{shortRule1Fits, shortRule2Atoms, sh
 ghost use Rattle.conditions.specs.Readings.{Names, conditionAt};
 ghost use Rattle.conditions.specs.Leaves.{isTree, atomsOf, LeavesFit};
 ghost use Rattle.emission.specs.NodeLists.{attributesIn};
-ghost use Rattle.short_rules.specs.Rules.{ruleFits};
+ghost use Rattle.short_rules.specs.Fits.{ruleFits};
 use conditions::atom::alone_on;
 use conditions::atom::compares_with_other;
 use conditions::atom::equates_outside;

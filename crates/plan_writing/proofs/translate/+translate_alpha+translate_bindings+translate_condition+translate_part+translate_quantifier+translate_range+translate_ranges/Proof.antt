@@ -54,8 +54,8 @@ use Rattle.plan_writing.proofs.quantifying.write_kept.Reads as write-ke
 use Rattle.plan_writing.proofs.targets.write_targets.Reads as write-targets-reads
 use Rattle.plan_writing.proofs.translate.translate_table.Reads as translate-table-reads
 use Rattle.short_rules.proofs.fits.rule_fits.Reads as rule-fits-reads
-use Rattle.short_rules.proofs.rules.write_atom.Reads as write-atom-reads
-use Rattle.short_rules.proofs.rules.write_rule.Reads as write-rule-reads
+use Rattle.rule_writing.proofs.rules.write_atom.Reads as write-atom-reads
+use Rattle.rule_writing.proofs.rules.write_rule.Reads as write-rule-reads
 use Rattle.plan_writing.proofs.translate.+translate_alpha+translate_bindings+translate_condition+translate_part+translate_quantifier+translate_range+translate_ranges.{statement}
 use Rattle.plan_writing.proofs.translate.+translate_alpha+translate_bindings+translate_condition+translate_part+translate_quantifier+translate_range+translate_ranges.Tie.{close}
 

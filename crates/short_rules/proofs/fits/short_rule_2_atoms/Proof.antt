@@ -2,7 +2,7 @@ use Rattle.relations.specs.Limits.{tripleLimit}
 use Prim.Native.Nat.{ℕ, _+_, _≤_}
 use lib.Dec.{leb}
 use mathlib.Core.Bool.{false, and-true, _&&_, _||_}
-use Rattle.short_rules.proofs.RuleLaws.{rest, all-next, count-next}
+use Rattle.short_rules.proofs.LeafSteps.{rest, all-next, count-next}
 use Rattle.conditions.specs.Leaves.{leafCount, atomsOf}
 use Rattle.calculus.specs.Leaves.{aloneOn, comparesWithOther}
 use Rattle.relations.specs.Lists.{all, filter}

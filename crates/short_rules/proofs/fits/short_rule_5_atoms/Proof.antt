@@ -1,5 +1,5 @@
 use Rattle.relations.specs.Limits.{pairLimit, tripleLimit}
-use Rattle.short_rules.proofs.RuleLaws.{rest, all-next, count-next}
+use Rattle.short_rules.proofs.LeafSteps.{rest, all-next, count-next}
 use Rattle.conditions.specs.Leaves.{leafCount, atomsOf}
 use Rattle.calculus.specs.Leaves.{aloneOn, equatesWith, equatesOutside}
 use Rattle.relations.specs.Lists.{all, filter}

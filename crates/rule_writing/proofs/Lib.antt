@@ -1,0 +1,2 @@
+-- What the rules write
+pub mod RuleLaws

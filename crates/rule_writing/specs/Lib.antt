@@ -1,0 +1,2 @@
+-- What the short rules write behind a range
+pub mod Rules

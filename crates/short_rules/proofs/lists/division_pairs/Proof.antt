@@ -1,0 +1,114 @@
+use Rattle.short_rules.proofs.LeafSteps.{rest, pairs-next}
+use Rattle.short_rules.proofs.ListLaws.{pairs-size}
+use Rattle.relations.specs.Limits.{listWords}
+use Rattle.calculus.specs.ShortRules.{divisionPairs}
+use Rattle.calculus.specs.Leaves.{equatesWith, otherAttribute}
+use Rattle.relations.specs.PlanWords.{pairWords}
+use Rattle.emission.proofs.NodeListLaws.{grown-used, grown-step, grown-none, grown-list}
+use Rattle.emission.specs.declared.node_list.NodeList.{NodeList}
+use Rattle.emission.specs.NodeLists.{nodeList, grownBy}
+use Rattle.conditions.specs.Leaves.{leafCount, atomsOf}
+use Rattle.calculus.specs.Question as calculus
+use Rattle.relations.specs.Lists.{flat, filter}
+use lib.ListN.{length, length-append}
+use mathlib.Core.List.{[], _∷_}
+use mathlib.Core.Bool.{false, cond}
+use mathlib.Core.Path.{_≡_, refl, ap, sym, _∙_}
+use Prim.Native.Nat.{ℕ, _+_, _-_, _≤_}
+use native.Mathlib.Omega.{arith}
+use Rattle.short_rules.proofs.lists.division_pairs.Statement.{statement}
+use Rattle.short_rules.proofs.lists.division_pairs.Tie as tie
+
+abbrev Inv-loop : tie.InvT-loop
+Inv-loop words z y leaves first list₀ column₀ i₀ left₀ list column i left = (i + left ≡ leafCount leaves)
+    × (column ≤ first + i)
+    × (list .used + length (flat pairWords (divisionPairs z (filter (equatesWith z y) (rest words false leaves i left)) column)) ≤ listWords)
+    × (grownBy list (flat pairWords (divisionPairs z (filter (equatesWith z y) (rest words false leaves i left)) column)) ≡ nodeList (flat pairWords (divisionPairs z (filter (equatesWith z y) (atomsOf words false leaves)) first)))
+
+abbrev μ-loop : tie.MeasureT-loop
+μ-loop words z y leaves first list₀ column₀ i₀ left₀ list column i left = left
+
+no-list-requires : tie.Need-no-list-requires Inv-loop μ-loop
+no-list-requires c κs = tt
+
+element-copy-out-left : tie.Need-element-copy-out-left Inv-loop μ-loop
+element-copy-out-left c = omega arith
+
+loop-holds : tie.Need-loop-holds Inv-loop μ-loop
+loop-holds c = let s = c .before .before .before in
+    let size = pairs-size (s .args .z) (filter (equatesWith (s .args .z) (s .args .y)) (atomsOf (s .args .words .now) false (s .args .leaves .now))) (s .args .first) in
+    (omega arith, omega arith, omega (arith, s .pre .1, ap (λ (l : NodeList). l .used) (c .before .no-list .ensures), size), grown-list _ (c .before .no-list .ensures) refl (omega (arith, s .pre .1, size)))
+
+leaf-requires : tie.Need-leaf-requires Inv-loop μ-loop
+leaf-requires c κs = (c .before .before .before .before .before .pre .0, omega arith)
+
+equates-with-requires : tie.Need-equates-with-requires Inv-loop μ-loop
+equates-with-requires c κs = c .leaf .ensures .1
+
+other-attribute-requires : tie.Need-other-attribute-requires Inv-loop μ-loop
+other-attribute-requires c κs = c .before .leaf .ensures .1
+
+with-pair-if-requires : tie.Need-with-pair-if-requires Inv-loop μ-loop
+with-pair-if-requires c κs = let s = c .before .before .before .before .before .before .before .before in
+    let l = c .before .before .before .before .loop in
+    let a = c .before .before .leaf .ensures .0 in
+    let t = c .before .equates-with .ensures ∙ ap (equatesWith (s .args .z) (s .args .y)) a in
+    let o = c .other-attribute .ensures .0 ∙ ap (λ (b : calculus.Atom). otherAttribute (s .args .z) b .number) a in
+    let e = pairs-next (s .args .words .now) false (s .args .leaves .now) (l .i) (l .left) (omega arith) (equatesWith (s .args .z) (s .args .y)) (s .args .z) (l .column) _ _ t o in
+    omega (arith, l .inv .2, ap length e, length-append (cond (c .before .equates-with .result) (l .column ∷ c .other-attribute .result .0 ∷ []) []) (flat pairWords (divisionPairs (s .args .z) (filter (equatesWith (s .args .z) (s .args .y)) (rest (s .args .words .now) false (s .args .leaves .now) (l .i + 1) (l .left - 1))) (l .column + cond (c .before .equates-with .result) 1 0))))
+
+once-requires : tie.Need-once-requires Inv-loop μ-loop
+once-requires c κs = tt
+
+add-column : tie.Need-add-column Inv-loop μ-loop
+add-column c = omega (arith, c .once .ensures .1, c .before .before .before .before .before .before .before .before .before .before .pre .2)
+
+add-i : tie.Need-add-i Inv-loop μ-loop
+add-i c = omega arith
+
+sub-left : tie.Need-sub-left Inv-loop μ-loop
+sub-left c = omega arith
+
+loop-less : tie.Need-loop-less Inv-loop μ-loop
+loop-less c = omega arith
+
+loop-again : tie.Need-loop-again Inv-loop μ-loop
+loop-again c = let s = c .before .before .before .before .before .before .before .before .before .before in
+    let l = c .before .before .before .before .before .before .loop in
+    let a = c .before .before .before .before .leaf .ensures .0 in
+    let t = c .before .before .before .equates-with .ensures ∙ ap (equatesWith (s .args .z) (s .args .y)) a in
+    let o = c .before .before .other-attribute .ensures .0 ∙ ap (λ (b : calculus.Atom). otherAttribute (s .args .z) b .number) a in
+    let e = pairs-next (s .args .words .now) false (s .args .leaves .now) (l .i) (l .left) (omega arith) (equatesWith (s .args .z) (s .args .y)) (s .args .z) (l .column) _ _ t o in
+    let m = length-append (cond (c .before .before .before .equates-with .result) (l .column ∷ c .before .before .other-attribute .result .0 ∷ []) []) (flat pairWords (divisionPairs (s .args .z) (filter (equatesWith (s .args .z) (s .args .y)) (rest (s .args .words .now) false (s .args .leaves .now) (l .i + 1) (l .left - 1))) (l .column + cond (c .before .before .before .equates-with .result) 1 0))) in
+    let k = ap (λ (x : ℕ). flat pairWords (divisionPairs (s .args .z) (filter (equatesWith (s .args .z) (s .args .y)) (rest (s .args .words .now) false (s .args .leaves .now) (l .i + 1) (l .left - 1))) (l .column + x))) (c .once .ensures .0) in (
+      omega arith,
+      omega (arith, c .once .ensures .1),
+      omega (arith, l .inv .2, grown-used _ _ (c .before .with-pair-if .ensures), ap length e, ap length k, m),
+      ap (grownBy (c .before .with-pair-if .result)) k ∙ grown-step _ _ _ (c .before .with-pair-if .ensures) ∙ ap (grownBy (l .list)) (sym e) ∙ l .inv .3,
+    )
+
+returns : tie.Need-returns Inv-loop μ-loop
+returns c = let l = c .before .loop in
+    let e : l .left ≡ 0 = omega arith in
+    sym (grown-none (l .list)) ∙ rw e at (l .inv .3)
+
+pub division-pairs-spec : {M : Type 1} → statement M
+division-pairs-spec =
+    tie.close
+    (tie.spec
+    Inv-loop
+    μ-loop
+    no-list-requires
+    element-copy-out-left
+    loop-holds
+    leaf-requires
+    equates-with-requires
+    other-attribute-requires
+    with-pair-if-requires
+    once-requires
+    add-column
+    add-i
+    sub-left
+    loop-less
+    loop-again
+    returns)

@@ -1,0 +1,90 @@
+use Rattle.short_rules.proofs.LeafSteps.{rest, own-next, own-count}
+use Rattle.relations.specs.Limits.{listWords}
+use mathlib.Core.Bool.{false}
+use Rattle.emission.proofs.NodeListLaws.{grown-used, grown-step, grown-none}
+use Rattle.emission.specs.NodeLists.{grownBy, numbersOf}
+use Rattle.short_rules.specs.Lists.{links}
+use Rattle.conditions.specs.Leaves.{leafCount, atomsOf}
+use Rattle.calculus.specs.Leaves.{ownAttribute}
+use Rattle.calculus.specs.Question as calculus
+use Rattle.relations.specs.Lists.{filter}
+use lib.ListN.{length}
+use mathlib.Core.List.{map}
+use mathlib.Core.Path.{_≡_, refl, ap, sym, _∙_}
+use Prim.Native.Nat.{_+_, _≤_}
+use native.Mathlib.Omega.{arith}
+use Rattle.short_rules.proofs.lists.with_own_columns.Statement.{statement}
+use Rattle.short_rules.proofs.lists.with_own_columns.Tie as tie
+
+abbrev Inv-loop : tie.InvT-loop
+Inv-loop words outside z y leaves longer₀ i₀ left₀ longer i left = (i + left ≡ leafCount leaves)
+    × (longer .used + length (filter (links outside z y) (rest words false leaves i left)) ≤ listWords)
+    × (grownBy longer (numbersOf (map (ownAttribute z) (filter (links outside z y) (rest words false leaves i left)))) ≡ grownBy longer₀ (numbersOf (map (ownAttribute z) (filter (links outside z y) (atomsOf words false leaves)))))
+
+abbrev μ-loop : tie.MeasureT-loop
+μ-loop words outside z y leaves longer₀ i₀ left₀ longer i left = left
+
+element-copy-out-left : tie.Need-element-copy-out-left Inv-loop μ-loop
+element-copy-out-left c = omega arith
+
+loop-holds : tie.Need-loop-holds Inv-loop μ-loop
+loop-holds c = (omega arith, c .before .before .pre .1, refl)
+
+leaf-requires : tie.Need-leaf-requires Inv-loop μ-loop
+leaf-requires c κs = (c .before .before .before .before .pre .0, omega arith)
+
+own-attribute-requires : tie.Need-own-attribute-requires Inv-loop μ-loop
+own-attribute-requires c κs = tt
+
+links-requires : tie.Need-links-requires Inv-loop μ-loop
+links-requires c κs = c .before .leaf .ensures .1
+
+with-word-if-requires : tie.Need-with-word-if-requires Inv-loop μ-loop
+with-word-if-requires c κs = let s = c .before .before .before .before .before .before .before in
+    let l = c .before .before .before .before .loop in
+    let a = c .before .before .leaf .ensures .0 in
+    let t = c .links .ensures ∙ ap (links (s .args .outside) (s .args .z) (s .args .y)) a in
+    omega (arith, l .inv .1, own-count (s .args .words .now) false (s .args .leaves .now) (l .i) (l .left) (omega arith) (links (s .args .outside) (s .args .z) (s .args .y)) (c .before .own-attribute .result .0) _ t)
+
+add-i : tie.Need-add-i Inv-loop μ-loop
+add-i c = omega arith
+
+sub-left : tie.Need-sub-left Inv-loop μ-loop
+sub-left c = omega arith
+
+loop-less : tie.Need-loop-less Inv-loop μ-loop
+loop-less c = omega arith
+
+loop-again : tie.Need-loop-again Inv-loop μ-loop
+loop-again c = let s = c .before .before .before .before .before .before .before .before in
+    let l = c .before .before .before .before .before .loop in
+    let a = c .before .before .before .leaf .ensures .0 in
+    let t = c .before .links .ensures ∙ ap (links (s .args .outside) (s .args .z) (s .args .y)) a in
+    let o = c .before .before .own-attribute .ensures ∙ ap (λ (b : calculus.Atom). ownAttribute (s .args .z) b .number) a in (
+      omega arith,
+      omega (arith, l .inv .1, grown-used _ _ (c .with-word-if .ensures), own-count (s .args .words .now) false (s .args .leaves .now) (l .i) (l .left) (omega arith) (links (s .args .outside) (s .args .z) (s .args .y)) (c .before .before .own-attribute .result .0) _ t),
+      grown-step _ _ _ (c .with-word-if .ensures) ∙ ap (grownBy (l .longer)) (sym (own-next (s .args .words .now) false (s .args .leaves .now) (l .i) (l .left) (omega arith) (links (s .args .outside) (s .args .z) (s .args .y)) (s .args .z) _ _ t o)) ∙ l .inv .2,
+    )
+
+returns : tie.Need-returns Inv-loop μ-loop
+returns c = let l = c .before .loop in
+    let e : l .left ≡ 0 = omega arith in
+    sym (grown-none (l .longer)) ∙ rw e at (l .inv .2)
+
+pub with-own-columns-spec : {M : Type 1} → statement M
+with-own-columns-spec =
+    tie.close
+    (tie.spec
+    Inv-loop
+    μ-loop
+    element-copy-out-left
+    loop-holds
+    leaf-requires
+    own-attribute-requires
+    links-requires
+    with-word-if-requires
+    add-i
+    sub-left
+    loop-less
+    loop-again
+    returns)
