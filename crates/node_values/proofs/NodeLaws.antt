@@ -6,8 +6,7 @@ use mathlib.Core.List.{List, map}
 use mathlib.Core.Option.{Option, some, none, Option·map}
 use Prim.Native.Nat.{ℕ, _+_, _-_, _*_, _≤_, _<_}
 use native.Mathlib.Omega.{arith}
-use lib.ListN.{length, getD, take, drop, length-map, length-drop}
-use lib.Seq.{length-take-le}
+use lib.ListN.{length, getD, take, drop, length-drop}
 use Rattle.relations.specs.Limits.{columnLimit, tripleLimit, planNodeWords, headWords, listWords}
 use Rattle.relations.specs.Lists.{All}
 use Rattle.relations.specs.Values.{Rows, Tables}
@@ -30,15 +29,14 @@ use Rattle.operations.specs.Lists.{triplesIn}
 use Rattle.operations.proofs.ListLaws.{triples-read}
 use Rattle.terms.proofs.NumberLaws.{operator-named}
 use Rattle.catalogue.specs.Stored.{relationsOf, columnsOf, storedTables}
-use Rattle.plan_reading.specs.Decoding.{operationIn, decoded}
+use Rattle.plan_reading.specs.Decoding.{operationIn, nodeHead, planHead, headRead}
 use Rattle.plan_reading.specs.Judging.{legalRead}
-use Rattle.plan_reading.specs.Steps.{widthOf}
+use Rattle.plan_reading.specs.Steps.{WidthOfHead}
 use Rattle.plan_reading.specs.declared.nodes.Operation.{Operation}
 use Rattle.plan_reading.specs.declared.nodes.Operation.the-variants.{Load, Project, SelectConstant, SelectAttribute, Join, Semijoin, Antijoin, Divide, Unite, Intersect, Subtract}
 use Rattle.plan_reading.specs.declared.nodes.PlanNode.{PlanNode}
-use Rattle.plan_reading.specs.declared.nodes.Decoded.the-variants.{Illegal as NoNode}
 use Rattle.plan_reading.proofs.DecodeLaws.{Stands}
-use Rattle.plan_reading.proofs.JudgeLaws.{width-planned}
+use Rattle.plan_reading.proofs.JudgeLaws.{widthMade, width-by}
 use Rattle.plan_reading.proofs.LegalLaws.{count-within}
 use Rattle.plan_reading.proofs.ListedLaws.{pairs-many}
 use Rattle.node_values.specs.Standing.{valuesIn, valueNamed, standing, StandsBefore, Stand}
@@ -102,20 +100,7 @@ module _ (relations out : ℕ) (list work : List ℕ) where
   Asks Intersect relation count left right = StandsBefore out work left × StandsBefore out work right
   Asks Subtract relation count left right = StandsBefore out work left × StandsBefore out work right
 
--- What it makes, by the widths and the rows of its sides.
-abbrev pub widthMade : (ℕ → ℕ) → Operation → (relation count left right : ℕ) → ℕ
-widthMade columns Load relation count left right = columns relation
-widthMade columns Project relation count left right = count
-widthMade columns SelectConstant relation count left right = left
-widthMade columns SelectAttribute relation count left right = left
-widthMade columns Join relation count left right = left + right
-widthMade columns Semijoin relation count left right = left
-widthMade columns Antijoin relation count left right = left
-widthMade columns Divide relation count left right = left - count
-widthMade columns Unite relation count left right = left
-widthMade columns Intersect relation count left right = left
-widthMade columns Subtract relation count left right = left
-
+-- What it makes, by the rows of its sides.
 abbrev pub offered : Tables → Operation → (relation count : ℕ) (list : List ℕ) (left right : Rows) → Rows
 offered tables Load relation count list left right = loadCandidates (tables relation)
 offered tables Project relation count list left right = projectCandidates (map attribute (take count list)) left
@@ -128,20 +113,6 @@ offered tables Divide relation count list left right = divideCandidates (readPai
 offered tables Unite relation count list left right = uniteCandidates left right
 offered tables Intersect relation count list left right = intersectCandidates left right
 offered tables Subtract relation count list left right = subtractCandidates left right
-
-width-node : (columns : ℕ → ℕ) (widths : List ℕ) (operation : Operation) (left right count : ℕ) (list : List ℕ) → (operation ≡ Project → count ≤ length list)
-    → widthOfNode columns widths (nodeIn operation left right count list) ≡ widthMade columns operation left count (widthAt widths left) (widthAt widths right)
-width-node columns widths Load left right count list h = refl
-width-node columns widths Project left right count list h = length-map (take count list) attribute ∙ length-take-le count list (h refl)
-width-node columns widths SelectConstant left right count list h = refl
-width-node columns widths SelectAttribute left right count list h = refl
-width-node columns widths Join left right count list h = refl
-width-node columns widths Semijoin left right count list h = refl
-width-node columns widths Antijoin left right count list h = refl
-width-node columns widths Divide left right count list h = ap (λ (n : ℕ). widthAt widths left - n) (pairs-many count list)
-width-node columns widths Unite left right count list h = refl
-width-node columns widths Intersect left right count list h = refl
-width-node columns widths Subtract left right count list h = refl
 
 candidates-node : (tables : Tables) (made : List Rows) (operation : Operation) (left right count : ℕ) (list : List ℕ)
     → candidates tables made (nodeIn operation left right count list) ≡ offered tables operation left count list (valueAt made left) (valueAt made right)
@@ -166,8 +137,11 @@ module _ (catalogue tables words : List ℕ) (plan : PlanNode) (size : length wo
   abbrev made : List Value
   made = valuesIn widths rows bases
 
+  node-is : (operation : Operation) → plan .operation ≡ operation → nodeIn operation (plan .left) (plan .right) (plan .count) list ≡ stood .node
+  node-is operation o = parts-node operation (plan .left) (plan .right) (plan .count) list (stood .node) (rw o at (stood .parts))
+
   reads : (operation : Operation) → plan .operation ≡ operation → readNode words ≡ some (nodeIn operation (plan .left) (plan .right) (plan .count) list)
-  reads operation o = stood .read ∙ ap some (sym (parts-node operation (plan .left) (plan .right) (plan .count) list (stood .node) (rw o at (stood .parts))))
+  reads operation o = stood .read ∙ ap some (sym (node-is operation o))
 
   facts : (operation : Operation) → plan .operation ≡ operation → LegalFacts (relationsOf catalogue) widths (nodeIn operation (plan .left) (plan .right) (plan .count) list)
   facts operation o = legal-facts (relationsOf catalogue) widths (nodeIn operation (plan .left) (plan .right) (plan .count) list) (rw (reads operation o) at legal)
@@ -209,13 +183,13 @@ module _ (catalogue tables words : List ℕ) (plan : PlanNode) (size : length wo
   asks-named Subtract o = let k = facts Subtract o in (side (plan .left) (k .0), side (plan .right) (k .1))
 
   makes-named : (operation : Operation) → plan .operation ≡ operation → {after : List ℕ} {r : Placed}
-      → Makes (widthMade (columnsOf catalogue) operation (plan .left) (plan .count) (valueNamed made (plan .left) .width) (valueNamed made (plan .right) .width)) out
+      → Makes (widthMade (columnsOf catalogue) (operationIn operation) (plan .left) (plan .count) (valueNamed made (plan .left) .width) (valueNamed made (plan .right) .width)) out
       (offered (storedTables catalogue tables) operation (plan .left) (plan .count) list (rowsOf (valueNamed made (plan .left)) work) (rowsOf (valueNamed made (plan .right)) work)) work after r
       → Makes (widthRead (columnsOf catalogue) widths (readNode words)) out (candidatesRead (storedTables catalogue tables) (standing made work) (readNode words)) work after r
   makes-named operation o g =
-      let w : widthOfNode (columnsOf catalogue) widths (nodeIn operation (plan .left) (plan .right) (plan .count) list) ≡ widthMade (columnsOf catalogue) operation (plan .left) (plan .count) (valueNamed made (plan .left) .width) (valueNamed made (plan .right) .width) =
-      width-node (columnsOf catalogue) widths operation (plan .left) (plan .right) (plan .count) list (λ p. omega (arith, room, counts Project (o ∙ p) .1))
-      ∙ ap₂ (widthMade (columnsOf catalogue) operation (plan .left) (plan .count)) (sym (same-width (plan .left))) (sym (same-width (plan .right))) in
+      let w : widthOfNode (columnsOf catalogue) widths (nodeIn operation (plan .left) (plan .right) (plan .count) list) ≡ widthMade (columnsOf catalogue) (operationIn operation) (plan .left) (plan .count) (valueNamed made (plan .left) .width) (valueNamed made (plan .right) .width) =
+      sym (width-by (columnsOf catalogue) widths (planHead plan) (nodeIn operation (plan .left) (plan .right) (plan .count) list) (ap nodeHead (node-is operation o) ∙ stood .is))
+      ∙ rw (o, same-width (plan .left), same-width (plan .right)) in
       let cs : candidates (storedTables catalogue tables) (standing made work) (nodeIn operation (plan .left) (plan .right) (plan .count) list) ≡ offered (storedTables catalogue tables) operation (plan .left) (plan .count) list (rowsOf (valueNamed made (plan .left)) work) (rowsOf (valueNamed made (plan .right)) work) =
       candidates-node (storedTables catalogue tables) (standing made work) operation (plan .left) (plan .right) (plan .count) list
       ∙ ap₂ (offered (storedTables catalogue tables) operation (plan .left) (plan .count) list) (standing-at made work (plan .left)) (standing-at made work (plan .right)) in
@@ -228,7 +202,7 @@ module _ (catalogue tables words : List ℕ) (plan : PlanNode) (size : length wo
 
     -- what an operation makes of its values is what the words' node makes
     pub makes : {after : List ℕ} {p : Placed}
-        → Makes (widthMade (columnsOf catalogue) operation (plan .left) (plan .count) (left .width) (right .width)) out
+        → Makes (widthMade (columnsOf catalogue) (operationIn operation) (plan .left) (plan .count) (left .width) (right .width)) out
         (offered (storedTables catalogue tables) operation (plan .left) (plan .count) words′ (rowsOf left work) (rowsOf right work)) work after p
         → Makes (widthRead (columnsOf catalogue) widths (readNode words)) out (candidatesRead (storedTables catalogue tables) (standing made work) (readNode words)) work after p
     makes g = makes-named operation o (rw (l, r, i) at g)
@@ -236,8 +210,8 @@ module _ (catalogue tables words : List ℕ) (plan : PlanNode) (size : length wo
 -- What `run_node` answers beside the value.
 
 module _ (words : List ℕ) (plan : PlanNode) (stood : Stands words plan) where
-  pub width-read : (columns : ℕ → ℕ) (widths : List ℕ) → widthOf columns widths plan ≡ widthRead columns widths (readNode words)
-  width-read columns widths = ap (widthOf columns widths) (sym (stood .is)) ∙ width-planned columns widths (stood .node) ∙ ap (widthRead columns widths) (sym (stood .read))
+  pub width-read : (columns : ℕ → ℕ) (widths : List ℕ) {width : ℕ} → WidthOfHead columns widths (planHead plan) width → width ≡ widthRead columns widths (readNode words)
+  width-read columns widths is = is (stood .node) (stood .is) ∙ ap (widthRead columns widths) (sym (stood .read))
 
   -- the first word is the operation's number
   pub weight-read : length words ≡ planNodeWords → weightOf (heavyNumber (getD words 0 0)) ≡ weightRead (readNode words)
@@ -248,6 +222,6 @@ pub makes-told : {w out : ℕ} {cs : Rows} {before after : List ℕ} {r p : Plac
 makes-told e g = rw e at g
 
 -- words that read as no node are not legal
-pub no-node {ℓ} : {C : Type ℓ} (relations : ℕ) (made : List ℕ) (read : Option nodes.Node) → decoded read ≡ NoNode → legalRead relations made read ≡ true → C
+pub no-node {ℓ} : {C : Type ℓ} (relations : ℕ) (made : List ℕ) (read : Option nodes.Node) → headRead read ≡ none → legalRead relations made read ≡ true → C
 no-node relations made none e h = absurd (false≢true h)
 no-node relations made (some node) e h = let z : _≡_ {A = ℕ} 0 1 = cc in absurd (omega arith)

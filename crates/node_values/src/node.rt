@@ -1,6 +1,7 @@
 // One node of a judged plan: its value is worked out and put behind the values of the nodes before it.
 ghost use mathlib.Core.Path.{_≡_};
 ghost use mathlib.Core.Bool.{true};
+ghost use mathlib.Core.Option.{some};
 ghost use Prim.Native.Nat.{_≤_, _<_};
 ghost use lib.ListN.{length, getD};
 ghost use Rattle.relations.specs.Limits.{planNodeWords};
@@ -13,7 +14,7 @@ ghost use Rattle.values.specs.Building.{Builds, Blank, Makes};
 ghost use Rattle.terms.specs.Terms.{attributeIn, constantIn};
 ghost use Rattle.relations.specs.Comparison.{operatorNamed};
 ghost use Rattle.catalogue.specs.Stored.{relationsOf, columnsOf, storedTables};
-ghost use Rattle.plan_reading.specs.Decoding.{decoded};
+ghost use Rattle.plan_reading.specs.Decoding.{planHead, headRead};
 ghost use Rattle.plan_reading.specs.Judging.{legalRead};
 ghost use Rattle.node_values.specs.Standing.{valuesIn, valueNamed, standing, Stand};
 ghost use Rattle.node_values.specs.NodeRun.{widthRead, candidatesRead, NodeRun};
@@ -143,7 +144,7 @@ fn make_value(
     bases: &[usize],
     out: usize,
 ) -> Placed
-    requires { ⌜ (length (now words) ≡ planNodeWords) × (decoded (readNode (now words)) ≡ Decoded.Node node) × (tablesOk (now catalogue) (now tables) ≡ true) × (legalRead (relationsOf (now catalogue)) (now widths) (readNode (now words)) ≡ true) × Stand (now widths) (now rows) (now bases) out (now work) ⌝ }
+    requires { ⌜ (length (now words) ≡ planNodeWords) × (headRead (readNode (now words)) ≡ some (planHead node)) × (tablesOk (now catalogue) (now tables) ≡ true) × (legalRead (relationsOf (now catalogue)) (now widths) (readNode (now words)) ≡ true) × Stand (now widths) (now rows) (now bases) out (now work) ⌝ }
     ensures { λ r. ⌜ Makes (widthRead (columnsOf (now (catalogue .entry))) (now (widths .entry)) (readNode (now (words .entry)))) out (candidatesRead (storedTables (now (catalogue .entry)) (now (tables .entry))) (standing (valuesIn (now (widths .entry)) (now (rows .entry)) (now (bases .entry))) (now (work .entry))) (readNode (now (words .entry)))) (now (work .entry)) (now (work .exit)) r ⌝ }
 {
     let operation = node.operation;

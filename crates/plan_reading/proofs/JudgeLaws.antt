@@ -1,28 +1,29 @@
 -- The judgement of one node, and of a plan from left to right. Assumes nothing.
 use Prim.Native.Nat.{ℕ, zero, suc, _+_, _-_, _/_, _%_, _≤_, _<_}
-use mathlib.Core.Path.{_≡_, refl, sym, ap, subst, _∙_}
-use mathlib.Core.Bool.{true, false}
+use mathlib.Core.Path.{_≡_, refl, sym, ap, _∙_}
+use mathlib.Core.Bool.{Bool, true, false, not, _||_}
 use mathlib.Core.List.{List, [], _∷_, _++_}
 use mathlib.Core.Option.{Option, some, none}
 use native.Mathlib.Omega.{arith}
 use native.Mathlib.Numerals.{add-one}
-use lib.Dec.{leb}
+use lib.Dec.{leb, eqb}
 use lib.ListN.{length, take, drop, set}
 use lib.Seq.{drop-drop, take-suc-set, length-take-le}
-use borrow.Author.Tests.{eq-eqb, le-leb}
+use borrow.Author.Tests.{eq-eqb, le-leb, leb-true}
 use Rattle.relations.specs.Limits.{columnLimit, planNodeLimit, planNodeWords}
 use Rattle.relations.specs.Nodes as nodes
-use Rattle.relations.specs.Nodes.{load, project, selectConstant, selectAttribute, join, semijoin, antijoin, divide, unite, intersect, subtract}
+use Rattle.relations.specs.Nodes.{load, project, selectConstant, selectAttribute, join, semijoin, antijoin, divide, unite, intersect, subtract, loading, projecting, selectingConstant, selectingAttribute, joining, semijoining, antijoining, dividing, uniting, intersecting, subtracting, operationNumber}
 use Rattle.relations.specs.Plan.{widthAt, widthOfNode}
 use Rattle.relations.specs.Legality.{legalTriples, legalNode}
 use Rattle.relations.specs.PlanWords.{readNode}
 use Rattle.relations.proofs.BoolLaws.{and-right}
 use Rattle.catalogue.specs.Stored.{relationsOf, columnsOf}
-use Rattle.plan_reading.specs.Decoding.{planNode, decoded}
+use Rattle.plan_reading.specs.Decoding.{operationIn, Head, nodeHead, planHead, headRead}
 use Rattle.plan_reading.specs.Judging.{legalRead, judgedNode, onward, judgePlanNodes, planJudgement, PlanNumbers, planNumbers, judgedPlan}
-use Rattle.plan_reading.specs.Steps.{widthOf, joinFits}
+use Rattle.plan_reading.specs.Steps.{HeadOfLegal, WidthOfHead}
+use Rattle.plan_reading.specs.declared.nodes.Operation.{Operation}
+use Rattle.plan_reading.specs.declared.nodes.Operation.the-variants.{Join}
 use Rattle.plan_reading.specs.declared.nodes.PlanNode.{PlanNode}
-use Rattle.plan_reading.specs.declared.nodes.Decoded.the-variants.{Node, Illegal as NoNode}
 use Rattle.plan_reading.specs.declared.judging.Width.the-variants.{Of, Illegal as NoWidth}
 use Rattle.plan_reading.specs.declared.judging.PlanJudgement.{PlanJudgement}
 use Rattle.plan_reading.specs.declared.judging.PlanJudgement.the-variants.{Legal, Illegal}
@@ -30,22 +31,51 @@ use Rattle.plan_reading.proofs.DecodeLaws.{Stands}
 
 -- One node.
 
--- a decoded node's width is the width of the node that it stands for
-pub width-planned : (columns : ℕ → ℕ) (made : List ℕ) (node : nodes.Node) → widthOf columns made (planNode node) ≡ widthOfNode columns made node
-width-planned columns made (load relation) = refl
-width-planned columns made (project left attributes) = refl
-width-planned columns made (selectConstant left a operator c) = refl
-width-planned columns made (selectAttribute left a operator b) = refl
-width-planned columns made (join left right triples) = refl
-width-planned columns made (semijoin left right triples) = refl
-width-planned columns made (antijoin left right triples) = refl
-width-planned columns made (divide left right pairs) = refl
-width-planned columns made (unite left right) = refl
-width-planned columns made (intersect left right) = refl
-width-planned columns made (subtract left right) = refl
+-- a node's width by its operation, its count and the widths of its sides
+abbrev pub widthMade : (ℕ → ℕ) → nodes.Operation → (relation count left right : ℕ) → ℕ
+widthMade columns loading relation count left right = columns relation
+widthMade columns projecting relation count left right = count
+widthMade columns selectingConstant relation count left right = left
+widthMade columns selectingAttribute relation count left right = left
+widthMade columns joining relation count left right = left + right
+widthMade columns semijoining relation count left right = left
+widthMade columns antijoining relation count left right = left
+widthMade columns dividing relation count left right = left - count
+widthMade columns uniting relation count left right = left
+widthMade columns intersecting relation count left right = left
+widthMade columns subtracting relation count left right = left
 
--- what `width_of` asks for holds of every legal node
-pub join-fits : (relations : ℕ) (made : List ℕ) (node : nodes.Node) → legalNode relations made node ≡ true → joinFits made (planNode node) ≡ true
+abbrev pub headWidth : (ℕ → ℕ) → List ℕ → Head → ℕ
+headWidth columns made head = widthMade columns (head .operation) (head .left) (head .count) (widthAt made (head .left)) (widthAt made (head .right))
+
+width-made : (columns : ℕ → ℕ) (made : List ℕ) (node : nodes.Node) → widthOfNode columns made node ≡ headWidth columns made (nodeHead node)
+width-made columns made (load relation) = refl
+width-made columns made (project left attributes) = refl
+width-made columns made (selectConstant left a operator c) = refl
+width-made columns made (selectAttribute left a operator b) = refl
+width-made columns made (join left right triples) = refl
+width-made columns made (semijoin left right triples) = refl
+width-made columns made (antijoin left right triples) = refl
+width-made columns made (divide left right pairs) = refl
+width-made columns made (unite left right) = refl
+width-made columns made (intersect left right) = refl
+width-made columns made (subtract left right) = refl
+
+-- so all nodes of one head have one width
+pub width-by : (columns : ℕ → ℕ) (made : List ℕ) (head : Head) → WidthOfHead columns made head (headWidth columns made head)
+width-by columns made head node is = ap (headWidth columns made) (sym is) ∙ sym (width-made columns made node)
+
+-- an arm of `width_of`: what is made by its operation
+pub width-arm : (columns : ℕ → ℕ) (made : List ℕ) (plan : PlanNode) (operation : Operation) → plan .operation ≡ operation → {width : ℕ}
+    → width ≡ widthMade columns (operationIn operation) (plan .left) (plan .count) (widthAt made (plan .left)) (widthAt made (plan .right)) → WidthOfHead columns made (planHead plan) width
+width-arm columns made plan operation o e node is =
+    e ∙ ap (λ (o : Operation). widthMade columns (operationIn o) (plan .left) (plan .count) (widthAt made (plan .left)) (widthAt made (plan .right))) (sym o) ∙ width-by columns made (planHead plan) node is
+
+-- a legal join is within the column limit, so that its width is no overflow
+abbrev joinFits : List ℕ → Head → Bool
+joinFits made head = not (eqb (operationNumber (head .operation)) 5) || leb (widthAt made (head .left) + widthAt made (head .right)) columnLimit
+
+join-fits : (relations : ℕ) (made : List ℕ) (node : nodes.Node) → legalNode relations made node ≡ true → joinFits made (nodeHead node) ≡ true
 join-fits relations made (load relation) h = refl
 join-fits relations made (project left attributes) h = refl
 join-fits relations made (selectConstant left a operator c) h = refl
@@ -58,26 +88,31 @@ join-fits relations made (unite left right) h = refl
 join-fits relations made (intersect left right) h = refl
 join-fits relations made (subtract left right) h = refl
 
+pub join-narrow : (relations : ℕ) (made : List ℕ) (plan : PlanNode) → HeadOfLegal relations made (planHead plan) → plan .operation ≡ Join → widthAt made (plan .left) + widthAt made (plan .right) ≤ columnLimit
+join-narrow relations made plan legal o =
+    let fits : joinFits made (planHead plan) ≡ true = ap (joinFits made) (sym (legal .1)) ∙ join-fits relations made (legal .0) (legal .2) in
+    leb-true (widthAt made (plan .left) + widthAt made (plan .right)) columnLimit (rw o at fits)
+
 module _ (catalogue made words : List ℕ) where
   module _ (plan : PlanNode) (stood : Stands words plan) where
-    pub fits-if-legal : legalRead (relationsOf catalogue) made (readNode words) ≡ true → joinFits made plan ≡ true
-    fits-if-legal h = subst (λ (p : PlanNode). joinFits made p ≡ true) (stood .is) (join-fits (relationsOf catalogue) made (stood .node) (rw (stood .read) at h))
+    legal-node : legalRead (relationsOf catalogue) made (readNode words) ≡ true → legalNode (relationsOf catalogue) made (stood .node) ≡ true
+    legal-node h = rw (stood .read) at h
 
-    pub judged-legal : legalRead (relationsOf catalogue) made (readNode words) ≡ true → judgedNode catalogue made (readNode words) ≡ Of (widthOf (columnsOf catalogue) made plan)
-    judged-legal h =
-        let legal : legalNode (relationsOf catalogue) made (stood .node) ≡ true = rw (stood .read) at h in
-        ap (judgedNode catalogue made) (stood .read)
-        ∙ rw legal (ap Of (sym (width-planned (columnsOf catalogue) made (stood .node)) ∙ ap (widthOf (columnsOf catalogue) made) (stood .is)))
+    pub head-of-legal : legalRead (relationsOf catalogue) made (readNode words) ≡ true → HeadOfLegal (relationsOf catalogue) made (planHead plan)
+    head-of-legal h = (stood .node, stood .is, legal-node h)
+
+    pub judged-legal : legalRead (relationsOf catalogue) made (readNode words) ≡ true → {width : ℕ} → WidthOfHead (columnsOf catalogue) made (planHead plan) width → judgedNode catalogue made (readNode words) ≡ Of width
+    judged-legal h is = ap (judgedNode catalogue made) (stood .read) ∙ rw (legal-node h) (ap Of (sym (is (stood .node) (stood .is))))
 
     pub judged-illegal : legalRead (relationsOf catalogue) made (readNode words) ≡ false → judgedNode catalogue made (readNode words) ≡ NoWidth
     judged-illegal h =
         let legal : legalNode (relationsOf catalogue) made (stood .node) ≡ false = rw (stood .read) at h in
         ap (judgedNode catalogue made) (stood .read) ∙ rw legal
 
-  pub judged-nothing : decoded (readNode words) ≡ NoNode → judgedNode catalogue made (readNode words) ≡ NoWidth
+  pub judged-nothing : headRead (readNode words) ≡ none → judgedNode catalogue made (readNode words) ≡ NoWidth
   judged-nothing e = go (readNode words) e
     where
-      go : (read : Option nodes.Node) → decoded read ≡ NoNode → judgedNode catalogue made read ≡ NoWidth
+      go : (read : Option nodes.Node) → headRead read ≡ none → judgedNode catalogue made read ≡ NoWidth
       go none e = refl
       go (some node) e = let z : _≡_ {A = ℕ} 0 1 = cc in absurd (omega arith)
 

@@ -2,7 +2,7 @@
 use Prim.Native.Nat.{ℕ, zero, suc, _+_}
 use mathlib.Core.Bool.{Bool}
 use mathlib.Core.List.{List, [], _∷_}
-use mathlib.Core.Option.{Option, some, none}
+use mathlib.Core.Option.{Option, some, none, Option·map}
 use lib.ListN.{getD, drop}
 use Rattle.relations.specs.Limits.{headWords, operatorCount}
 use Rattle.relations.specs.Lists.{all}
@@ -23,7 +23,7 @@ unfoldable pub spaced : ℕ → ℕ → List ℕ → List ℕ
 spaced step zero list = []
 spaced step (suc count) list = getD list 0 0 ∷ spaced step count (drop step list)
 
--- an operation of the code, and back
+-- an operation of the code; no two stand for the same (one-decoded, proofs/DecodeLaws)
 abbrev pub operationIn : Operation → nodes.Operation
 operationIn Load = loading
 operationIn Project = projecting
@@ -36,19 +36,6 @@ operationIn Divide = dividing
 operationIn Unite = uniting
 operationIn Intersect = intersecting
 operationIn Subtract = subtracting
-
-abbrev pub operationCode : nodes.Operation → Operation
-operationCode loading = Load
-operationCode projecting = Project
-operationCode selectingConstant = SelectConstant
-operationCode selectingAttribute = SelectAttribute
-operationCode joining = Join
-operationCode semijoining = Semijoin
-operationCode antijoining = Antijoin
-operationCode dividing = Divide
-operationCode uniting = Unite
-operationCode intersecting = Intersect
-operationCode subtracting = Subtract
 
 abbrev pub shapeIn : Shape → words.Shape
 shapeIn s = record { usesRight = s .right; leastCount = s .least; mostCount = s .most; unit = s .unit }
@@ -64,11 +51,25 @@ operatorsKnown words = all (between 1 operatorCount) (spaced 3 (getD words 3 0) 
 abbrev pub headIn : Operation → List ℕ → PlanNode
 headIn operation words = record { operation = operation; left = getD words 1 0; right = getD words 2 0; count = getD words 3 0 }
 
--- a node without its list
-abbrev pub planNode : nodes.Node → PlanNode
-planNode node = record { operation = operationCode (operationOfNode node); left = partsOf node .left; right = partsOf node .right; count = partsOf node .count }
+-- A node's head is all of it but its list.
+pub record Head : Type 0 where
+  pub operation : nodes.Operation
+  pub left : ℕ
+  pub right : ℕ
+  pub count : ℕ
 
--- What `decode_node` answers, given what the words read as.
-abbrev pub decoded : Option nodes.Node → Decoded
-decoded none = Illegal
-decoded (some node) = Node (planNode node)
+-- of a node
+abbrev pub nodeHead : nodes.Node → Head
+nodeHead node = record { operation = operationOfNode node; left = partsOf node .left; right = partsOf node .right; count = partsOf node .count }
+
+-- of a node of the code
+abbrev pub planHead : PlanNode → Head
+planHead plan = record { operation = operationIn (plan .operation); left = plan .left; right = plan .right; count = plan .count }
+
+-- of what `decode_node` answers, and of what the words read as: none where that is no node
+abbrev pub headDecoded : Decoded → Option Head
+headDecoded Illegal = none
+headDecoded (Node plan) = some (planHead plan)
+
+abbrev pub headRead : Option nodes.Node → Option Head
+headRead read = Option·map nodeHead read

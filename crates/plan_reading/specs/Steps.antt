@@ -1,40 +1,26 @@
 -- What the inner steps of judging a node promise, of a node that is decoded but for its list. No promise of `judge_plan` or `run` mentions any of it:
 -- `legal_node` promises relations' `legalNode`, and `judge_node` its `widthOfNode`, of the node that the words read as.
-use Prim.Native.Nat.{ℕ, _+_, _-_}
-use mathlib.Core.Bool.{Bool, not, _&&_, _||_}
+use Prim.Native.Nat.{ℕ, _+_}
+use mathlib.Core.Path.{_≡_}
+use mathlib.Core.Bool.{Bool, true, _&&_}
 use mathlib.Core.List.{List}
-use lib.Dec.{ltb, leb, eqb}
+use lib.Dec.{ltb}
 use lib.ListN.{drop}
-use Rattle.relations.specs.Limits.{columnLimit, headWords}
+use Rattle.relations.specs.Limits.{headWords}
 use Rattle.relations.specs.Lists.{all}
-use Rattle.relations.specs.Nodes.{operationNumber}
-use Rattle.relations.specs.Plan.{widthAt}
-use Rattle.relations.specs.Legality.{between, distinct, lower}
-use Rattle.plan_reading.specs.Decoding.{spaced, operationIn}
-use Rattle.plan_reading.specs.declared.nodes.Operation.{Operation}
-use Rattle.plan_reading.specs.declared.nodes.Operation.the-variants.{Load, Project, SelectConstant, SelectAttribute, Join, Semijoin, Antijoin, Divide, Unite, Intersect, Subtract}
+use Rattle.relations.specs.Nodes as nodes
+use Rattle.relations.specs.Plan.{widthAt, widthOfNode}
+use Rattle.relations.specs.Legality.{between, distinct, lower, legalNode}
+use Rattle.plan_reading.specs.Decoding.{spaced, Head, nodeHead}
 use Rattle.plan_reading.specs.declared.nodes.PlanNode.{PlanNode}
 
--- the width of the node that it stands for
-abbrev pub widthBy : (ℕ → ℕ) → List ℕ → Operation → (left right count : ℕ) → ℕ
-widthBy columns made Load left right count = columns left
-widthBy columns made Project left right count = count
-widthBy columns made SelectConstant left right count = widthAt made left
-widthBy columns made SelectAttribute left right count = widthAt made left
-widthBy columns made Join left right count = widthAt made left + widthAt made right
-widthBy columns made Semijoin left right count = widthAt made left
-widthBy columns made Antijoin left right count = widthAt made left
-widthBy columns made Divide left right count = widthAt made left - count
-widthBy columns made Unite left right count = widthAt made left
-widthBy columns made Intersect left right count = widthAt made left
-widthBy columns made Subtract left right count = widthAt made left
+-- a legal node has this head
+abbrev pub HeadOfLegal : ℕ → List ℕ → Head → Type 0
+HeadOfLegal relations made head = (node : nodes.Node) × (nodeHead node ≡ head) × (legalNode relations made node ≡ true)
 
-abbrev pub widthOf : (ℕ → ℕ) → List ℕ → PlanNode → ℕ
-widthOf columns made node = widthBy columns made (node .operation) (node .left) (node .right) (node .count)
-
--- 5: within the column limit, so that its width is no overflow
-abbrev pub joinFits : List ℕ → PlanNode → Bool
-joinFits made node = not (eqb (operationNumber (operationIn (node .operation))) 5) || leb (widthAt made (node .left) + widthAt made (node .right)) columnLimit
+-- relations' width of every node that has this head, so one number where some node has it: a list has no part in it
+abbrev pub WidthOfHead : (ℕ → ℕ) → List ℕ → Head → ℕ → Type 0
+WidthOfHead columns made head width = (node : nodes.Node) → nodeHead node ≡ head → width ≡ widthOfNode columns made node
 
 -- the list's attributes are on their sides: a left one at the front of every `step` words, its right one `across` words behind it
 abbrev pub attributesInside : (step across : ℕ) → List ℕ → PlanNode → List ℕ → Bool

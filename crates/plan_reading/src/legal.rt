@@ -1,6 +1,6 @@
 // A node's legality and width, given the widths of the nodes before it.
 ghost use mathlib.Core.Path.{_≡_};
-ghost use mathlib.Core.Bool.{true};
+ghost use mathlib.Core.Option.{some};
 ghost use Prim.Native.Nat.{_+_, _*_, _≤_, _<_};
 ghost use lib.Dec.{leb};
 ghost use lib.ListN.{length, drop};
@@ -10,10 +10,9 @@ ghost use Rattle.relations.specs.Plan.{widthAt};
 ghost use Rattle.relations.specs.Legality.{distinct, legalSides};
 ghost use Rattle.relations.specs.PlanWords.{readNode};
 ghost use Rattle.catalogue.specs.Stored.{relationsOf, columnsOf};
-ghost use Rattle.plan_reading.specs.Decoding.{spaced, decoded};
-ghost use Rattle.plan_reading.specs.declared.nodes.Decoded.the-variants.{Node};
+ghost use Rattle.plan_reading.specs.Decoding.{spaced, planHead, headRead};
 ghost use Rattle.plan_reading.specs.Judging.{legalRead};
-ghost use Rattle.plan_reading.specs.Steps.{widthOf, joinFits, triplesLegal, pairsLegal};
+ghost use Rattle.plan_reading.specs.Steps.{HeadOfLegal, WidthOfHead, triplesLegal, pairsLegal};
 use crate::nodes::Operation;
 use crate::nodes::PlanNode;
 use crate::nodes::within;
@@ -38,8 +37,8 @@ pub fn width_at(widths: &[usize], place: usize) -> usize
 
 // A node's width, given those before it. Only a join is wider than what it reads.
 pub fn width_of(catalogue: &[u32], widths: &[usize], node: PlanNode) -> usize
-    requires { ⌜ joinFits (now widths) node ≡ true ⌝ }
-    ensures { λ r. ⌜ r ≡ widthOf (columnsOf (now (catalogue .entry))) (now (widths .entry)) node ⌝ }
+    requires { ⌜ HeadOfLegal (relationsOf (now catalogue)) (now widths) (planHead node) ⌝ }
+    ensures { λ r. ⌜ WidthOfHead (columnsOf (now (catalogue .entry))) (now (widths .entry)) (planHead node) r ⌝ }
 {
     let operation = node.operation;
     let left = width_at(widths, node.left);
@@ -167,7 +166,7 @@ fn narrow(widths: &[usize], left: usize, right: usize) -> bool
 
 // Whether a decoded node is legal, given its words and the widths before it.
 pub fn legal_node(catalogue: &[u32], widths: &[usize], node: PlanNode, words: &[u32]) -> bool
-    requires { ⌜ (length (now words) ≡ planNodeWords) × (decoded (readNode (now words)) ≡ Node node) ⌝ }
+    requires { ⌜ (length (now words) ≡ planNodeWords) × (headRead (readNode (now words)) ≡ some (planHead node)) ⌝ }
     ensures { λ r. ⌜ r ≡ legalRead (relationsOf (now (catalogue .entry))) (now (widths .entry)) (readNode (now (words .entry))) ⌝ }
 {
     let operation = node.operation;

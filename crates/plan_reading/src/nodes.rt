@@ -7,7 +7,7 @@ ghost use Rattle.relations.specs.Limits.{planNodeWords};
 ghost use Rattle.relations.specs.Lists.{all};
 ghost use Rattle.relations.specs.Legality.{between};
 ghost use Rattle.relations.specs.PlanWords.{shapeOf, allZero, readNode};
-ghost use Rattle.plan_reading.specs.Decoding.{spaced, operationIn, shapeIn, fits, headIn, operatorsKnown, decoded};
+ghost use Rattle.plan_reading.specs.Decoding.{spaced, operationIn, shapeIn, fits, headIn, operatorsKnown, headDecoded, headRead};
 use catalogue::judging::wide;
 use relations::limits::COLUMNS;
 use relations::limits::HEAD_WORDS;
@@ -179,7 +179,7 @@ fn decode_triples(operation: Operation, words: &[u32]) -> Decoded
 // The node of 36 words, or `Illegal`: unknown operation, count outside its bounds, unknown operator, an unused word that is not 0.
 pub fn decode_node(words: &[u32]) -> Decoded
     requires { ⌜ length (now words) ≡ planNodeWords ⌝ }
-    ensures { λ r. ⌜ r ≡ decoded (readNode (now (words .entry))) ⌝ }
+    ensures { λ r. ⌜ headDecoded r ≡ headRead (readNode (now (words .entry))) ⌝ }
 {
     match words[0] {
         1 => decode_plain(Operation::Load, words),

@@ -11,12 +11,14 @@ use Rattle.values.proofs.MakeLaws.{builds-makes}
 use Rattle.values.specs.declared.rows.Value.{Value}
 use Rattle.values.specs.declared.placing.Placed.{Placed}
 use Rattle.catalogue.specs.Stored.{relationsOf, columnsOf, storedTables}
+use Rattle.plan_reading.specs.Decoding.{operationIn}
 use Rattle.plan_reading.specs.declared.nodes.Operation.{Operation}
 use Rattle.plan_reading.specs.declared.nodes.Operation.the-variants.{Load, Project, SelectConstant, SelectAttribute, Join, Semijoin, Antijoin, Divide, Unite, Intersect, Subtract}
 use Rattle.plan_reading.proofs.DecodeLaws.{Stands, stands}
+use Rattle.plan_reading.proofs.JudgeLaws.{widthMade}
 use Rattle.node_values.specs.Standing.{valuesIn, standing}
 use Rattle.node_values.specs.NodeRun.{widthRead, candidatesRead}
-use Rattle.node_values.proofs.NodeLaws.{Asks, asks, widthMade, offered, makes}
+use Rattle.node_values.proofs.NodeLaws.{Asks, asks, offered, makes}
 use native.Mathlib.Omega.{arith}
 use borrow.Author.Needs.{needs}
 use Rattle.node_values.proofs.node.make_value.Statement.{statement}
@@ -83,7 +85,7 @@ module _ (v : Sides) where
 
   -- what it makes is what the words' node makes
   built : (operation : Operation) → start .args .node .operation ≡ operation → {after : List ℕ} {r : Placed}
-      → Makes (widthMade (columnsOf (start .args .catalogue .now)) operation (start .args .node .left) (start .args .node .count) (left .width) (right .width)) (start .args .out)
+      → Makes (widthMade (columnsOf (start .args .catalogue .now)) (operationIn operation) (start .args .node .left) (start .args .node .count) (left .width) (right .width)) (start .args .out)
       (offered (storedTables (start .args .catalogue .now) (start .args .tables .now)) operation (start .args .node .left) (start .args .node .count) list (rowsOf left work) (rowsOf right work)) work after r
       → Makes (widthRead (columnsOf (start .args .catalogue .now)) (start .args .widths .now) (readNode words)) (start .args .out)
       (candidatesRead (storedTables (start .args .catalogue .now) (start .args .tables .now)) (standing (valuesIn (start .args .widths .now) (start .args .rows .now) (start .args .bases .now)) work) (readNode words)) work after r

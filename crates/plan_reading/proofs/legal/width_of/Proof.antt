@@ -1,12 +1,11 @@
--- `plan_reading::legal::width_of` meets its contract: each arm is the row of `widthBy` for its operation. A join's sum is within the column limit, so it is no overflow.
+-- `plan_reading::legal::width_of` meets its contract: each arm is the width that its operation makes. A legal join's sum is within the column limit, so it is no overflow.
 -- Assumes nothing.
-use Prim.Native.Nat.{_+_}
-use mathlib.Core.Path.{_∙_}
+use mathlib.Core.Path.{refl, _∙_}
 use native.Mathlib.Omega.{arith}
-use borrow.Author.Tests.{leb-true}
 use borrow.Author.Needs.{needs}
-use Rattle.relations.specs.Plan.{widthAt}
-use Rattle.relations.specs.Limits.{columnLimit}
+use Rattle.catalogue.specs.Stored.{relationsOf, columnsOf}
+use Rattle.plan_reading.specs.declared.nodes.Operation.the-variants.{Load, Project, SelectConstant, SelectAttribute, Join, Semijoin, Antijoin, Divide, Unite, Intersect, Subtract}
+use Rattle.plan_reading.proofs.JudgeLaws.{width-arm, join-narrow}
 use Rattle.plan_reading.proofs.legal.width_of.Statement.{statement}
 use Rattle.plan_reading.proofs.legal.width_of.Tie as tie
 
@@ -38,7 +37,7 @@ width-at-requires-2 : tie.Need-width-at-requires-2
 width-at-requires-2 c κs = search needs
 
 add-result : tie.Need-add-result
-add-result c = let a = c .before .before .before .before .before .before .args in omega (arith, leb-true (widthAt (a .widths .now) (a .node .left) + widthAt (a .widths .now) (a .node .right)) columnLimit (rw (c .before .enum-told5 .given .1) at (c .before .before .before .before .before .before .pre)))
+add-result c = let a = c .before .before .before .before .before .before in omega (arith, join-narrow (relationsOf (a .args .catalogue .now)) (a .args .widths .now) (a .args .node) (a .pre) (c .before .enum-told5 .given .1))
 
 enum-told-6 : tie.Need-enum-told-6
 enum-told-6 c = search needs
@@ -59,40 +58,40 @@ enum-told-11 : tie.Need-enum-told-11
 enum-told-11 c = search needs
 
 returns : tie.Need-returns
-returns c = rw (c .before .before .enum-told .given .1) (c .wide .ensures ∙ c .before .columns-of .ensures)
+returns c = let s = c .before .before .before .before .before .before .before in width-arm (columnsOf (s .args .catalogue .now)) (s .args .widths .now) (s .args .node) Load (c .before .before .enum-told .given .1) (c .wide .ensures ∙ c .before .columns-of .ensures)
 
 returns-2 : tie.Need-returns-2
-returns-2 c = search needs
+returns-2 c = let s = c .before .before .before .before .before in width-arm (columnsOf (s .args .catalogue .now)) (s .args .widths .now) (s .args .node) Project (c .enum-told2 .given .1) (refl)
 
 returns-3 : tie.Need-returns-3
-returns-3 c = rw (c .enum-told3 .given .1) (c .before .before .width-at .ensures)
+returns-3 c = let s = c .before .before .before .before .before in width-arm (columnsOf (s .args .catalogue .now)) (s .args .widths .now) (s .args .node) SelectConstant (c .enum-told3 .given .1) (c .before .before .width-at .ensures)
 
 returns-4 : tie.Need-returns-4
-returns-4 c = rw (c .enum-told4 .given .1) (c .before .before .width-at .ensures)
+returns-4 c = let s = c .before .before .before .before .before in width-arm (columnsOf (s .args .catalogue .now)) (s .args .widths .now) (s .args .node) SelectAttribute (c .enum-told4 .given .1) (c .before .before .width-at .ensures)
 
 returns-5 : tie.Need-returns-5
-returns-5 c = rw (c .before .enum-told5 .given .1, c .before .before .before .width-at .ensures, c .width-at2 .ensures)
+returns-5 c = let s = c .before .before .before .before .before .before in width-arm (columnsOf (s .args .catalogue .now)) (s .args .widths .now) (s .args .node) Join (c .before .enum-told5 .given .1) (rw (c .before .before .before .width-at .ensures, c .width-at2 .ensures))
 
 returns-6 : tie.Need-returns-6
-returns-6 c = rw (c .enum-told6 .given .1) (c .before .before .width-at .ensures)
+returns-6 c = let s = c .before .before .before .before .before in width-arm (columnsOf (s .args .catalogue .now)) (s .args .widths .now) (s .args .node) Semijoin (c .enum-told6 .given .1) (c .before .before .width-at .ensures)
 
 returns-7 : tie.Need-returns-7
-returns-7 c = rw (c .enum-told7 .given .1) (c .before .before .width-at .ensures)
+returns-7 c = let s = c .before .before .before .before .before in width-arm (columnsOf (s .args .catalogue .now)) (s .args .widths .now) (s .args .node) Antijoin (c .enum-told7 .given .1) (c .before .before .width-at .ensures)
 
 returns-8 : tie.Need-returns-8
-returns-8 c = rw (c .before .enum-told8 .given .1, c .before .before .before .width-at .ensures)
+returns-8 c = let s = c .before .before .before .before .before .before in width-arm (columnsOf (s .args .catalogue .now)) (s .args .widths .now) (s .args .node) Divide (c .before .enum-told8 .given .1) (rw (c .before .before .before .width-at .ensures))
 
 returns-9 : tie.Need-returns-9
-returns-9 c = rw (c .before .enum-told8 .given .1) (omega arith)
+returns-9 c = let s = c .before .before .before .before .before .before in width-arm (columnsOf (s .args .catalogue .now)) (s .args .widths .now) (s .args .node) Divide (c .before .enum-told8 .given .1) (omega (arith, c .before .before .before .width-at .ensures))
 
 returns-10 : tie.Need-returns-10
-returns-10 c = rw (c .enum-told9 .given .1) (c .before .before .width-at .ensures)
+returns-10 c = let s = c .before .before .before .before .before in width-arm (columnsOf (s .args .catalogue .now)) (s .args .widths .now) (s .args .node) Unite (c .enum-told9 .given .1) (c .before .before .width-at .ensures)
 
 returns-11 : tie.Need-returns-11
-returns-11 c = rw (c .enum-told10 .given .1) (c .before .before .width-at .ensures)
+returns-11 c = let s = c .before .before .before .before .before in width-arm (columnsOf (s .args .catalogue .now)) (s .args .widths .now) (s .args .node) Intersect (c .enum-told10 .given .1) (c .before .before .width-at .ensures)
 
 returns-12 : tie.Need-returns-12
-returns-12 c = rw (c .enum-told11 .given .1) (c .before .before .width-at .ensures)
+returns-12 c = let s = c .before .before .before .before .before in width-arm (columnsOf (s .args .catalogue .now)) (s .args .widths .now) (s .args .node) Subtract (c .enum-told11 .given .1) (c .before .before .width-at .ensures)
 
 pub width-of-spec : {M : Type 1} → statement M
 width-of-spec =
