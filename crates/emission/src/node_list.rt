@@ -8,7 +8,6 @@ ghost use Rattle.relations.specs.Limits.{columnLimit, listWords};
 ghost use Rattle.calculus.specs.Scope.{columnsFrom};
 ghost use Rattle.emission.specs.NodeLists.{nodeList, grownBy, numbersOf};
 use relations::limits::LIST_WORDS;
-use terms::attribute::Attribute;
 
 // A node's list: the words used so far, then zeros.
 pub struct NodeList {
@@ -35,52 +34,25 @@ pub fn with_word(list: NodeList, word: u32) -> NodeList
     longer
 }
 
-pub fn with_pair(list: NodeList, left: Attribute, right: Attribute) -> NodeList
-    requires { ⌜ list .used + 2 ≤ listWords ⌝ }
-    ensures { λ r. ⌜ r ≡ grownBy list (left .0 ∷ right .0 ∷ []) ⌝ }
+pub fn with_words(list: NodeList, words: &[u32]) -> NodeList
+    requires { ⌜ list .used + length (now words) ≤ listWords ⌝ }
+    ensures { λ r. ⌜ r ≡ grownBy list (now (words .entry)) ⌝ }
 {
-    with_word(with_word(list, left.0), right.0)
-}
-
-pub fn with_triple(list: NodeList, left: Attribute, operator: u32, right: Attribute) -> NodeList
-    requires { ⌜ list .used + 3 ≤ listWords ⌝ }
-    ensures { λ r. ⌜ r ≡ grownBy list (left .0 ∷ operator ∷ right .0 ∷ []) ⌝ }
-{
-    with_word(with_word(with_word(list, left.0), operator), right.0)
-}
-
-pub fn with_word_if(list: NodeList, test: bool, word: u32) -> NodeList
-    requires { ⌜ list .used + length (cond test (word ∷ []) []) ≤ listWords ⌝ }
-    ensures { λ r. ⌜ r ≡ grownBy list (cond test (word ∷ []) []) ⌝ }
-{
-    if test {
-        return with_word(list, word);
+    let mut longer = list;
+    let mut i: usize = 0;
+    while i < words.len() {
+        longer = with_word(longer, words[i]);
+        i += 1;
     }
-    list
+    longer
 }
 
-pub fn with_pair_if(list: NodeList, test: bool, left: Attribute, right: Attribute) -> NodeList
-    requires { ⌜ list .used + length (cond test (left .0 ∷ right .0 ∷ []) []) ≤ listWords ⌝ }
-    ensures { λ r. ⌜ r ≡ grownBy list (cond test (left .0 ∷ right .0 ∷ []) []) ⌝ }
+pub fn with_words_if(list: NodeList, test: bool, words: &[u32]) -> NodeList
+    requires { ⌜ list .used + length (cond test (now words) []) ≤ listWords ⌝ }
+    ensures { λ r. ⌜ r ≡ grownBy list (cond test (now (words .entry)) []) ⌝ }
 {
     if test {
-        return with_pair(list, left, right);
-    }
-    list
-}
-
-pub fn with_triple_if(
-    list: NodeList,
-    test: bool,
-    left: Attribute,
-    operator: u32,
-    right: Attribute,
-) -> NodeList
-    requires { ⌜ list .used + length (cond test (left .0 ∷ operator ∷ right .0 ∷ []) []) ≤ listWords ⌝ }
-    ensures { λ r. ⌜ r ≡ grownBy list (cond test (left .0 ∷ operator ∷ right .0 ∷ []) []) ⌝ }
-{
-    if test {
-        return with_triple(list, left, operator, right);
+        return with_words(list, words);
     }
     list
 }

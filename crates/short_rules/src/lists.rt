@@ -29,12 +29,9 @@ use conditions::scope::SCOPE_BYTES;
 use conditions::scope::column_of;
 use emission::node_list::NodeList;
 use emission::node_list::no_list;
-use emission::node_list::with_pair_if;
-use emission::node_list::with_triple;
-use emission::node_list::with_triple_if;
-use emission::node_list::with_word_if;
+use emission::node_list::with_words;
+use emission::node_list::with_words_if;
 use nodes::node::Atom;
-use terms::attribute::Attribute;
 
 // The triple of an atom that compares x with another variable: P's column is on the left, and the operator is turned when the sides are.
 fn with_triple_of(list: NodeList, scope: &[u8; SCOPE_BYTES], x: u32, atom: Atom) -> NodeList
@@ -47,9 +44,9 @@ fn with_triple_of(list: NodeList, scope: &[u8; SCOPE_BYTES], x: u32, atom: Atom)
     let own = own_attribute(x, atom);
     let other = column_of(scope, other_variable(x, atom), other_attribute(x, atom));
     if atom.variable == x {
-        return with_triple(list, other, turned(atom.operator), own);
+        return with_words(list, &[other.0, turned(atom.operator), own.0]);
     }
-    with_triple(list, other, atom.operator, own)
+    with_words(list, &[other.0, atom.operator, own.0])
 }
 
 pub fn triples_of(
@@ -102,7 +99,7 @@ pub fn with_own_columns(
     while 0 < left {
         let atom = leaf(words, leaves, false, i);
         let own = own_attribute(z, atom);
-        longer = with_word_if(longer, links(outside, z, y, atom), own.0);
+        longer = with_words_if(longer, links(outside, z, y, atom), &[own.0]);
         i += 1;
         left -= 1;
     }
@@ -128,7 +125,7 @@ pub fn division_pairs(
         let atom = leaf(words, leaves, false, i);
         let with_y = equates_with(z, y, atom);
         let other = other_attribute(z, atom);
-        list = with_pair_if(list, with_y, Attribute(column), other);
+        list = with_words_if(list, with_y, &[column, other.0]);
         column += once(with_y);
         i += 1;
         left -= 1;
@@ -155,7 +152,7 @@ pub fn outside_triples(
         let atom = leaf(words, leaves, false, i);
         let with_other = equates_outside(z, y, atom);
         let other = column_of(scope, other_variable(z, atom), other_attribute(z, atom));
-        list = with_triple_if(list, with_other, other, 1, Attribute(column));
+        list = with_words_if(list, with_other, &[other.0, 1, column]);
         column += once(with_other);
         i += 1;
         left -= 1;

@@ -1,5 +1,5 @@
-use Rattle.short_rules.proofs.LeafSteps.{rest, pairs-next}
 use Rattle.short_rules.proofs.ListLaws.{pairs-size}
+use Rattle.short_rules.proofs.LeafSteps.{rest, pairs-next}
 use Rattle.relations.specs.Limits.{listWords}
 use Rattle.calculus.specs.ShortRules.{divisionPairs}
 use Rattle.calculus.specs.Leaves.{equatesWith, otherAttribute}
@@ -16,6 +16,7 @@ use mathlib.Core.Bool.{false, cond}
 use mathlib.Core.Path.{_≡_, refl, ap, sym, _∙_}
 use Prim.Native.Nat.{ℕ, _+_, _-_, _≤_}
 use native.Mathlib.Omega.{arith}
+use borrow.Author.Needs.{needs}
 use Rattle.short_rules.proofs.lists.division_pairs.Statement.{statement}
 use Rattle.short_rules.proofs.lists.division_pairs.Tie as tie
 
@@ -48,20 +49,23 @@ equates-with-requires c κs = c .leaf .ensures .1
 other-attribute-requires : tie.Need-other-attribute-requires Inv-loop μ-loop
 other-attribute-requires c κs = c .before .leaf .ensures .1
 
-with-pair-if-requires : tie.Need-with-pair-if-requires Inv-loop μ-loop
-with-pair-if-requires c κs = let s = c .before .before .before .before .before .before .before .before in
-    let l = c .before .before .before .before .loop in
-    let a = c .before .before .leaf .ensures .0 in
-    let t = c .before .equates-with .ensures ∙ ap (equatesWith (s .args .z) (s .args .y)) a in
-    let o = c .other-attribute .ensures .0 ∙ ap (λ (b : calculus.Atom). otherAttribute (s .args .z) b .number) a in
+slice-aggregate-with-words-if : tie.Need-slice-aggregate-with-words-if Inv-loop μ-loop
+slice-aggregate-with-words-if c = search needs
+
+with-words-if-requires : tie.Need-with-words-if-requires Inv-loop μ-loop
+with-words-if-requires c κs = let s = c .before .before .before .before .before .before .before .before .before in
+    let l = c .before .before .before .before .before .loop in
+    let a = c .before .before .before .leaf .ensures .0 in
+    let t = c .before .before .equates-with .ensures ∙ ap (equatesWith (s .args .z) (s .args .y)) a in
+    let o = c .before .other-attribute .ensures .0 ∙ ap (λ (b : calculus.Atom). otherAttribute (s .args .z) b .number) a in
     let e = pairs-next (s .args .words .now) false (s .args .leaves .now) (l .i) (l .left) (omega arith) (equatesWith (s .args .z) (s .args .y)) (s .args .z) (l .column) _ _ t o in
-    omega (arith, l .inv .2, ap length e, length-append (cond (c .before .equates-with .result) (l .column ∷ c .other-attribute .result .0 ∷ []) []) (flat pairWords (divisionPairs (s .args .z) (filter (equatesWith (s .args .z) (s .args .y)) (rest (s .args .words .now) false (s .args .leaves .now) (l .i + 1) (l .left - 1))) (l .column + cond (c .before .equates-with .result) 1 0))))
+    omega (arith, l .inv .2, ap length e, length-append (cond (c .before .before .equates-with .result) (l .column ∷ c .before .other-attribute .result .0 ∷ []) []) (flat pairWords (divisionPairs (s .args .z) (filter (equatesWith (s .args .z) (s .args .y)) (rest (s .args .words .now) false (s .args .leaves .now) (l .i + 1) (l .left - 1))) (l .column + cond (c .before .before .equates-with .result) 1 0))))
 
 once-requires : tie.Need-once-requires Inv-loop μ-loop
 once-requires c κs = tt
 
 add-column : tie.Need-add-column Inv-loop μ-loop
-add-column c = omega (arith, c .once .ensures .1, c .before .before .before .before .before .before .before .before .before .before .pre .2)
+add-column c = omega (arith, c .once .ensures .1, c .before .before .before .before .before .before .before .before .before .before .before .pre .2)
 
 add-i : tie.Need-add-i Inv-loop μ-loop
 add-i c = omega arith
@@ -73,18 +77,18 @@ loop-less : tie.Need-loop-less Inv-loop μ-loop
 loop-less c = omega arith
 
 loop-again : tie.Need-loop-again Inv-loop μ-loop
-loop-again c = let s = c .before .before .before .before .before .before .before .before .before .before in
-    let l = c .before .before .before .before .before .before .loop in
-    let a = c .before .before .before .before .leaf .ensures .0 in
-    let t = c .before .before .before .equates-with .ensures ∙ ap (equatesWith (s .args .z) (s .args .y)) a in
-    let o = c .before .before .other-attribute .ensures .0 ∙ ap (λ (b : calculus.Atom). otherAttribute (s .args .z) b .number) a in
+loop-again c = let s = c .before .before .before .before .before .before .before .before .before .before .before in
+    let l = c .before .before .before .before .before .before .before .loop in
+    let a = c .before .before .before .before .before .leaf .ensures .0 in
+    let t = c .before .before .before .before .equates-with .ensures ∙ ap (equatesWith (s .args .z) (s .args .y)) a in
+    let o = c .before .before .before .other-attribute .ensures .0 ∙ ap (λ (b : calculus.Atom). otherAttribute (s .args .z) b .number) a in
     let e = pairs-next (s .args .words .now) false (s .args .leaves .now) (l .i) (l .left) (omega arith) (equatesWith (s .args .z) (s .args .y)) (s .args .z) (l .column) _ _ t o in
-    let m = length-append (cond (c .before .before .before .equates-with .result) (l .column ∷ c .before .before .other-attribute .result .0 ∷ []) []) (flat pairWords (divisionPairs (s .args .z) (filter (equatesWith (s .args .z) (s .args .y)) (rest (s .args .words .now) false (s .args .leaves .now) (l .i + 1) (l .left - 1))) (l .column + cond (c .before .before .before .equates-with .result) 1 0))) in
+    let m = length-append (cond (c .before .before .before .before .equates-with .result) (l .column ∷ c .before .before .before .other-attribute .result .0 ∷ []) []) (flat pairWords (divisionPairs (s .args .z) (filter (equatesWith (s .args .z) (s .args .y)) (rest (s .args .words .now) false (s .args .leaves .now) (l .i + 1) (l .left - 1))) (l .column + cond (c .before .before .before .before .equates-with .result) 1 0))) in
     let k = ap (λ (x : ℕ). flat pairWords (divisionPairs (s .args .z) (filter (equatesWith (s .args .z) (s .args .y)) (rest (s .args .words .now) false (s .args .leaves .now) (l .i + 1) (l .left - 1))) (l .column + x))) (c .once .ensures .0) in (
       omega arith,
       omega (arith, c .once .ensures .1),
-      omega (arith, l .inv .2, grown-used _ _ (c .before .with-pair-if .ensures), ap length e, ap length k, m),
-      ap (grownBy (c .before .with-pair-if .result)) k ∙ grown-step _ _ _ (c .before .with-pair-if .ensures) ∙ ap (grownBy (l .list)) (sym e) ∙ l .inv .3,
+      omega (arith, l .inv .2, grown-used _ _ (c .before .with-words-if .ensures), ap length e, ap length k, m),
+      ap (grownBy (c .before .with-words-if .result)) k ∙ grown-step _ _ _ (c .before .with-words-if .ensures) ∙ ap (grownBy (l .list)) (sym e) ∙ l .inv .3,
     )
 
 returns : tie.Need-returns Inv-loop μ-loop
@@ -104,7 +108,8 @@ division-pairs-spec =
     leaf-requires
     equates-with-requires
     other-attribute-requires
-    with-pair-if-requires
+    slice-aggregate-with-words-if
+    with-words-if-requires
     once-requires
     add-column
     add-i

@@ -1,5 +1,5 @@
-use Rattle.short_rules.proofs.LeafSteps.{rest, outside-next}
 use Rattle.short_rules.proofs.ListLaws.{outside-size}
+use Rattle.short_rules.proofs.LeafSteps.{rest, outside-next}
 use Rattle.relations.specs.Limits.{listWords}
 use Rattle.conditions.specs.Scopes.{scopeOf}
 use Rattle.calculus.specs.ShortRules.{outsideTriples}
@@ -18,6 +18,7 @@ use mathlib.Core.Bool.{false, cond}
 use mathlib.Core.Path.{_≡_, refl, ap, ap₂, sym, _∙_}
 use Prim.Native.Nat.{ℕ, _+_, _-_, _≤_}
 use native.Mathlib.Omega.{arith}
+use borrow.Author.Needs.{needs}
 use Rattle.short_rules.proofs.lists.outside_triples.Statement.{statement}
 use Rattle.short_rules.proofs.lists.outside_triples.Tie as tie
 
@@ -56,23 +57,26 @@ other-attribute-requires c κs = c .before .before .leaf .ensures .1
 column-of-requires : tie.Need-column-of-requires Inv-loop μ-loop
 column-of-requires c κs = (c .before .before .before .before .before .before .before .before .before .pre .0, c .other-attribute .ensures .1)
 
-with-triple-if-requires : tie.Need-with-triple-if-requires Inv-loop μ-loop
-with-triple-if-requires c κs = let s = c .before .before .before .before .before .before .before .before .before .before in
-    let l = c .before .before .before .before .before .before .loop in
-    let a = c .before .before .before .before .leaf .ensures .0 in
-    let t = c .before .before .before .equates-outside .ensures ∙ ap (equatesOutside (s .args .z) (s .args .y)) a in
-    let o = c .column-of .ensures ∙ ap₂ (columnNumber (scopeOf (s .args .scope .now))) (c .before .before .other-variable .ensures ∙ ap (otherVariable (s .args .z)) a) (c .before .other-attribute .ensures .0 ∙ ap (λ (b : calculus.Atom). otherAttribute (s .args .z) b .number) a) in
+slice-aggregate-with-words-if : tie.Need-slice-aggregate-with-words-if Inv-loop μ-loop
+slice-aggregate-with-words-if c = search needs
+
+with-words-if-requires : tie.Need-with-words-if-requires Inv-loop μ-loop
+with-words-if-requires c κs = let s = c .before .before .before .before .before .before .before .before .before .before .before in
+    let l = c .before .before .before .before .before .before .before .loop in
+    let a = c .before .before .before .before .before .leaf .ensures .0 in
+    let t = c .before .before .before .before .equates-outside .ensures ∙ ap (equatesOutside (s .args .z) (s .args .y)) a in
+    let o = c .before .column-of .ensures ∙ ap₂ (columnNumber (scopeOf (s .args .scope .now))) (c .before .before .before .other-variable .ensures ∙ ap (otherVariable (s .args .z)) a) (c .before .before .other-attribute .ensures .0 ∙ ap (λ (b : calculus.Atom). otherAttribute (s .args .z) b .number) a) in
     let e = outside-next (s .args .words .now) false (s .args .leaves .now) (l .i) (l .left) (omega arith) (equatesOutside (s .args .z) (s .args .y)) (scopeOf (s .args .scope .now)) (s .args .z) (l .column) _ _ t o in
-    omega (arith, l .inv .2, ap length e, length-append (cond (c .before .before .before .equates-outside .result) (c .column-of .result .0 ∷ 1 ∷ l .column ∷ []) []) (flat tripleWords (outsideTriples (scopeOf (s .args .scope .now)) (s .args .z) (filter (equatesOutside (s .args .z) (s .args .y)) (rest (s .args .words .now) false (s .args .leaves .now) (l .i + 1) (l .left - 1))) (l .column + cond (c .before .before .before .equates-outside .result) 1 0))))
+    omega (arith, l .inv .2, ap length e, length-append (cond (c .before .before .before .before .equates-outside .result) (c .before .column-of .result .0 ∷ 1 ∷ l .column ∷ []) []) (flat tripleWords (outsideTriples (scopeOf (s .args .scope .now)) (s .args .z) (filter (equatesOutside (s .args .z) (s .args .y)) (rest (s .args .words .now) false (s .args .leaves .now) (l .i + 1) (l .left - 1))) (l .column + cond (c .before .before .before .before .equates-outside .result) 1 0))))
 
 once-requires : tie.Need-once-requires Inv-loop μ-loop
 once-requires c κs = tt
 
 add-column : tie.Need-add-column Inv-loop μ-loop
-add-column c = omega (arith, c .once .ensures .1, c .before .before .before .before .before .before .before .before .before .before .before .before .pre .1 .few)
+add-column c = omega (arith, c .once .ensures .1, c .before .before .before .before .before .before .before .before .before .before .before .before .before .pre .1 .few)
 
 add-i : tie.Need-add-i Inv-loop μ-loop
-add-i c = omega (arith, c .before .before .before .before .before .before .before .before .before .before .before .before .pre .1 .few)
+add-i c = omega (arith, c .before .before .before .before .before .before .before .before .before .before .before .before .before .pre .1 .few)
 
 sub-left : tie.Need-sub-left Inv-loop μ-loop
 sub-left c = omega arith
@@ -81,18 +85,18 @@ loop-less : tie.Need-loop-less Inv-loop μ-loop
 loop-less c = omega arith
 
 loop-again : tie.Need-loop-again Inv-loop μ-loop
-loop-again c = let s = c .before .before .before .before .before .before .before .before .before .before .before .before in
-    let l = c .before .before .before .before .before .before .before .before .loop in
-    let a = c .before .before .before .before .before .before .leaf .ensures .0 in
-    let t = c .before .before .before .before .before .equates-outside .ensures ∙ ap (equatesOutside (s .args .z) (s .args .y)) a in
-    let o = c .before .before .column-of .ensures ∙ ap₂ (columnNumber (scopeOf (s .args .scope .now))) (c .before .before .before .before .other-variable .ensures ∙ ap (otherVariable (s .args .z)) a) (c .before .before .before .other-attribute .ensures .0 ∙ ap (λ (b : calculus.Atom). otherAttribute (s .args .z) b .number) a) in
+loop-again c = let s = c .before .before .before .before .before .before .before .before .before .before .before .before .before in
+    let l = c .before .before .before .before .before .before .before .before .before .loop in
+    let a = c .before .before .before .before .before .before .before .leaf .ensures .0 in
+    let t = c .before .before .before .before .before .before .equates-outside .ensures ∙ ap (equatesOutside (s .args .z) (s .args .y)) a in
+    let o = c .before .before .before .column-of .ensures ∙ ap₂ (columnNumber (scopeOf (s .args .scope .now))) (c .before .before .before .before .before .other-variable .ensures ∙ ap (otherVariable (s .args .z)) a) (c .before .before .before .before .other-attribute .ensures .0 ∙ ap (λ (b : calculus.Atom). otherAttribute (s .args .z) b .number) a) in
     let e = outside-next (s .args .words .now) false (s .args .leaves .now) (l .i) (l .left) (omega arith) (equatesOutside (s .args .z) (s .args .y)) (scopeOf (s .args .scope .now)) (s .args .z) (l .column) _ _ t o in
-    let m = length-append (cond (c .before .before .before .before .before .equates-outside .result) (c .before .before .column-of .result .0 ∷ 1 ∷ l .column ∷ []) []) (flat tripleWords (outsideTriples (scopeOf (s .args .scope .now)) (s .args .z) (filter (equatesOutside (s .args .z) (s .args .y)) (rest (s .args .words .now) false (s .args .leaves .now) (l .i + 1) (l .left - 1))) (l .column + cond (c .before .before .before .before .before .equates-outside .result) 1 0))) in
+    let m = length-append (cond (c .before .before .before .before .before .before .equates-outside .result) (c .before .before .before .column-of .result .0 ∷ 1 ∷ l .column ∷ []) []) (flat tripleWords (outsideTriples (scopeOf (s .args .scope .now)) (s .args .z) (filter (equatesOutside (s .args .z) (s .args .y)) (rest (s .args .words .now) false (s .args .leaves .now) (l .i + 1) (l .left - 1))) (l .column + cond (c .before .before .before .before .before .before .equates-outside .result) 1 0))) in
     let k = ap (λ (x : ℕ). (flat tripleWords (outsideTriples (scopeOf (s .args .scope .now)) (s .args .z) (filter (equatesOutside (s .args .z) (s .args .y)) (rest (s .args .words .now) false (s .args .leaves .now) (l .i + 1) (l .left - 1))) (l .column + x)))) (c .once .ensures .0) in (
       omega arith,
       omega (arith, c .once .ensures .1),
-      omega (arith, l .inv .2, grown-used _ _ (c .before .with-triple-if .ensures), ap length e, ap length k, m),
-      ap (grownBy (c .before .with-triple-if .result)) k ∙ grown-step _ _ _ (c .before .with-triple-if .ensures) ∙ ap (grownBy (l .list)) (sym e) ∙ l .inv .3,
+      omega (arith, l .inv .2, grown-used _ _ (c .before .with-words-if .ensures), ap length e, ap length k, m),
+      ap (grownBy (c .before .with-words-if .result)) k ∙ grown-step _ _ _ (c .before .with-words-if .ensures) ∙ ap (grownBy (l .list)) (sym e) ∙ l .inv .3,
     )
 
 returns : tie.Need-returns Inv-loop μ-loop
@@ -114,7 +118,8 @@ outside-triples-spec =
     other-variable-requires
     other-attribute-requires
     column-of-requires
-    with-triple-if-requires
+    slice-aggregate-with-words-if
+    with-words-if-requires
     once-requires
     add-column
     add-i

@@ -13,6 +13,7 @@ use mathlib.Core.List.{map}
 use mathlib.Core.Path.{_≡_, refl, ap, sym, _∙_}
 use Prim.Native.Nat.{_+_, _≤_}
 use native.Mathlib.Omega.{arith}
+use borrow.Author.Needs.{needs}
 use Rattle.short_rules.proofs.lists.with_own_columns.Statement.{statement}
 use Rattle.short_rules.proofs.lists.with_own_columns.Tie as tie
 
@@ -39,12 +40,15 @@ own-attribute-requires c κs = tt
 links-requires : tie.Need-links-requires Inv-loop μ-loop
 links-requires c κs = c .before .leaf .ensures .1
 
-with-word-if-requires : tie.Need-with-word-if-requires Inv-loop μ-loop
-with-word-if-requires c κs = let s = c .before .before .before .before .before .before .before in
-    let l = c .before .before .before .before .loop in
-    let a = c .before .before .leaf .ensures .0 in
-    let t = c .links .ensures ∙ ap (links (s .args .outside) (s .args .z) (s .args .y)) a in
-    omega (arith, l .inv .1, own-count (s .args .words .now) false (s .args .leaves .now) (l .i) (l .left) (omega arith) (links (s .args .outside) (s .args .z) (s .args .y)) (c .before .own-attribute .result .0) _ t)
+slice-aggregate-with-words-if : tie.Need-slice-aggregate-with-words-if Inv-loop μ-loop
+slice-aggregate-with-words-if c = search needs
+
+with-words-if-requires : tie.Need-with-words-if-requires Inv-loop μ-loop
+with-words-if-requires c κs = let s = c .before .before .before .before .before .before .before .before in
+    let l = c .before .before .before .before .before .loop in
+    let a = c .before .before .before .leaf .ensures .0 in
+    let t = c .before .links .ensures ∙ ap (links (s .args .outside) (s .args .z) (s .args .y)) a in
+    omega (arith, l .inv .1, own-count (s .args .words .now) false (s .args .leaves .now) (l .i) (l .left) (omega arith) (links (s .args .outside) (s .args .z) (s .args .y)) (c .before .before .own-attribute .result .0) _ t)
 
 add-i : tie.Need-add-i Inv-loop μ-loop
 add-i c = omega arith
@@ -56,14 +60,14 @@ loop-less : tie.Need-loop-less Inv-loop μ-loop
 loop-less c = omega arith
 
 loop-again : tie.Need-loop-again Inv-loop μ-loop
-loop-again c = let s = c .before .before .before .before .before .before .before .before in
-    let l = c .before .before .before .before .before .loop in
-    let a = c .before .before .before .leaf .ensures .0 in
-    let t = c .before .links .ensures ∙ ap (links (s .args .outside) (s .args .z) (s .args .y)) a in
-    let o = c .before .before .own-attribute .ensures ∙ ap (λ (b : calculus.Atom). ownAttribute (s .args .z) b .number) a in (
+loop-again c = let s = c .before .before .before .before .before .before .before .before .before in
+    let l = c .before .before .before .before .before .before .loop in
+    let a = c .before .before .before .before .leaf .ensures .0 in
+    let t = c .before .before .links .ensures ∙ ap (links (s .args .outside) (s .args .z) (s .args .y)) a in
+    let o = c .before .before .before .own-attribute .ensures ∙ ap (λ (b : calculus.Atom). ownAttribute (s .args .z) b .number) a in (
       omega arith,
-      omega (arith, l .inv .1, grown-used _ _ (c .with-word-if .ensures), own-count (s .args .words .now) false (s .args .leaves .now) (l .i) (l .left) (omega arith) (links (s .args .outside) (s .args .z) (s .args .y)) (c .before .before .own-attribute .result .0) _ t),
-      grown-step _ _ _ (c .with-word-if .ensures) ∙ ap (grownBy (l .longer)) (sym (own-next (s .args .words .now) false (s .args .leaves .now) (l .i) (l .left) (omega arith) (links (s .args .outside) (s .args .z) (s .args .y)) (s .args .z) _ _ t o)) ∙ l .inv .2,
+      omega (arith, l .inv .1, grown-used _ _ (c .with-words-if .ensures), own-count (s .args .words .now) false (s .args .leaves .now) (l .i) (l .left) (omega arith) (links (s .args .outside) (s .args .z) (s .args .y)) (c .before .before .before .own-attribute .result .0) _ t),
+      grown-step _ _ _ (c .with-words-if .ensures) ∙ ap (grownBy (l .longer)) (sym (own-next (s .args .words .now) false (s .args .leaves .now) (l .i) (l .left) (omega arith) (links (s .args .outside) (s .args .z) (s .args .y)) (s .args .z) _ _ t o)) ∙ l .inv .2,
     )
 
 returns : tie.Need-returns Inv-loop μ-loop
@@ -82,7 +86,8 @@ with-own-columns-spec =
     leaf-requires
     own-attribute-requires
     links-requires
-    with-word-if-requires
+    slice-aggregate-with-words-if
+    with-words-if-requires
     add-i
     sub-left
     loop-less

@@ -38,33 +38,39 @@ column-of-requires c κs = search needs
 turned-requires : tie.Need-turned-requires
 turned-requires c κs = search needs
 
-with-triple-requires : tie.Need-with-triple-requires
-with-triple-requires c κs = let s = c .before .before .before .before .before .before .before .before .before in
-    let a = s .args .atom in
-    let h : comparesWithOther (s .args .x) (atomOf a) ≡ true = sym (c .before .before .before .before .before .before .before .before .compares-with-other .ensures) ∙ not-false _ (c .before .before .before .before .before .before .before .if1 .left) in
-    let e = triple-turned (scopeOf (s .args .scope .now)) (s .args .x) (a .variable) (attribute (a .attribute .0)) (operatorNamed (a .operator)) (operandOf (a .operand)) h (c .before .if2 .taken) in
-    omega (arith, s .pre .2, ap length e)
+slice-aggregate-with-words : tie.Need-slice-aggregate-with-words
+slice-aggregate-with-words c = search needs
 
-returns-2 : tie.Need-returns-2
-returns-2 c = let s = c .before .before .before .before .before .before .before .before .before .before in
+with-words-requires : tie.Need-with-words-requires
+with-words-requires c κs = let s = c .before .before .before .before .before .before .before .before .before .before in
     let a = s .args .atom in
     let h : comparesWithOther (s .args .x) (atomOf a) ≡ true = sym (c .before .before .before .before .before .before .before .before .before .compares-with-other .ensures) ∙ not-false _ (c .before .before .before .before .before .before .before .before .if1 .left) in
     let e = triple-turned (scopeOf (s .args .scope .now)) (s .args .x) (a .variable) (attribute (a .attribute .0)) (operatorNamed (a .operator)) (operandOf (a .operand)) h (c .before .before .if2 .taken) in
-    c .with-triple .ensures ∙ ap (grownBy (s .args .list)) (sym (e ∙ three (sym (c .before .before .before .before .column-of .ensures ∙ ap₂ (columnNumber (scopeOf (s .args .scope .now))) (c .before .before .before .before .before .before .other-variable .ensures) (c .before .before .before .before .before .other-attribute .ensures .0))) (sym (c .before .turned .ensures)) (sym (c .before .before .before .before .before .before .before .own-attribute .ensures))))
-
-with-triple-requires-2 : tie.Need-with-triple-requires-2
-with-triple-requires-2 c κs = let s = c .before .before .before .before .before .before .before .before in
-    let a = s .args .atom in
-    let h : comparesWithOther (s .args .x) (atomOf a) ≡ true = sym (c .before .before .before .before .before .before .before .compares-with-other .ensures) ∙ not-false _ (c .before .before .before .before .before .before .if1 .left) in
-    let e = triple-straight (scopeOf (s .args .scope .now)) (s .args .x) (a .variable) (attribute (a .attribute .0)) (operatorNamed (a .operator)) (operandOf (a .operand)) h (c .if2 .left) in
     omega (arith, s .pre .2, ap length e)
 
-returns-3 : tie.Need-returns-3
-returns-3 c = let s = c .before .before .before .before .before .before .before .before .before in
+returns-2 : tie.Need-returns-2
+returns-2 c = let s = c .before .before .before .before .before .before .before .before .before .before .before in
+    let a = s .args .atom in
+    let h : comparesWithOther (s .args .x) (atomOf a) ≡ true = sym (c .before .before .before .before .before .before .before .before .before .before .compares-with-other .ensures) ∙ not-false _ (c .before .before .before .before .before .before .before .before .before .if1 .left) in
+    let e = triple-turned (scopeOf (s .args .scope .now)) (s .args .x) (a .variable) (attribute (a .attribute .0)) (operatorNamed (a .operator)) (operandOf (a .operand)) h (c .before .before .before .if2 .taken) in
+    c .with-words .ensures ∙ ap (grownBy (s .args .list)) (sym (e ∙ three (sym (c .before .before .before .before .before .column-of .ensures ∙ ap₂ (columnNumber (scopeOf (s .args .scope .now))) (c .before .before .before .before .before .before .before .other-variable .ensures) (c .before .before .before .before .before .before .other-attribute .ensures .0))) (sym (c .before .before .turned .ensures)) (sym (c .before .before .before .before .before .before .before .before .own-attribute .ensures))))
+
+slice-aggregate-with-words-2 : tie.Need-slice-aggregate-with-words-2
+slice-aggregate-with-words-2 c = search needs
+
+with-words-requires-2 : tie.Need-with-words-requires-2
+with-words-requires-2 c κs = let s = c .before .before .before .before .before .before .before .before .before in
     let a = s .args .atom in
     let h : comparesWithOther (s .args .x) (atomOf a) ≡ true = sym (c .before .before .before .before .before .before .before .before .compares-with-other .ensures) ∙ not-false _ (c .before .before .before .before .before .before .before .if1 .left) in
     let e = triple-straight (scopeOf (s .args .scope .now)) (s .args .x) (a .variable) (attribute (a .attribute .0)) (operatorNamed (a .operator)) (operandOf (a .operand)) h (c .before .if2 .left) in
-    c .with-triple2 .ensures ∙ ap (grownBy (s .args .list)) (sym (e ∙ three (sym (c .before .before .before .column-of .ensures ∙ ap₂ (columnNumber (scopeOf (s .args .scope .now))) (c .before .before .before .before .before .other-variable .ensures) (c .before .before .before .before .other-attribute .ensures .0))) (sym (s .pre .1 .operator)) (sym (c .before .before .before .before .before .before .own-attribute .ensures))))
+    omega (arith, s .pre .2, ap length e)
+
+returns-3 : tie.Need-returns-3
+returns-3 c = let s = c .before .before .before .before .before .before .before .before .before .before in
+    let a = s .args .atom in
+    let h : comparesWithOther (s .args .x) (atomOf a) ≡ true = sym (c .before .before .before .before .before .before .before .before .before .compares-with-other .ensures) ∙ not-false _ (c .before .before .before .before .before .before .before .before .if1 .left) in
+    let e = triple-straight (scopeOf (s .args .scope .now)) (s .args .x) (a .variable) (attribute (a .attribute .0)) (operatorNamed (a .operator)) (operandOf (a .operand)) h (c .before .before .if2 .left) in
+    c .with-words2 .ensures ∙ ap (grownBy (s .args .list)) (sym (e ∙ three (sym (c .before .before .before .before .column-of .ensures ∙ ap₂ (columnNumber (scopeOf (s .args .scope .now))) (c .before .before .before .before .before .before .other-variable .ensures) (c .before .before .before .before .before .other-attribute .ensures .0))) (sym (s .pre .1 .operator)) (sym (c .before .before .before .before .before .before .before .own-attribute .ensures))))
 
 pub with-triple-of-spec : {M : Type 1} → statement M
 with-triple-of-spec =
@@ -77,7 +83,9 @@ with-triple-of-spec =
     other-attribute-requires
     column-of-requires
     turned-requires
-    with-triple-requires
+    slice-aggregate-with-words
+    with-words-requires
     returns-2
-    with-triple-requires-2
+    slice-aggregate-with-words-2
+    with-words-requires-2
     returns-3)
