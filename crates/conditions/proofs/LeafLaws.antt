@@ -20,22 +20,26 @@ use Rattle.relations.proofs.BoolLaws.{and-left, and-right}
 use Rattle.calculus.specs.Question as calculus
 use Rattle.calculus.proofs.SizeTheorem.{leaves-size}
 use Rattle.calculus.specs.Leaves.{leaves, oppositeAtom}
-use Rattle.nodes.specs.Nodes.{kindNamed, nodeAt}
-use Rattle.nodes.specs.References.{references}
+use Rattle.nodes.specs.Nodes.{nodeAt}
 use Rattle.question.specs.Trees.{Tree, treeOf, reading, atomOf}
 use Rattle.nodes.specs.declared.node.Operand.{Operand}
 use Rattle.nodes.specs.declared.node.Operand.the-variants.{Of, Fixed}
 use Rattle.nodes.specs.declared.node.Atom.{Atom}
 use Rattle.nodes.specs.declared.node.Node.{Node}
-use Rattle.nodes.specs.declared.node.Node.the-variants.{Table, Alpha, Target, Binding, RangeOr, RangeAnd, RangeAndNot, Atom as AtomNode, And, Or, Not, Some, Every, IllFormed}
-use Rattle.nodes.proofs.node.Node.{the-type}
-use Rattle.nodes.proofs.Forms.{fits, operandFits, first-of, second-of, third-of}
+use Rattle.nodes.specs.declared.node.Connective.the-variants.{And, Or, Not}
+use Rattle.nodes.specs.declared.node.Quantifier.the-variants.{Some, Every}
+use Rattle.nodes.specs.declared.node.Binder.the-variants.{Binding, Quantifies}
+use Rattle.nodes.specs.declared.node.Form.{Form}
+use Rattle.nodes.specs.declared.node.Form.the-variants.{Table, Alpha, Target, Binds, Combines, Compares, Connects, IllFormed}
+use Rattle.nodes.proofs.node.Form.{the-type}
+use Rattle.nodes.proofs.Forms.{formFits, operandFits, first-of, second-of, third-of}
 use Rattle.question.proofs.TreeLaws.{tree-of-reference}
 use Rattle.conditions.specs.Entries.{entries}
 use Rattle.conditions.specs.Atoms.{OperandNarrow, AtomNarrow}
 use Rattle.conditions.specs.Leaves.{emptyAtom, atomIn, leafOf, numbersBelow, leafNumbers, leafWords, leafCount, withLeaves, isTree, leafNumbered, leafAt, atomsOf, LeavesFit, Collectable}
 use Rattle.conditions.specs.Readings.{Names, conditionAt}
-use Rattle.conditions.proofs.Readings.{readingIn, fits-in, condition-is, Part, and-parts, or-parts}
+use Rattle.conditions.proofs.Readings.{made, readingIn, fits-in, condition-is, Part, and-parts, or-parts}
+use Rattle.conditions.proofs.OtherNodes.{NoLeaves, not-leaves}
 use Rattle.conditions.proofs.EntryLaws.{entries-map}
 
 -- an atom of the table is narrow
@@ -57,15 +61,13 @@ operator-number (suc (suc (suc (suc (suc (suc (suc n))))))) h k = absurd (omega 
 pub empty-narrow : AtomNarrow emptyAtom
 empty-narrow = record { attribute = omega arith; operand = tt; operator = refl }
 
-pub atom-narrow : (kind : ℕ → ℕ) (node : Node) → fits kind node ≡ true → AtomNarrow (atomIn node)
-atom-narrow kind (Table relation) h = empty-narrow
-atom-narrow kind (Alpha target binding condition) h = empty-narrow
-atom-narrow kind (Target variable attribute next) h = empty-narrow
-atom-narrow kind (Binding variable range next) h = empty-narrow
-atom-narrow kind (RangeOr left right) h = empty-narrow
-atom-narrow kind (RangeAnd left right) h = empty-narrow
-atom-narrow kind (RangeAndNot left right) h = empty-narrow
-atom-narrow kind (AtomNode atom) h =
+pub atom-narrow : (form : Form) → formFits form ≡ true → AtomNarrow (atomIn form)
+atom-narrow (Table relation) h = empty-narrow
+atom-narrow Alpha h = empty-narrow
+atom-narrow (Target variable attribute) h = empty-narrow
+atom-narrow (Binds variable binder) h = empty-narrow
+atom-narrow (Combines combination) h = empty-narrow
+atom-narrow (Compares atom) h =
     let v : Bool = ltb (atom .variable) variableCount in
     let a : Bool = leb 1 (atom .attribute .0) in
     let b : Bool = leb (atom .attribute .0) columnLimit in
@@ -77,36 +79,26 @@ atom-narrow kind (AtomNode atom) h =
       operand = operand-narrow (atom .operand) (and-right (v && a && b && p && q) (operandFits (atom .operand)) h);
       operator = operator-number (atom .operator) (leb-true 1 (atom .operator) (second-of (v && a && b) p q k)) (leb-true (atom .operator) operatorCount (third-of (v && a && b) p q k));
     }
-atom-narrow kind (And left right) h = empty-narrow
-atom-narrow kind (Or left right) h = empty-narrow
-atom-narrow kind (Not inner) h = empty-narrow
-atom-narrow kind (Some variable range condition) h = empty-narrow
-atom-narrow kind (Every variable range condition) h = empty-narrow
-atom-narrow kind IllFormed h = empty-narrow
+atom-narrow (Connects connective) h = empty-narrow
+atom-narrow IllFormed h = empty-narrow
 
-pub no-atom : (node : Node) → OneOf (0 ∷ 1 ∷ 2 ∷ 3 ∷ 4 ∷ 5 ∷ 6 ∷ 8 ∷ 9 ∷ 10 ∷ 11 ∷ 12 ∷ 13 ∷ []) (tagOf the-type node) → emptyAtom ≡ atomIn node
+pub no-atom : (form : Form) → OneOf (0 ∷ 1 ∷ 2 ∷ 3 ∷ 4 ∷ 6 ∷ 7 ∷ []) (tagOf the-type form) → emptyAtom ≡ atomIn form
 no-atom (Table relation) h = refl
-no-atom (Alpha target binding condition) h = refl
-no-atom (Target variable attribute next) h = refl
-no-atom (Binding variable range next) h = refl
-no-atom (RangeOr left right) h = refl
-no-atom (RangeAnd left right) h = refl
-no-atom (RangeAndNot left right) h = refl
-no-atom (AtomNode atom) h = absurd (miss (0 ∷ 1 ∷ 2 ∷ 3 ∷ 4 ∷ 5 ∷ 6 ∷ 8 ∷ 9 ∷ 10 ∷ 11 ∷ 12 ∷ 13 ∷ []) 7 tt h)
-no-atom (And left right) h = refl
-no-atom (Or left right) h = refl
-no-atom (Not inner) h = refl
-no-atom (Some variable range condition) h = refl
-no-atom (Every variable range condition) h = refl
+no-atom Alpha h = refl
+no-atom (Target variable attribute) h = refl
+no-atom (Binds variable binder) h = refl
+no-atom (Combines combination) h = refl
+no-atom (Compares atom) h = absurd (miss (0 ∷ 1 ∷ 2 ∷ 3 ∷ 4 ∷ 6 ∷ 7 ∷ []) 5 tt h)
+no-atom (Connects connective) h = refl
 no-atom IllFormed h = refl
 
 -- the atom of a decoded node
-module _ (words : List ℕ) (i : ℕ) {node : Node} {found : Atom} (e : node ≡ nodeAt words i) (f : found ≡ atomIn node) where
+module _ (words : List ℕ) (i : ℕ) {node : Node} {found : Atom} (e : node ≡ nodeAt words i) (f : found ≡ atomIn (node .form)) where
   pub found-narrow : AtomNarrow found
-  found-narrow = rw f (atom-narrow (kindNamed words i) node (fits-in words i e))
+  found-narrow = rw f (atom-narrow (node .form) (fits-in words i e .words-fit))
 
-  pub found-is : atomOf found ≡ leafOf (nodeAt words i)
-  found-is = ap atomOf f ∙ ap leafOf e
+  pub found-is : atomOf found ≡ leafOf (nodeAt words i .form)
+  found-is = ap atomOf f ∙ ap (λ (n : Node). leafOf (n .form)) e
 
 -- two sides joined
 
@@ -182,48 +174,47 @@ module _ (before : List ℕ) (size : length before ≡ leafWords) where
 module _ (words : List ℕ) where
   -- the numbers of a node's leaves, by those of its references
   pub leaf-numbers : (reference : ℕ) (node : Node) {f : calculus.Condition} → 1 ≤ reference → node ≡ nodeAt words (reference - 1) → conditionAt words reference ≡ f
-      → leafNumbers (treeOf words reference) ≡ numbersBelow f (reference - 1) (leafNumbers (treeOf words (references node .first))) (leafNumbers (treeOf words (references node .second)))
+      → leafNumbers (treeOf words reference) ≡ numbersBelow f (reference - 1) (leafNumbers (treeOf words (node .a))) (leafNumbers (treeOf words (node .b)))
   unfolding leafNumbers
   leaf-numbers reference node h e c =
       let t = tree-of-reference words reference h in
-      rw e (ap leafNumbers t ∙ ap (λ (g : calculus.Condition). numbersBelow g (reference - 1) (leafNumbers (treeOf words (references (nodeAt words (reference - 1)) .first))) (leafNumbers (treeOf words (references (nodeAt words (reference - 1)) .second)))) (ap (λ (tree : Tree). reading tree .condition) (sym t) ∙ c))
+      rw e (ap leafNumbers t ∙ ap (λ (g : calculus.Condition). numbersBelow g (reference - 1) (leafNumbers (treeOf words (nodeAt words (reference - 1) .a))) (leafNumbers (treeOf words (nodeAt words (reference - 1) .b)))) (ap (λ (tree : Tree). reading tree .condition) (sym t) ∙ c))
 
   -- what `collect` ensures
   abbrev pub Collected : Bool → ℕ → List ℕ → List ℕ → Bool → Type 0
   Collected disjoined reference before after tree = (after ≡ withLeaves before (leafNumbers (treeOf words reference))) × (tree ≡ isTree disjoined (conditionAt words reference))
 
   module _ {reference : ℕ} (h : 1 ≤ reference) where
-    module _ (left right : ℕ) where
+    module _ (left right c : ℕ) where
       abbrev Sides : Type 0
       Sides = leafNumbers (treeOf words reference) ≡ leafNumbers (treeOf words left) ++ leafNumbers (treeOf words right)
 
-      pub and-numbers : And left right ≡ nodeAt words (reference - 1) → Sides
-      and-numbers e = leaf-numbers reference (And left right) h e (condition-is words reference (And left right) h e)
+      pub and-numbers : made (Connects And) left right c ≡ nodeAt words (reference - 1) → Sides
+      and-numbers e = leaf-numbers reference (made (Connects And) left right c) h e (condition-is words reference (made (Connects And) left right c) h e)
 
-      pub or-numbers : Or left right ≡ nodeAt words (reference - 1) → Sides
-      or-numbers e = leaf-numbers reference (Or left right) h e (condition-is words reference (Or left right) h e)
+      pub or-numbers : made (Connects Or) left right c ≡ nodeAt words (reference - 1) → Sides
+      or-numbers e = leaf-numbers reference (made (Connects Or) left right c) h e (condition-is words reference (made (Connects Or) left right c) h e)
 
-      module _ (disjoined : Bool) (before : List ℕ) (size : length before ≡ leafWords) {middle after : List ℕ} {first second : Bool} (c : Collected disjoined left before middle first) (d : Collected disjoined right middle after second) where
+      module _ (disjoined : Bool) (before : List ℕ) (size : length before ≡ leafWords) {middle after : List ℕ} {first second : Bool} (one : Collected disjoined left before middle first) (two : Collected disjoined right middle after second) where
         both-stored : Sides → after ≡ withLeaves before (leafNumbers (treeOf words reference))
-        both-stored n = d .0 ∙ ap (λ (l : List ℕ). withLeaves l (leafNumbers (treeOf words right))) (c .0) ∙ leaves-behind before size (leafNumbers (treeOf words left)) (leafNumbers (treeOf words right)) ∙ ap (withLeaves before) (sym n)
+        both-stored n = two .0 ∙ ap (λ (l : List ℕ). withLeaves l (leafNumbers (treeOf words right))) (one .0) ∙ leaves-behind before size (leafNumbers (treeOf words left)) (leafNumbers (treeOf words right)) ∙ ap (withLeaves before) (sym n)
 
-        pub collected-and : And left right ≡ nodeAt words (reference - 1) → Collected disjoined reference before after (not disjoined && (first && second))
-        collected-and e = (both-stored (and-numbers e), joined-and disjoined (conditionAt words left) (conditionAt words right) (c .1) (d .1) ∙ ap (isTree disjoined) (sym (condition-is words reference (And left right) h e)))
+        pub collected-and : made (Connects And) left right c ≡ nodeAt words (reference - 1) → Collected disjoined reference before after (not disjoined && (first && second))
+        collected-and e = (both-stored (and-numbers e), joined-and disjoined (conditionAt words left) (conditionAt words right) (one .1) (two .1) ∙ ap (isTree disjoined) (sym (condition-is words reference (made (Connects And) left right c) h e)))
 
-        pub collected-or : Or left right ≡ nodeAt words (reference - 1) → Collected disjoined reference before after (disjoined && (first && second))
-        collected-or e = (both-stored (or-numbers e), joined-or disjoined (conditionAt words left) (conditionAt words right) (c .1) (d .1) ∙ ap (isTree disjoined) (sym (condition-is words reference (Or left right) h e)))
+        pub collected-or : made (Connects Or) left right c ≡ nodeAt words (reference - 1) → Collected disjoined reference before after (disjoined && (first && second))
+        collected-or e = (both-stored (or-numbers e), joined-or disjoined (conditionAt words left) (conditionAt words right) (one .1) (two .1) ∙ ap (isTree disjoined) (sym (condition-is words reference (made (Connects Or) left right c) h e)))
 
     module _ (disjoined : Bool) (before : List ℕ) {node : Node} (e : node ≡ nodeAt words (reference - 1)) where
-      -- a condition that has no leaves and is no tree
-      pub collected-none : length before ≡ leafWords → numbersBelow (readingIn words node .condition) (reference - 1) (leafNumbers (treeOf words (references node .first))) (leafNumbers (treeOf words (references node .second))) ≡ [] → isTree disjoined (readingIn words node .condition) ≡ cond disjoined false false → Collected disjoined reference before before false
-      collected-none size n t =
+      pub collected-none : length before ≡ leafWords → NoLeaves (readingIn words node .condition) → Collected disjoined reference before before false
+      collected-none size none =
           let f = condition-is words reference node h e in
-          (none-behind before size ∙ ap (withLeaves before) (sym (leaf-numbers reference node h e f ∙ n)), either disjoined false ∙ sym t ∙ ap (isTree disjoined) (sym f))
+          (none-behind before size ∙ ap (withLeaves before) (sym (leaf-numbers reference node h e f ∙ none .no-numbers _ _ _)), sym (none .no-tree disjoined) ∙ ap (isTree disjoined) (sym f))
 
-      pub collected-leaf : {after : List ℕ} → readingIn words node .condition ≡ calculus.atom (leafOf node) → after ≡ withLeaves before ((reference - 1) ∷ []) → Collected disjoined reference before after true
-      collected-leaf c stored =
-          let f = condition-is words reference node h e ∙ c in
-          (stored ∙ ap (withLeaves before) (sym (leaf-numbers reference node h e f)), either disjoined true ∙ ap (isTree disjoined) (sym f))
+    pub collected-leaf : (disjoined : Bool) (before : List ℕ) {atom : Atom} {a b c : ℕ} → made (Compares atom) a b c ≡ nodeAt words (reference - 1) → {after : List ℕ} → after ≡ withLeaves before ((reference - 1) ∷ []) → Collected disjoined reference before after true
+    collected-leaf disjoined before {atom} {a} {b} {c} e stored =
+        let f = condition-is words reference (made (Compares atom) a b c) h e in
+        (stored ∙ ap (withLeaves before) (sym (leaf-numbers reference (made (Compares atom) a b c) h e f)), either disjoined true ∙ ap (isTree disjoined) (sym f))
 
   -- the two sides of an "and" or an "or"
   module _ {reference left right : ℕ} {before : List ℕ} (s : Collectable words reference before) (n : leafNumbers (treeOf words reference) ≡ leafNumbers (treeOf words left) ++ leafNumbers (treeOf words right)) (p : Part words reference left × Part words reference right) where
@@ -261,35 +252,32 @@ module _ (words : List ℕ) where
     is : (node : Node) → node ≡ nodeAt words (reference - 1) → conditionAt words reference ≡ readingIn words node .condition
     is node e = condition-is words reference node (h .0) e
 
-    numbered : (node : Node) → node ≡ nodeAt words (reference - 1) → LeavesRead (numbersBelow (readingIn words node .condition) (reference - 1) (leafNumbers (treeOf words (references node .first))) (leafNumbers (treeOf words (references node .second)))) (readingIn words node .condition) → ReadAt reference
+    numbered : (node : Node) → node ≡ nodeAt words (reference - 1) → LeavesRead (numbersBelow (readingIn words node .condition) (reference - 1) (leafNumbers (treeOf words (node .a))) (leafNumbers (treeOf words (node .b)))) (readingIn words node .condition) → ReadAt reference
     numbered node e r = rw (leaf-numbers reference node (h .0) e (is node e), is node e) r
 
     sides : {left right : ℕ} {f : calculus.Condition} → leaves f ≡ leaves (conditionAt words left) ++ leaves (conditionAt words right) → Part words reference left × Part words reference right → LeavesRead (leafNumbers (treeOf words left) ++ leafNumbers (treeOf words right)) f
     sides {left} {right} f p = both f (below left (p .0 .1) (p .0 .0)) (below right (p .1 .1) (p .1 .0))
 
-    one : (node : Node) (e : node ≡ nodeAt words (reference - 1)) → readingIn words node .condition ≡ calculus.atom (leafOf node) → ReadAt reference
-    one node e c =
-        rw (leaf-numbers reference node (h .0) e (is node e ∙ c), is node e ∙ c) (record { inside = (omega (arith, h .0, h .1), tt); atoms = ap (λ (d : Node). leafOf d ∷ []) (sym e) })
+    none : (node : Node) → node ≡ nodeAt words (reference - 1) → NoLeaves (readingIn words node .condition) → leaves (readingIn words node .condition) ≡ [] → ReadAt reference
+    none node e n l = numbered node e (rw (n .no-numbers (reference - 1) (leafNumbers (treeOf words (node .a))) (leafNumbers (treeOf words (node .b)))) (record { inside = tt; atoms = sym l }))
 
-    by-node : (node : Node) → node ≡ nodeAt words (reference - 1) → ReadAt reference
-    by-node (Table relation) e = one _ e refl
-    by-node (Alpha target binding condition) e = one _ e refl
-    by-node (Target variable attribute next) e = one _ e refl
-    by-node (Binding variable range next) e = one _ e refl
-    by-node (RangeOr left right) e = one _ e refl
-    by-node (RangeAnd left right) e = one _ e refl
-    by-node (RangeAndNot left right) e = one _ e refl
-    by-node (AtomNode atom) e = one _ e refl
-    by-node (And left right) e = numbered _ e (sides refl (and-parts words reference h e))
-    by-node (Or left right) e = numbered _ e (sides refl (or-parts words reference h e))
-    by-node (Not inner) e = numbered _ e (record { inside = tt; atoms = refl })
-    by-node (Some variable range condition) e = numbered _ e (record { inside = tt; atoms = refl })
-    by-node (Every variable range condition) e = numbered _ e (record { inside = tt; atoms = refl })
-    by-node IllFormed e = one _ e refl
+    by-form : (form : Form) (a b c : ℕ) → made form a b c ≡ nodeAt words (reference - 1) → ReadAt reference
+    by-form (Table relation) a b c e = none _ e (not-leaves _) refl
+    by-form Alpha a b c e = none _ e (not-leaves _) refl
+    by-form (Target variable attribute) a b c e = none _ e (not-leaves _) refl
+    by-form (Binds variable Binding) a b c e = none _ e (not-leaves _) refl
+    by-form (Binds variable (Quantifies Some)) a b c e = numbered _ e (record { inside = tt; atoms = refl })
+    by-form (Binds variable (Quantifies Every)) a b c e = numbered _ e (record { inside = tt; atoms = refl })
+    by-form (Combines combination) a b c e = none _ e (not-leaves _) refl
+    by-form (Compares atom) a b c e = numbered _ e (record { inside = (omega (arith, h .0, h .1), tt); atoms = ap (λ (n : Node). leafOf (n .form) ∷ []) (sym e) })
+    by-form (Connects And) a b c e = numbered _ e (sides refl (and-parts words reference h e))
+    by-form (Connects Or) a b c e = numbered _ e (sides refl (or-parts words reference h e))
+    by-form (Connects Not) a b c e = numbered _ e (record { inside = tt; atoms = refl })
+    by-form IllFormed a b c e = none _ e (not-leaves _) refl
 
   leaves-read : (fuel reference : ℕ) → reference ≤ fuel → Names words reference → ReadAt reference
   leaves-read zero reference l h = absurd (omega (arith, h .0))
-  leaves-read (suc fuel) reference l h = by-node reference h (λ part m n. leaves-read fuel part (omega arith) n) (nodeAt words (reference - 1)) refl
+  leaves-read (suc fuel) reference l h = by-form reference h (λ part m n. leaves-read fuel part (omega arith) n) (nodeAt words (reference - 1) .form) (nodeAt words (reference - 1) .a) (nodeAt words (reference - 1) .b) (nodeAt words (reference - 1) .c) refl
 
   -- what a call of `collect` over no leaves leaves
   pub record FoundLeaves (f : calculus.Condition) (found : List ℕ) : Type 0 where

@@ -1,41 +1,45 @@
 -- A node that was decoded: its reading by those of its references, and where these point. Assumes nothing.
 use Prim.Native.Nat.{ℕ, zero, suc, _-_, _≤_, _<_}
-use mathlib.Core.Path.{_≡_, refl, ap, _∙_}
-use mathlib.Core.Bool.{Bool, true, false, _&&_}
+use mathlib.Core.Path.{_≡_, refl, sym, ap, _∙_}
+use mathlib.Core.Bool.{true}
 use mathlib.Core.List.{List, []}
 use native.Mathlib.Omega.{arith}
-use lib.Dec.{ltb}
 use borrow.Author.Tests.{ltb-true}
-use Rattle.relations.proofs.BoolLaws.{and-left, and-right}
 use Rattle.calculus.specs.Question as calculus
 use Rattle.relations.specs.Limits.{variableCount}
-use Rattle.nodes.specs.Kinds.{isRange, isCondition}
+use Rattle.nodes.specs.Kinds.{isOf}
 use Rattle.nodes.specs.Nodes.{kindNamed, nodeAt}
-use Rattle.nodes.specs.References.{references}
+use Rattle.nodes.specs.declared.kinds.Sort.{Sort}
+use Rattle.nodes.specs.declared.kinds.Sort.the-variants.{Range, Condition}
 use Rattle.question.specs.Trees.{Reading, blank, reading, readingOf, treeOf}
+use Rattle.nodes.specs.declared.node.Connective.the-variants.{And, Or, Not}
+use Rattle.nodes.specs.declared.node.Quantifier.{Quantifier}
+use Rattle.nodes.specs.declared.node.Binder.{Binder}
+use Rattle.nodes.specs.declared.node.Binder.the-variants.{Quantifies}
+use Rattle.nodes.specs.declared.node.Form.{Form}
+use Rattle.nodes.specs.declared.node.Form.the-variants.{Binds, Connects}
 use Rattle.nodes.specs.declared.node.Node.{Node}
-use Rattle.nodes.specs.declared.node.Node.the-variants.{Binding, And, Or, Not, Some, Every}
-use Rattle.nodes.proofs.Forms.{fits, node-fits, lower, first-of, second-of, third-of}
+use Rattle.nodes.proofs.Forms.{Fits, node-fits, lower, no-kind}
 use Rattle.question.proofs.TreeLaws.{tree-of-reference, tree-of-none}
 use Rattle.conditions.specs.Readings.{Names, readingAt, targetsAt, rangeAt, bindingsAt, restrictionAt, conditionAt}
 
+abbrev pub made : Form → (a b c : ℕ) → Node
+made form a b c = record { form = form; a = a; b = b; c = c }
+
 module _ (words : List ℕ) where
+  -- a decoded node, by the form that it was matched against
+  pub made-is : (i : ℕ) {node : Node} {form : Form} → node .form ≡ form → node ≡ nodeAt words i → made form (node .a) (node .b) (node .c) ≡ nodeAt words i
+  made-is i {node} f e = ap (λ (form : Form). made form (node .a) (node .b) (node .c)) (sym f) ∙ e
+
   abbrev pub readingIn : Node → Reading
-  readingIn node = readingOf node (readingAt words (references node .first)) (readingAt words (references node .second)) (readingAt words (references node .third))
+  readingIn node = readingOf (node .form) (readingAt words (node .a)) (readingAt words (node .b)) (readingAt words (node .c))
 
   pub reading-is : (reference : ℕ) (node : Node) → 1 ≤ reference → node ≡ nodeAt words (reference - 1) → readingAt words reference ≡ readingIn node
   unfolding reading
   reading-is reference node h e = ap reading (tree-of-reference words reference h) ∙ rw e
 
-  pub fits-in : (i : ℕ) {node : Node} → node ≡ nodeAt words i → fits (kindNamed words i) node ≡ true
+  pub fits-in : (i : ℕ) {node : Node} → node ≡ nodeAt words i → Fits (kindNamed words i) node
   fits-in i e = rw e (node-fits words i)
-
-  -- where the references of nodes with two conditions, or two ranges, point
-  pub two-lower : (sort : ℕ → Bool) → sort 0 ≡ false → (i left right : ℕ) → (sort (kindNamed words i left) && sort (kindNamed words i right)) ≡ true → ((1 ≤ left) × (left ≤ i)) × ((1 ≤ right) × (right ≤ i))
-  two-lower sort none i left right h =
-      let a : Bool = sort (kindNamed words i left) in
-      let b : Bool = sort (kindNamed words i right) in
-      (lower words i left sort none (and-left a b h), lower words i right sort none (and-right a b h))
 
   -- what a decoded condition is
   pub condition-is : (reference : ℕ) (node : Node) → 1 ≤ reference → node ≡ nodeAt words (reference - 1) → conditionAt words reference ≡ readingIn node .condition
@@ -80,9 +84,6 @@ module _ (words : List ℕ) {reference : ℕ} (e : reference ≡ 0) where
 abbrev pub Below : ℕ → ℕ → Type 0
 Below reference part = (1 ≤ part) × (part ≤ reference - 1)
 
-bound-variable : (variable : ℕ) (b c : Bool) → (ltb variable variableCount && b && c) ≡ true → variable < variableCount
-bound-variable variable b c f = ltb-true variable variableCount (first-of (ltb variable variableCount) b c f)
-
 module _ (words : List ℕ) (reference : ℕ) where
   abbrev pub Part : ℕ → Type 0
   Part part = Names words part × (part < reference)
@@ -91,36 +92,20 @@ module _ (words : List ℕ) (reference : ℕ) where
     pub part-below : {part : ℕ} → Below reference part → Part part
     part-below b = ((b .0, omega (arith, h .0, h .1, b .1)), omega (arith, h .0, b .1))
 
-    two-parts : (left right : ℕ) → (isCondition (kindNamed words (reference - 1) left) && isCondition (kindNamed words (reference - 1) right)) ≡ true → Part left × Part right
-    two-parts left right f = let b = two-lower words isCondition refl (reference - 1) left right f in (part-below (b .0), part-below (b .1))
+    part-of : (sort : Sort) (part : ℕ) → isOf sort (kindNamed words (reference - 1) part) ≡ true → Part part
+    part-of sort part f = part-below (lower words (reference - 1) part (isOf sort) (no-kind sort) f)
 
-    quantified-parts : (variable range condition : ℕ) → (ltb variable variableCount && isRange (kindNamed words (reference - 1) range) && isCondition (kindNamed words (reference - 1) condition)) ≡ true → Part range × Part condition
-    quantified-parts variable range condition f =
-        let v : Bool = ltb variable variableCount in
-        let r : Bool = isRange (kindNamed words (reference - 1) range) in
-        let k : Bool = isCondition (kindNamed words (reference - 1) condition) in
-        (part-below (lower words (reference - 1) range isRange refl (second-of v r k f)), part-below (lower words (reference - 1) condition isCondition refl (third-of v r k f)))
+    pub binder-variable : {variable : ℕ} {binder : Binder} {a b c : ℕ} → made (Binds variable binder) a b c ≡ nodeAt words (reference - 1) → variable < variableCount
+    binder-variable {variable} e = ltb-true variable variableCount (fits-in words (reference - 1) e .words-fit)
 
-    pub some-variable : {variable range condition : ℕ} → Some variable range condition ≡ nodeAt words (reference - 1) → variable < variableCount
-    some-variable {variable} {range} {condition} e = bound-variable variable _ _ (fits-in words (reference - 1) e)
+    pub and-parts : {left right c : ℕ} → made (Connects And) left right c ≡ nodeAt words (reference - 1) → Part left × Part right
+    and-parts {left} {right} e = let f = fits-in words (reference - 1) e in (part-of Condition left (f .a-fits), part-of Condition right (f .b-fits))
 
-    pub every-variable : {variable range condition : ℕ} → Every variable range condition ≡ nodeAt words (reference - 1) → variable < variableCount
-    every-variable {variable} {range} {condition} e = bound-variable variable _ _ (fits-in words (reference - 1) e)
+    pub or-parts : {left right c : ℕ} → made (Connects Or) left right c ≡ nodeAt words (reference - 1) → Part left × Part right
+    or-parts {left} {right} e = let f = fits-in words (reference - 1) e in (part-of Condition left (f .a-fits), part-of Condition right (f .b-fits))
 
-    pub binding-variable : {variable range next : ℕ} → Binding variable range next ≡ nodeAt words (reference - 1) → variable < variableCount
-    binding-variable {variable} {range} {next} e = bound-variable variable _ _ (fits-in words (reference - 1) e)
+    pub not-part : {inner b c : ℕ} → made (Connects Not) inner b c ≡ nodeAt words (reference - 1) → Part inner
+    not-part {inner} e = part-of Condition inner (fits-in words (reference - 1) e .a-fits)
 
-    pub and-parts : {left right : ℕ} → And left right ≡ nodeAt words (reference - 1) → Part left × Part right
-    and-parts {left} {right} e = two-parts left right (fits-in words (reference - 1) e)
-
-    pub or-parts : {left right : ℕ} → Or left right ≡ nodeAt words (reference - 1) → Part left × Part right
-    or-parts {left} {right} e = two-parts left right (fits-in words (reference - 1) e)
-
-    pub not-part : {inner : ℕ} → Not inner ≡ nodeAt words (reference - 1) → Part inner
-    not-part {inner} e = part-below (lower words (reference - 1) inner isCondition refl (fits-in words (reference - 1) e))
-
-    pub some-parts : {variable range condition : ℕ} → Some variable range condition ≡ nodeAt words (reference - 1) → Part range × Part condition
-    some-parts {variable} {range} {condition} e = quantified-parts variable range condition (fits-in words (reference - 1) e)
-
-    pub every-parts : {variable range condition : ℕ} → Every variable range condition ≡ nodeAt words (reference - 1) → Part range × Part condition
-    every-parts {variable} {range} {condition} e = quantified-parts variable range condition (fits-in words (reference - 1) e)
+    pub quantifier-parts : {variable : ℕ} {quantifier : Quantifier} {a range condition : ℕ} → made (Binds variable (Quantifies quantifier)) a range condition ≡ nodeAt words (reference - 1) → Part range × Part condition
+    quantifier-parts {a = a} {range} {condition} e = let f = fits-in words (reference - 1) e in (part-of Range range (f .b-fits), part-of Condition condition (f .c-fits))

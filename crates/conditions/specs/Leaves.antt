@@ -12,32 +12,26 @@ use Rattle.nodes.specs.Nodes.{nodeAt}
 use Rattle.question.specs.Trees.{Tree, nothing, branch, treeOf, reading, atomOf}
 use Rattle.nodes.specs.declared.node.Operand.the-variants.{Fixed}
 use Rattle.nodes.specs.declared.node.Atom.{Atom}
-use Rattle.nodes.specs.declared.node.Node.{Node}
-use Rattle.nodes.specs.declared.node.Node.the-variants.{Table, Alpha, Target, Binding, RangeOr, RangeAnd, RangeAndNot, Atom as AtomNode, And, Or, Not, Some, Every, IllFormed}
+use Rattle.nodes.specs.declared.node.Form.{Form}
+use Rattle.nodes.specs.declared.node.Form.the-variants.{Table, Alpha, Target, Binds, Combines, Compares, Connects, IllFormed}
 use Rattle.conditions.specs.Entries.{entries}
 
 abbrev pub emptyAtom : Atom
 emptyAtom = record { variable = 0; attribute = record { 0 = 0 }; operator = 1; operand = Fixed (record { 0 = 0 }) }
 
--- a node's atom; a node of another sort, which refusal 2 shuts out, has the empty one
-abbrev pub atomIn : Node → Atom
-atomIn (AtomNode atom) = atom
+-- a node's atom; a node of another form has the empty one
+abbrev pub atomIn : Form → Atom
 atomIn (Table relation) = emptyAtom
-atomIn (Alpha target binding condition) = emptyAtom
-atomIn (Target variable attribute next) = emptyAtom
-atomIn (Binding variable range next) = emptyAtom
-atomIn (RangeOr left right) = emptyAtom
-atomIn (RangeAnd left right) = emptyAtom
-atomIn (RangeAndNot left right) = emptyAtom
-atomIn (And left right) = emptyAtom
-atomIn (Or left right) = emptyAtom
-atomIn (Not inner) = emptyAtom
-atomIn (Some variable range condition) = emptyAtom
-atomIn (Every variable range condition) = emptyAtom
+atomIn Alpha = emptyAtom
+atomIn (Target variable attribute) = emptyAtom
+atomIn (Binds variable binder) = emptyAtom
+atomIn (Combines combination) = emptyAtom
+atomIn (Compares atom) = atom
+atomIn (Connects connective) = emptyAtom
 atomIn IllFormed = emptyAtom
 
-abbrev pub leafOf : Node → calculus.Atom
-leafOf node = atomOf (atomIn node)
+abbrev pub leafOf : Form → calculus.Atom
+leafOf form = atomOf (atomIn form)
 
 -- the numbers of a tree's leaves, left to right: those of the two sides of an "and" or an "or", else its own if it is an atom
 
@@ -51,7 +45,7 @@ numbersBelow (calculus.forEvery variable range f) number first second = []
 
 unfoldable pub leafNumbers : Tree → List ℕ
 leafNumbers nothing = []
-leafNumbers (branch number node first second third) = numbersBelow (reading (branch number node first second third) .condition) number (leafNumbers first) (leafNumbers second)
+leafNumbers (branch number form a b c) = numbersBelow (reading (branch number form a b c) .condition) number (leafNumbers a) (leafNumbers b)
 
 -- how many leaves there are, then their numbers
 abbrev pub leafWords : ℕ
@@ -70,7 +64,7 @@ isTree disjoined f = cond disjoined (isOrTree f) (isAndTree f)
 
 module _ (words : List ℕ) where
   abbrev pub leafNumbered : ℕ → calculus.Atom
-  leafNumbered number = leafOf (nodeAt words number)
+  leafNumbered number = leafOf (nodeAt words number .form)
 
   -- leaf i, or its opposite
   abbrev pub leafAt : Bool → List ℕ → ℕ → calculus.Atom

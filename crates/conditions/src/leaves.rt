@@ -9,7 +9,8 @@ ghost use Rattle.conditions.specs.Readings.{conditionAt};
 ghost use Rattle.conditions.specs.Leaves.{atomIn, leafCount, leafAt, LeavesFit, Collectable, leafNumbers, withLeaves, isTree};
 use crate::atom::opposite_atom;
 use nodes::node::Atom;
-use nodes::node::Node;
+use nodes::node::Connective;
+use nodes::node::Form;
 use nodes::node::Operand;
 use nodes::node::decode;
 use relations::limits::QUESTION_NODES;
@@ -28,12 +29,12 @@ fn with_leaf(leaves: &mut [u32; LEAF_WORDS], number: u32)
     leaves[0] = count + 1;
 }
 
-// A node's atom. A node of another sort, which refusal 2 shuts out, has the empty one.
-fn atom_in(node: Node) -> Atom
-    ensures { λ r. ⌜ r ≡ atomIn node ⌝ }
+// A node's atom. A node of another form has the empty one.
+fn atom_in(form: Form) -> Atom
+    ensures { λ r. ⌜ r ≡ atomIn form ⌝ }
 {
-    match node {
-        Node::Atom(atom) => atom,
+    match form {
+        Form::Compares(atom) => atom,
         _ => Atom {
             variable: 0,
             attribute: Attribute(0),
@@ -49,7 +50,9 @@ pub fn leaf(words: &[u32], leaves: &[u32; LEAF_WORDS], opposite: bool, i: usize)
     ensures { λ r. ⌜ (atomOf r ≡ leafAt (now (words .entry)) opposite (now (leaves .entry)) i) × AtomNarrow r ⌝ }
 {
     let number = leaves[1 + i];
-    let atom = atom_in(decode(words, number as usize));
+    let node = decode(words, number as usize);
+    let form = node.form;
+    let atom = atom_in(form);
     if opposite {
         return opposite_atom(atom);
     }
@@ -68,31 +71,25 @@ pub fn collect(
 {
     let number = reference - 1;
     let node = decode(words, number as usize);
-    match node {
-        Node::And { left, right } => {
-            let first = collect(words, disjoined, left, leaves);
-            let second = collect(words, disjoined, right, leaves);
-            !disjoined & (first & second)
-        }
-        Node::Or { left, right } => {
-            let first = collect(words, disjoined, left, leaves);
-            let second = collect(words, disjoined, right, leaves);
-            disjoined & (first & second)
-        }
-        Node::Not { inner: _ } => false,
-        Node::Some {
-            variable: _,
-            range: _,
-            condition: _,
-        } => false,
-        Node::Every {
-            variable: _,
-            range: _,
-            condition: _,
-        } => false,
-        _ => {
+    let form = node.form;
+    match form {
+        Form::Compares(_) => {
             with_leaf(leaves, number);
             true
         }
+        Form::Connects(connective) => match connective {
+            Connective::And => {
+                let first = collect(words, disjoined, node.a, leaves);
+                let second = collect(words, disjoined, node.b, leaves);
+                !disjoined & (first & second)
+            }
+            Connective::Or => {
+                let first = collect(words, disjoined, node.a, leaves);
+                let second = collect(words, disjoined, node.b, leaves);
+                disjoined & (first & second)
+            }
+            Connective::Not => false,
+        },
+        _ => false,
     }
 }

@@ -73,7 +73,7 @@ targetOf variable zero = calculus.wholeRow variable
 targetOf variable (suc n) = calculus.oneAttribute variable (attribute (suc n))
 
 abbrev pub noCondition : calculus.Condition
-noCondition = calculus.atom (calculus.compare 0 (attribute 0) equal (calculus.fixed (constant 0)))
+noCondition = calculus.conditionNot (calculus.atom (calculus.compare 0 (attribute 0) equal (calculus.fixed (constant 0))))
 
 abbrev pub blank : Reading
 blank = record { targets = []; range = calculus.table 0; bindings = calculus.noMore; restriction = calculus.noCondition; condition = noCondition }
