@@ -1,8 +1,8 @@
 // Operation 5: each left row before each right row that it meets. With no triple this is the product.
 ghost use mathlib.Core.Path.{_≡_};
-ghost use mathlib.Core.Bool.{true};
 ghost use mathlib.Core.List.{[], _∷_, _++_};
 ghost use Prim.Native.Nat.{_+_, _-_, _*_, _≤_, _<_};
+ghost use lib.Dec.{eqb};
 ghost use lib.ListN.{length};
 ghost use Rattle.relations.specs.Limits.{columnLimit, tripleLimit};
 ghost use Rattle.relations.specs.Columns.{meets};
@@ -41,7 +41,7 @@ fn comes_last(
     made: usize,
 ) -> bool
     requires { ⌜ (a + width ≤ length (now work)) × (b + more ≤ length (now work)) × (out + made * (width + more) ≤ length (now work)) × Ascending (rowsAt (width + more) made out (now work)) ⌝ }
-    ensures { λ r. ⌜ (r ≡ true → rowsBefore (rowIn (now (work .entry)) a width ++ rowIn (now (work .entry)) b more) (rowsAt (width + more) made out (now (work .entry))) ≡ made) ⌝ }
+    ensures { λ r. ⌜ r ≡ eqb (rowsBefore (rowIn (now (work .entry)) a width ++ rowIn (now (work .entry)) b more) (rowsAt (width + more) made out (now (work .entry)))) made ⌝ }
 {
     if made == 0 {
         return true;

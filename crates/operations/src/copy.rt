@@ -1,9 +1,11 @@
 // The operation that takes all rows of two values over: union.
 ghost use mathlib.Core.Path.{_≡_};
-ghost use mathlib.Core.Bool.{true, false};
+ghost use mathlib.Core.Bool.{not, _&&_, _||_};
 ghost use mathlib.Core.List.{[], _∷_};
 ghost use Prim.Native.Nat.{_+_, _*_, _≤_, _<_};
+ghost use lib.Dec.{eqb};
 ghost use lib.ListN.{length};
+ghost use Rattle.relations.specs.Rows.{rowBefore};
 ghost use Rattle.relations.specs.Values.{Ascending};
 ghost use Rattle.relations.specs.Operations.{uniteCandidates};
 ghost use Rattle.values.specs.Words.{rowIn, rowsAt, rowsOf, end};
@@ -25,8 +27,7 @@ fn left_is_next(
     beside: usize,
     others: usize,
 ) -> bool
-    requires { ⌜ 0 < more + others ⌝ }
-    ensures { λ r. ⌜ (r ≡ true → 0 < more) × (r ≡ false → 0 < others) ⌝ }
+    ensures { λ r. ⌜ r ≡ (eqb others 0 || (not (eqb more 0) && not (rowBefore (rowIn (now (work .entry)) beside width) (rowIn (now (work .entry)) at width)))) ⌝ }
 {
     if others == 0 {
         return true;
@@ -34,11 +35,7 @@ fn left_is_next(
     if more == 0 {
         return false;
     }
-    if stands_before(work, beside, width, row(work, work, true, at, width)) {
-        false
-    } else {
-        true
-    }
+    !stands_before(work, beside, width, row(work, work, true, at, width))
 }
 
 // A row in front of `out` is put into the value of `made` rows there.

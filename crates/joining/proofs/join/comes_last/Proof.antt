@@ -1,11 +1,10 @@
-use mathlib.Core.Path.{sym, ap, _∙_}
+use mathlib.Core.Path.{ap, _∙_}
 use Prim.Native.Nat.{_+_, _*_, _-_}
 use mathlib.Core.List.{_++_}
-use mathlib.Core.Bool.{false≢true}
 use Rattle.relations.specs.Rows.{Row, rowBefore}
 use Rattle.values.specs.Words.{rowIn}
 use Rattle.values.proofs.RowsLaws.{times-step, length-row}
-use Rattle.joining.proofs.JoinLaws.{behind-none, behind-left, behind-right, told-less, told-equal}
+use Rattle.joining.proofs.JoinLaws.{behind-none, behind-left, behind-right, not-behind, told-less, told-equal, told-greater}
 use native.Mathlib.Omega.{arith}
 use borrow.Author.Needs.{needs}
 use Rattle.joining.proofs.join.comes_last.Statement.{statement}
@@ -13,7 +12,7 @@ use Rattle.joining.proofs.join.comes_last.Tie as tie
 
 -- src/join.rt:66:9
 returns : tie.Need-returns
-returns c = let s = c .before .before .args in λ h. behind-none (rowIn (s .work .now) (s .a) (s .width) ++ rowIn (s .work .now) (s .b) (s .more)) (s .width + s .more) (s .made) (s .out) (s .work .now) (c .if1 .taken)
+returns c = let s = c .before .before .args in behind-none (rowIn (s .work .now) (s .a) (s .width) ++ rowIn (s .work .now) (s .b) (s .more)) (s .width + s .more) (s .made) (s .out) (s .work .now) (c .if1 .taken)
 
 -- src/join.rt:68:23
 sub-last : tie.Need-sub-last
@@ -70,19 +69,21 @@ enum-told-3 c = search needs
 -- src/join.rt:53:1
 returns-2 : tie.Need-returns-2
 returns-2 c = let s = c .before .before .before .before .before .before .before .args in let p = c .before .before .before .before .before .before .before .pre in let w = s .work .now in
-    λ h. behind-left (rowIn w (s .a) (s .width)) (rowIn w (s .b) (s .more)) (s .width) (s .more) (s .made) (s .out) w (p .2) (p .3) (omega arith) (length-row w (s .a) (s .width) (p .0))
+    behind-left (rowIn w (s .a) (s .width)) (rowIn w (s .b) (s .more)) (s .width) (s .more) (s .made) (s .out) w (p .2) (p .3) (omega arith) (length-row w (s .a) (s .width) (p .0))
     (told-less (c .before .before .before .before .row .result .now) (c .before .before .before .row2 .result .now) (c .before .before .compare-rows .ensures) (c .before .before .before .before .row .ensures) (c .before .before .before .row2 .ensures) (c .enum-told .given .1))
 
 -- src/join.rt:53:1
 returns-3 : tie.Need-returns-3
 returns-3 c = let s = c .before .before .before .before .before .before .before .before .before .args in let p = c .before .before .before .before .before .before .before .before .before .pre in let w = s .work .now in
-    λ h. behind-right (rowIn w (s .a) (s .width)) (rowIn w (s .b) (s .more)) (s .width) (s .more) (s .made) (s .out) w (p .2) (p .3) (omega arith)
+    c .stands-before .ensures ∙ ap (λ (r : Row). rowBefore (rowIn w (s .out + (s .made - 1) * (s .width + s .more) + s .width) (s .more)) r) (c .before .row3 .ensures)
+    ∙ behind-right (rowIn w (s .a) (s .width)) (rowIn w (s .b) (s .more)) (s .width) (s .more) (s .made) (s .out) w (p .2) (p .3) (omega arith)
     (told-equal (c .before .before .before .before .before .before .row .result .now) (c .before .before .before .before .before .row2 .result .now) (c .before .before .before .before .compare-rows .ensures) (c .before .before .before .before .before .before .row .ensures) (c .before .before .before .before .before .row2 .ensures) (c .before .before .enum-told2 .given .1))
-    (ap (λ (r : Row). rowBefore (rowIn w (s .out + (s .made - 1) * (s .width + s .more) + s .width) (s .more)) r) (sym (c .before .row3 .ensures)) ∙ sym (c .stands-before .ensures) ∙ h)
 
 -- src/join.rt:53:1
 returns-4 : tie.Need-returns-4
-returns-4 c = λ h. absurd (false≢true h)
+returns-4 c = let s = c .before .before .before .before .before .before .before .args in let p = c .before .before .before .before .before .before .before .pre in let w = s .work .now in
+    not-behind (rowIn w (s .a) (s .width)) (rowIn w (s .b) (s .more)) (s .width) (s .more) (s .made) (s .out) w (p .2) (p .3) (omega arith) (length-row w (s .a) (s .width) (p .0))
+    (told-greater (c .before .before .before .before .row .result .now) (c .before .before .before .row2 .result .now) (c .before .before .compare-rows .ensures) (c .before .before .before .before .row .ensures) (c .before .before .before .row2 .ensures) (c .enum-told3 .given .1))
 
 pub comes-last-spec : {M : Type 1} → statement M
 comes-last-spec =

@@ -1,5 +1,5 @@
-use mathlib.Core.Path.{ap, ap₂, _∙_}
-use Prim.Native.Nat.{ℕ, _+_, _-_}
+use mathlib.Core.Path.{sym, ap, ap₂, _∙_}
+use Prim.Native.Nat.{ℕ, _+_}
 use lib.ListN.{take, length-append}
 use mathlib.Core.List.{[], _∷_, _++_}
 use Rattle.values.specs.Words.{rowIn}
@@ -7,6 +7,7 @@ use Rattle.values.proofs.RowsLaws.{row-inside, length-row}
 use Rattle.operations.proofs.MadeLaws.{aside-taken}
 use Rattle.operations.proofs.FillSteps.{builds-by}
 use native.Mathlib.Omega.{arith}
+use borrow.Author.Tests.{eqb-true}
 use borrow.Author.Needs.{needs}
 use Rattle.joining.proofs.join.place_pair.Statement.{statement}
 use Rattle.joining.proofs.join.place_pair.Tie as tie
@@ -17,7 +18,7 @@ comes-last-requires c κs = search needs
 
 -- src/join.rt:115:9
 append-pair-requires : tie.Need-append-pair-requires
-append-pair-requires c κs = let p = c .before .before .before .before .before .pre in (p .0, p .2, p .3, p .4, p .5, c .before .before .comes-last .ensures (c .before .if1 .taken))
+append-pair-requires c κs = let p = c .before .before .before .before .before .pre in (p .0, p .2, p .3, p .4, p .5, eqb-true _ _ (sym (c .before .before .comes-last .ensures) ∙ c .before .if1 .taken))
 
 -- src/join.rt:117:20
 pair-row-requires : tie.Need-pair-row-requires
