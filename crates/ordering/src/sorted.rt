@@ -13,8 +13,8 @@ use crate::ascending::ascends;
 use crate::ascending::copy_ascending;
 use crate::taking::take_rows;
 use operations::columns::NO_WORDS;
-use sorting::columns::Picks;
-use sorting::columns::wide;
+use sort_columns::columns::Picks;
+use sort_columns::columns::wide;
 use values::placing::Placed;
 use values::rows::Value;
 

@@ -18,7 +18,8 @@ use Rattle.relations.proofs.BoolLaws.{and-left, and-right}
 use Rattle.relations.proofs.ListLaws.{any-map, any-same, filter-same}
 use Rattle.relations.proofs.ValueLaws.{any-canonical}
 use Rattle.operations.specs.Lists.{triplesIn}
-use Rattle.semijoins.specs.Keys.{renumbers, wantedRow, wantedRows}
+use Rattle.wanted_rows.specs.Wanted.{wantedRow, wantedRows}
+use Rattle.semijoins.specs.Keys.{renumbers}
 use Rattle.operations.proofs.ListLaws.{first-word, next-word}
 
 and-false : (b : Bool) → (b && false) ≡ false

@@ -1,4 +1,3 @@
 -- In reading order.
-pub mod WantedLaws
 pub mod KeyLaws
 pub mod TriedLaws

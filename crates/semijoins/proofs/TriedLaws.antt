@@ -22,7 +22,8 @@ use Rattle.values.proofs.RowsLaws.{length-value, rowsAt-none}
 use Rattle.values.proofs.BuildLaws.{build-fits}
 use Rattle.values.proofs.FillLaws.{made-length, made-rows, made-fits, made-words, made-value}
 use Rattle.values.proofs.MakeLaws.{makes-as, makes-length, makes-count, makes-value, makes-fits, builds-cleared, moved-makes}
-use Rattle.semijoins.specs.Keys.{wantedRows, Tried}
+use Rattle.wanted_rows.specs.Wanted.{wantedRows}
+use Rattle.semijoins.specs.Keys.{Tried}
 use Rattle.semijoins.proofs.KeyLaws.{wanted-canonical}
 
 -- a value that a callee made

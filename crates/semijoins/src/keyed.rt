@@ -11,8 +11,8 @@ ghost use Rattle.relations.specs.Operations.{projectCandidates, semijoinCandida
 ghost use Rattle.values.specs.Words.{rowsOf, end};
 ghost use Rattle.values.specs.Building.{Blank, Makes};
 ghost use Rattle.operations.specs.Lists.{triplesIn};
-ghost use Rattle.semijoins.specs.Keys.{renumbers, wantedRows, Tried};
-use crate::wanted::keep_by_rows;
+ghost use Rattle.wanted_rows.specs.Wanted.{wantedRows};
+ghost use Rattle.semijoins.specs.Keys.{renumbers, Tried};
 use operations::columns::column_of;
 use ordering::sorted::project;
 use relations::limits::ATTRIBUTES;
@@ -24,6 +24,7 @@ use values::clearing::finish;
 use values::placing::Placed;
 use values::placing::move_down;
 use values::rows::Value;
+use wanted_rows::keep_by_rows;
 
 // Some right columns, by their numbers.
 struct Columns {
