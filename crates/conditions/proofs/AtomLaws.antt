@@ -1,18 +1,21 @@
 -- An atom read with its operand known. Assumes nothing.
-use Prim.Native.Nat.{ℕ}
+use Prim.Native.Nat.{ℕ, _≤_}
 use mathlib.Core.Path.{_≡_, refl, ap, sym, _∙_}
-use mathlib.Core.Bool.{cond}
+use mathlib.Core.Bool.{Bool, true, false, cond}
 use lib.Dec.{eqb}
-use borrow.Author.Tests.{eq-eqb, ne-eqb}
-use Rattle.relations.specs.Columns.{attribute}
+use Rattle.relations.specs.Limits.{columnLimit}
+use Rattle.relations.specs.Columns.{Attribute, attribute}
 use Rattle.relations.specs.Comparison.{Operator, equal, notEqual, less, atMost, greater, atLeast, operatorNumber, operatorNamed}
 use Rattle.terms.proofs.NumberLaws.{named-back}
 use Rattle.calculus.specs.Question.{compare}
 use Rattle.calculus.specs.Question as calculus
-use Rattle.calculus.specs.Leaves.{isEqual}
+use Rattle.calculus.specs.Leaves.{isEqual, otherAttribute}
 use Rattle.question.specs.Trees.{operandOf, atomOf}
 use Rattle.nodes.specs.declared.node.Operand.{Operand}
+use Rattle.nodes.specs.declared.node.Operand.the-variants.{Of, Fixed}
 use Rattle.nodes.specs.declared.node.Atom.{Atom}
+use Rattle.conditions.specs.Atoms.{OperandNarrow, AtomNarrow, sidesOf}
+use Rattle.conditions.specs.declared.atom.Sides.{Sides}
 
 abbrev pub withOperand : Atom → Operand → calculus.Atom
 withOperand atom operand = compare (atom .variable) (attribute (atom .attribute .0)) (operatorNamed (atom .operator)) (operandOf operand)
@@ -32,8 +35,14 @@ equal-number number e = rw e (one (operatorNamed number) ∙ ap isEqual (sym (na
     one greater = refl
     one atLeast = refl
 
-pub taken : {A : Type 0} {a b : ℕ} (x y : A) → a ≡ b → cond (eqb a b) x y ≡ x
-taken {a = a} {b = b} x y e = rw (eq-eqb a b e)
+-- the other side's attribute is one of the atom's
+pub other-narrow : (z : ℕ) (atom : Atom) {sides : Sides} → sides ≡ sidesOf z (atomOf atom) → AtomNarrow atom → sides .other .0 ≤ columnLimit
+other-narrow z atom e narrow = rw e (go (atom .operand) (narrow .operand))
+  where
+    either : (b : Bool) (x y : Attribute) → x .number ≤ columnLimit → y .number ≤ columnLimit → cond b x y .number ≤ columnLimit
+    either true x y h k = h
+    either false x y h k = k
 
-pub passed : {A : Type 0} {a b : ℕ} (x y : A) → (a ≡ b → ⊥) → cond (eqb a b) x y ≡ y
-passed {a = a} {b = b} x y e = rw (ne-eqb a b e)
+    go : (operand : Operand) → OperandNarrow operand → otherAttribute z (withOperand atom operand) .number ≤ columnLimit
+    go (Of variable b) h = either (eqb (atom .variable) z) (attribute (b .0)) (attribute (atom .attribute .0)) h (narrow .attribute)
+    go (Fixed c) h = narrow .attribute

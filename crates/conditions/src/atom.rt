@@ -1,12 +1,10 @@
 // What the rules ask of an atom.
 ghost use mathlib.Core.Path.{_≡_};
-ghost use Prim.Native.Nat.{_≤_};
-ghost use Rattle.relations.specs.Limits.{columnLimit};
 ghost use Rattle.relations.specs.Comparison.{operatorNumber, operatorNamed};
 ghost use Rattle.relations.specs.Comparison as comparison;
-ghost use Rattle.calculus.specs.Leaves.{oppositeAtom, aloneOn, comparesWithOther, areBoth, equatesWith, equatesOutside, ownAttribute, otherVariable, otherAttribute};
+ghost use Rattle.calculus.specs.Leaves.{oppositeAtom, aloneOn, comparesWithOther, areBoth, equatesWith, equatesOutside};
 ghost use Rattle.question.specs.Trees.{operandOf, atomOf};
-ghost use Rattle.conditions.specs.Atoms.{AtomNarrow};
+ghost use Rattle.conditions.specs.Atoms.{AtomNarrow, sidesOf};
 use nodes::node::Atom;
 use nodes::node::Operand;
 use terms::attribute::Attribute;
@@ -98,60 +96,40 @@ pub fn equates_outside(z: u32, y: u32, atom: Atom) -> bool
     (atom.operator == 1) & (compares_with_other(z, atom) & !are_both(z, y, atom))
 }
 
-// Of an atom that compares z with another variable: z's attribute, the other variable, and its attribute.
-pub fn own_attribute(z: u32, atom: Atom) -> Attribute
-    ensures { λ r. ⌜ r .0 ≡ ownAttribute z (atomOf atom) .number ⌝ }
-{
-    let own = atom.attribute;
-    let operand = atom.operand;
-    match operand {
-        Operand::Of {
-            variable: _,
-            attribute,
-        } => {
-            if atom.variable == z {
-                return own;
-            }
-            attribute
-        }
-        Operand::Fixed(_) => own,
-    }
+// An atom that compares z with another variable: z's attribute, the other variable, and its attribute.
+pub struct Sides {
+    pub own: Attribute,
+    pub variable: u32,
+    pub other: Attribute,
 }
 
-pub fn other_variable(z: u32, atom: Atom) -> u32
-    ensures { λ r. ⌜ r ≡ otherVariable z (atomOf atom) ⌝ }
+pub fn sides_of(z: u32, atom: Atom) -> Sides
+    ensures { λ r. ⌜ r ≡ sidesOf z (atomOf atom) ⌝ }
 {
+    let first = atom.attribute;
     let operand = atom.operand;
     match operand {
         Operand::Of {
             variable,
-            attribute: _,
-        } => {
-            if atom.variable == z {
-                return variable;
-            }
-            atom.variable
-        }
-        Operand::Fixed(_) => atom.variable,
-    }
-}
-
-pub fn other_attribute(z: u32, atom: Atom) -> Attribute
-    requires { ⌜ AtomNarrow atom ⌝ }
-    ensures { λ r. ⌜ (r .0 ≡ otherAttribute z (atomOf atom) .number) × (r .0 ≤ columnLimit) ⌝ }
-{
-    let own = atom.attribute;
-    let operand = atom.operand;
-    match operand {
-        Operand::Of {
-            variable: _,
             attribute,
         } => {
             if atom.variable == z {
-                return attribute;
+                return Sides {
+                    own: first,
+                    variable,
+                    other: attribute,
+                };
             }
-            own
+            Sides {
+                own: attribute,
+                variable: atom.variable,
+                other: first,
+            }
         }
-        Operand::Fixed(_) => own,
+        Operand::Fixed(_) => Sides {
+            own: first,
+            variable: atom.variable,
+            other: first,
+        },
     }
 }

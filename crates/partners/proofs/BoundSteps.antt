@@ -1,4 +1,4 @@
--- Bounds of the rows that pass a test, column by column: the first columns are known words, and the next one is in a range. Assumes nothing.
+-- Bounds of the rows that pass a test, column by column: the first columns are known words, and the next one is in a span. Assumes nothing.
 use mathlib.Core.Path.{_≡_, refl, sym, ap, ap₂, _∙_}
 use mathlib.Core.Bool.{Bool, true, false, _&&_, So}
 use mathlib.Core.List.{List, [], _∷_, _++_, append-nil}
@@ -14,10 +14,10 @@ use Rattle.relations.specs.Values.{Rows}
 use Rattle.relations.specs.Columns.{wordAt}
 use Rattle.relations.proofs.RowLaws.{rowBefore-itself, rowBefore-prefix}
 use Rattle.values.specs.Places.{rowsBefore, NoneBefore, NoneBehind}
-use Rattle.partners.specs.Ranges.{noWord, allowed}
+use Rattle.partners.specs.Spans.{noWord, allowed}
 use Rattle.partners.specs.Sieves.{sifts}
 use Rattle.partners.specs.Bounds.{Bounding}
-use Rattle.partners.proofs.RangeLaws.{at-least, at-most}
+use Rattle.partners.proofs.SpanLaws.{at-least, at-most}
 use Rattle.partners.proofs.SieveLaws.{sifts-each}
 
 -- no row stands before nothing
@@ -97,7 +97,7 @@ module _ {count : ℕ} {sieve : List ℕ} {width k : ℕ} {words : List ℕ} (be
           ap (λ (n : ℕ). rowBefore bound (take n s)) e ∙ high-next k high s words (omega arith) room (begins .same s l m) (high-word h s m);
     }
 
-    -- where the range is one word, that is the next one
+    -- where the span is one word, that is the next one
     pub begins-next : low ≡ high → high < noWord → (x : ℕ) → x ≡ low → Begins count sieve width (k + 1) (set words k x)
     begins-next e h x q = record { same = λ s l m. same-next k x s words (omega arith) room (begins .same s l m) (omega (arith, low-word s m, high-word h s m)) }
 

@@ -1,5 +1,5 @@
 -- In reading order.
-pub mod RangeLaws
+pub mod SpanLaws
 pub mod SieveLaws
 pub mod BoundSteps
 pub mod RestLaws

@@ -13,10 +13,10 @@ use Rattle.relations.specs.Columns.{wordAt, column, attribute, meets}
 use Rattle.relations.proofs.BoolLaws.{and-left, and-right, not-so}
 use Rattle.operations.specs.Lists.{firstTriple, triplesIn}
 use Rattle.operations.proofs.ListLaws.{first-word, next-word}
-use Rattle.partners.specs.Ranges.{noWord, allowed, allowedBy, Allows}
+use Rattle.partners.specs.Spans.{noWord, allowed, allowedBy, Allows}
 use Rattle.partners.specs.Sieves.{sifts, Narrows}
-use Rattle.partners.specs.declared.sieve.Range.{Range}
-use Rattle.partners.proofs.RangeLaws.{at-least, at-most, not-except, is-allowed}
+use Rattle.partners.specs.declared.sieve.Span.{Span}
+use Rattle.partners.proofs.SpanLaws.{at-least, at-most, not-except, is-allowed}
 
 and-swap : (a b c : Bool) → (a && (b && c)) ≡ (b && (a && c))
 and-swap true b c = refl
@@ -115,22 +115,22 @@ appended (suc n) (suc (suc (suc (suc at)))) (c₀ ∷ l₀ ∷ h₀ ∷ e₀ ∷
     ∙ and-swap (allowed l₀ h₀ e₀ (wordAt row c₀)) (allowed l h e (wordAt row c)) (sifts n rest row))
 
 -- both as what `narrow` promises
-module _ {column count : ℕ} {range : Range} {sieve : List ℕ} where
+module _ {column count : ℕ} {span : Span} {sieve : List ℕ} where
   pub narrows-at : (i l h e : ℕ) → i < count → count * 4 ≤ length sieve → getD sieve (i * 4) 0 ≡ column
-      → ((word : ℕ) → allowed l h e word ≡ (allowedBy range word && allowed (getD sieve (i * 4 + 1) 0) (getD sieve (i * 4 + 2) 0) (getD sieve (i * 4 + 3) 0) word))
-      → Narrows column range count sieve (set (set (set sieve (i * 4 + 1) l) (i * 4 + 2) h) (i * 4 + 3) e) count
+      → ((word : ℕ) → allowed l h e word ≡ (allowedBy span word && allowed (getD sieve (i * 4 + 1) 0) (getD sieve (i * 4 + 2) 0) (getD sieve (i * 4 + 3) 0) word))
+      → Narrows column span count sieve (set (set (set sieve (i * 4 + 1) l) (i * 4 + 2) h) (i * 4 + 3) e) count
   narrows-at i l h e p r named both = record {
     most = omega arith;
     same = λ row.
-        replaced i (i * 4) count sieve l h e (allowedBy range) row refl p r both
-        ∙ ap (λ (n : ℕ). allowedBy range (wordAt row n) && sifts count sieve row) named;
+        replaced i (i * 4) count sieve l h e (allowedBy span) row refl p r both
+        ∙ ap (λ (n : ℕ). allowedBy span (wordAt row n) && sifts count sieve row) named;
   }
 
   pub narrows-on : count * 4 + 4 ≤ length sieve
-      → Narrows column range count sieve (set (set (set (set sieve (count * 4) column) (count * 4 + 1) (range .low)) (count * 4 + 2) (range .high)) (count * 4 + 3) (range .except)) (count + 1)
+      → Narrows column span count sieve (set (set (set (set sieve (count * 4) column) (count * 4 + 1) (span .low)) (count * 4 + 2) (span .high)) (count * 4 + 3) (span .except)) (count + 1)
   narrows-on r = record {
     most = omega arith;
-    same = λ row. rw add-one (appended count (count * 4) sieve column (range .low) (range .high) (range .except) row refl r);
+    same = λ row. rw add-one (appended count (count * 4) sieve column (span .low) (span .high) (span .except) row refl r);
   }
 
 -- a turn of the loop over triples
@@ -140,10 +140,10 @@ meets-step : (list : List ℕ) (at more : ℕ) (left right : Row) → 0 < more
 meets-step list at zero left right h = absurd (omega arith)
 meets-step list at (suc more) left right h = let e : suc more - 1 ≡ more = omega arith in rw (e, drop-drop 3 at list)
 
-pub filled-step : (list : List ℕ) (at more : ℕ) (left right : Row) {word made made′ : ℕ} {range : Range} {sieve sieve′ : List ℕ} → 0 < more → word ≡ column left (attribute (getD list at 0))
-    → Allows (operatorNamed (getD list (at + 1) 0)) word range → Narrows (getD list (at + 2) 0) range made sieve sieve′ made′
+pub filled-step : (list : List ℕ) (at more : ℕ) (left right : Row) {word made made′ : ℕ} {span : Span} {sieve sieve′ : List ℕ} → 0 < more → word ≡ column left (attribute (getD list at 0))
+    → Allows (operatorNamed (getD list (at + 1) 0)) word span → Narrows (getD list (at + 2) 0) span made sieve sieve′ made′
     → (sifts made′ sieve′ right && meets (triplesIn (more - 1) (drop (at + 3) list)) left right) ≡ (sifts made sieve right && meets (triplesIn more (drop at list)) left right)
-filled-step list at more left right {word} {made} {made′} {range} {sieve} {sieve′} some read allows narrows =
+filled-step list at more left right {word} {made} {made′} {span} {sieve} {sieve′} some read allows narrows =
     let test : Bool = holds (operatorNamed (getD list (at + 1) 0)) (column left (attribute (getD list at 0))) (wordAt right (getD list (at + 2) 0)) in
     let rest : Bool = meets (triplesIn (more - 1) (drop (at + 3) list)) left right in
     let a : sifts made′ sieve′ right ≡ (test && sifts made sieve right) =
@@ -159,7 +159,7 @@ filled-over made more sieve list left right e = rw e (and-true (sifts made sieve
 pub sifts-over : (more : ℕ) (sieve : List ℕ) (row : Row) → more ≡ 0 → sifts more sieve row ≡ true
 sifts-over more sieve row e = rw e
 
--- a row that is let through is in the range of each entry
+-- a row that is let through is in the span of each entry
 pub sifts-each : (i at count : ℕ) (sieve : List ℕ) (row : Row) → at ≡ i * 4 → i < count → So (sifts count sieve row)
     → So (allowed (getD sieve (at + 1) 0) (getD sieve (at + 2) 0) (getD sieve (at + 3) 0) (wordAt row (getD sieve at 0)))
 sifts-each i at zero sieve row q p m = absurd (omega arith)

@@ -1,4 +1,4 @@
 -- In reading order.
-pub mod Ranges
+pub mod Spans
 pub mod Sieves
 pub mod Bounds

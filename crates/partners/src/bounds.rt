@@ -1,4 +1,4 @@
-// Where the rows that a sieve lets through can stand in an ascending value: the first columns, as long as one word is left to them, and the next one's range.
+// Where the rows that a sieve lets through can stand in an ascending value: the first columns, as long as one word is left to them, and the next one's span.
 ghost use Prim.Native.Nat.{_*_, _≤_};
 ghost use lib.ListN.{length};
 ghost use Rattle.partners.specs.Bounds.{Bounding};

@@ -8,7 +8,7 @@ ghost use lib.ListN.{length};
 ghost use Rattle.relations.specs.Columns.{wordAt};
 ghost use Rattle.terms.specs.Terms.{operatorIn};
 ghost use Rattle.operations.specs.Lists.{triplesIn};
-ghost use Rattle.partners.specs.Ranges.{Allows};
+ghost use Rattle.partners.specs.Spans.{Allows};
 ghost use Rattle.partners.specs.Sieves.{sifts, Narrows, Sieve};
 use operations::columns::column_of;
 use relations::limits::GREATEST_WORD;
@@ -17,60 +17,60 @@ use terms::attribute::Attribute;
 use terms::operator::Operator;
 use terms::operator::operator_of;
 
-// An entry of a sieve is a column's number and its range; there is at most one for each triple.
+// An entry of a sieve is a column's number and its span; there is at most one for each triple.
 pub const SIEVE_WORDS: usize = 4 * TRIPLES;
 
 // Above every word: such a bound says nothing, and no word is excepted.
 pub const NO_WORD: usize = GREATEST_WORD as usize + 1;
 
 // The words from the least to the greatest, without one.
-pub struct Range {
+pub struct Span {
     pub low: usize,
     pub high: usize,
     pub except: usize,
 }
 
 // The words that a left word compares with so.
-fn range_of(operator: Operator, word: u32) -> Range
+fn span_of(operator: Operator, word: u32) -> Span
     ensures { λ r. ⌜ Allows (operatorIn operator) word r ⌝ }
 {
     let x = word as usize;
     match operator {
-        Operator::Equal => Range {
+        Operator::Equal => Span {
             low: x,
             high: x,
             except: NO_WORD,
         },
-        Operator::NotEqual => Range {
+        Operator::NotEqual => Span {
             low: 0,
             high: NO_WORD,
             except: x,
         },
-        Operator::Less => Range {
+        Operator::Less => Span {
             low: x + 1,
             high: NO_WORD,
             except: NO_WORD,
         },
-        Operator::AtMost => Range {
+        Operator::AtMost => Span {
             low: x,
             high: NO_WORD,
             except: NO_WORD,
         },
         Operator::Greater => {
             if x == 0 {
-                return Range {
+                return Span {
                     low: 1,
                     high: 0,
                     except: NO_WORD,
                 };
             }
-            Range {
+            Span {
                 low: 0,
                 high: x - 1,
                 except: NO_WORD,
             }
         }
-        Operator::AtLeast => Range {
+        Operator::AtLeast => Span {
             low: 0,
             high: x,
             except: NO_WORD,
@@ -107,14 +107,14 @@ fn lesser_of(a: usize, b: usize) -> usize
     if a < b { a } else { b }
 }
 
-// A column is to be in a range too: its entry is made narrower, or, where it has none that can be, another is put behind the entries. Two words cannot be excepted by one.
-fn narrow(sieve: &mut [usize], count: usize, column: usize, range: Range) -> usize
+// A column is to be in a span too: its entry is made narrower, or, where it has none that can be, another is put behind the entries. Two words cannot be excepted by one.
+fn narrow(sieve: &mut [usize], count: usize, column: usize, span: Span) -> usize
     requires { ⌜ count * 4 + 4 ≤ length (now sieve) ⌝ }
-    ensures { λ r. ⌜ Narrows column range count (now (sieve .entry)) (now (sieve .exit)) r ⌝ }
+    ensures { λ r. ⌜ Narrows column span count (now (sieve .entry)) (now (sieve .exit)) r ⌝ }
 {
-    let low = range.low;
-    let high = range.high;
-    let except = range.except;
+    let low = span.low;
+    let high = span.high;
+    let except = span.except;
     let i = likely_entry(sieve, count, column);
     if i < count {
         let at = i * 4;
@@ -149,9 +149,9 @@ pub fn fill(list: &[u32], count: usize, row: &[u32], sieve: &mut [usize]) -> usi
     while 0 < more {
         let word = column_of(row, Attribute(list[at]));
         let operator = operator_of(list[at + 1]);
-        let range = range_of(operator, word);
+        let span = span_of(operator, word);
         let column = list[at + 2] as usize;
-        made = narrow(sieve, made, column, range);
+        made = narrow(sieve, made, column, span);
         at += 3;
         more -= 1;
     }

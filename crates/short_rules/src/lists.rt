@@ -19,9 +19,7 @@ use crate::fits::once;
 use conditions::atom::compares_with_other;
 use conditions::atom::equates_outside;
 use conditions::atom::equates_with;
-use conditions::atom::other_attribute;
-use conditions::atom::other_variable;
-use conditions::atom::own_attribute;
+use conditions::atom::sides_of;
 use conditions::atom::turned;
 use conditions::leaves::LEAF_WORDS;
 use conditions::leaves::leaf;
@@ -41,12 +39,12 @@ fn with_triple_of(list: NodeList, scope: &[u8; SCOPE_BYTES], x: u32, atom: Atom)
     if !compares_with_other(x, atom) {
         return list;
     }
-    let own = own_attribute(x, atom);
-    let other = column_of(scope, other_variable(x, atom), other_attribute(x, atom));
+    let sides = sides_of(x, atom);
+    let other = column_of(scope, sides.variable, sides.other);
     if atom.variable == x {
-        return with_words(list, &[other.0, turned(atom.operator), own.0]);
+        return with_words(list, &[other.0, turned(atom.operator), sides.own.0]);
     }
-    with_words(list, &[other.0, atom.operator, own.0])
+    with_words(list, &[other.0, atom.operator, sides.own.0])
 }
 
 pub fn triples_of(
@@ -98,8 +96,8 @@ pub fn with_own_columns(
     let mut left = leaves[0];
     while 0 < left {
         let atom = leaf(words, leaves, false, i);
-        let own = own_attribute(z, atom);
-        longer = with_words_if(longer, links(outside, z, y, atom), &[own.0]);
+        let sides = sides_of(z, atom);
+        longer = with_words_if(longer, links(outside, z, y, atom), &[sides.own.0]);
         i += 1;
         left -= 1;
     }
@@ -124,8 +122,8 @@ pub fn division_pairs(
     while 0 < left {
         let atom = leaf(words, leaves, false, i);
         let with_y = equates_with(z, y, atom);
-        let other = other_attribute(z, atom);
-        list = with_words_if(list, with_y, &[column, other.0]);
+        let sides = sides_of(z, atom);
+        list = with_words_if(list, with_y, &[column, sides.other.0]);
         column += once(with_y);
         i += 1;
         left -= 1;
@@ -151,7 +149,8 @@ pub fn outside_triples(
     while 0 < left {
         let atom = leaf(words, leaves, false, i);
         let with_other = equates_outside(z, y, atom);
-        let other = column_of(scope, other_variable(z, atom), other_attribute(z, atom));
+        let sides = sides_of(z, atom);
+        let other = column_of(scope, sides.variable, sides.other);
         list = with_words_if(list, with_other, &[other.0, 1, column]);
         column += once(with_other);
         i += 1;

@@ -1,7 +1,3 @@
-use mathlib.Core.Path.{sym, ap}
-use Rattle.calculus.specs.Leaves.{areBoth}
-use Rattle.question.specs.Trees.{operandOf}
-use Rattle.nodes.specs.declared.node.Operand.{Operand}
 use borrow.Author.Needs.{needs}
 use Rattle.conditions.proofs.atom.are_both.Statement.{statement}
 use Rattle.conditions.proofs.atom.are_both.Tie as tie
@@ -13,7 +9,7 @@ enum-told : tie.Need-enum-told
 enum-told c = search needs
 
 returns : tie.Need-returns
-returns c = sym (ap (λ (o : Operand). areBoth (c .before .before .before .before .before .args .z) (c .before .before .before .before .before .args .y) (c .before .before .before .before .before .args .atom .variable) (operandOf o)) (c .before .before .before .operand .given .1))
+returns c = rw (c .before .before .before .operand .given .1)
 
 returns-2 : tie.Need-returns-2
 returns-2 c = search needs

@@ -1,7 +1,5 @@
-use mathlib.Core.Path.{sym, ap, _∙_}
-use Rattle.calculus.specs.Leaves.{comparesWithOther}
-use Rattle.conditions.proofs.AtomLaws.{read, taken, passed}
 use borrow.Author.Needs.{needs}
+use borrow.Author.Tests.{eq-eqb, ne-eqb}
 use Rattle.conditions.proofs.atom.compares_with_other.Statement.{statement}
 use Rattle.conditions.proofs.atom.compares_with_other.Tie as tie
 
@@ -9,13 +7,13 @@ enum-known-operand : tie.Need-enum-known-operand
 enum-known-operand c = search needs
 
 returns : tie.Need-returns
-returns c = sym (ap (comparesWithOther (c .before .before .before .before .before .args .x)) (read (c .before .before .before .before .before .args .atom) (c .before .before .before .operand .given .1)) ∙ taken _ _ (c .if1 .taken))
+returns c = rw (c .before .before .before .operand .given .1, eq-eqb (c .before .before .before .before .before .args .atom .variable) (c .before .before .before .before .before .args .x) (c .if1 .taken))
 
 enum-told : tie.Need-enum-told
 enum-told c = search needs
 
 returns-2 : tie.Need-returns-2
-returns-2 c = sym (ap (comparesWithOther (c .before .before .before .before .before .args .x)) (read (c .before .before .before .before .before .args .atom) (c .before .before .before .operand .given .1)) ∙ passed _ _ (c .if1 .left))
+returns-2 c = rw (c .before .before .before .operand .given .1, ne-eqb (c .before .before .before .before .before .args .atom .variable) (c .before .before .before .before .before .args .x) (c .if1 .left))
 
 returns-3 : tie.Need-returns-3
 returns-3 c = search needs

@@ -2,7 +2,7 @@ use Rattle.emission.proofs.NodeListLaws.{grown-used, grown-then, grown-
 use Rattle.emission.specs.NodeLists.{grownBy}
 use lib.ListN.{length, take}
 use lib.Seq.{length-take-le, take-all, take-suc}
-use Prim.Native.Nat.{_+_, _-_, _≤_}
+use Prim.Native.Nat.{_-_, _≤_}
 use mathlib.Core.Path.{_≡_, sym, ap, _∙_}
 use native.Mathlib.Numerals.{add-one}
 use native.Mathlib.Omega.{arith}

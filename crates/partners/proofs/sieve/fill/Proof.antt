@@ -52,8 +52,8 @@ operator-of-requires : tie.Need-operator-of-requires Inv-loop μ-loop
 operator-of-requires c κs = tt
 
 -- src/sieve.rt:150:13
-range-of-requires : tie.Need-range-of-requires Inv-loop μ-loop
-range-of-requires c κs = tt
+span-of-requires : tie.Need-span-of-requires Inv-loop μ-loop
+span-of-requires c κs = tt
 
 -- src/sieve.rt:151:27
 add-column : tie.Need-add-column Inv-loop μ-loop
@@ -94,7 +94,7 @@ loop-again c = let s = c .before .before .before .before .before .before .before
   omega (arith, c .before .before .narrow .ensures .most),
   omega (arith, c .before .before .narrow .kept, l .inv .2),
   λ right.
-      filled-step (s .list .now) (l .at) (l .more) (s .row .now) right (omega arith) (c .before .before .before .before .before .before .before .before .column-of .ensures) (rw (c .before .before .before .before .before .before .operator-of .ensures) at (c .before .before .before .before .before .range-of .ensures)) (c .before .before .narrow .ensures) ∙ l .inv .3 right,
+      filled-step (s .list .now) (l .at) (l .more) (s .row .now) right (omega arith) (c .before .before .before .before .before .before .before .before .column-of .ensures) (rw (c .before .before .before .before .before .before .operator-of .ensures) at (c .before .before .before .before .before .span-of .ensures)) (c .before .before .narrow .ensures) ∙ l .inv .3 right,
 )
 
 -- src/sieve.rt:140:1
@@ -122,7 +122,7 @@ fill-spec =
     mul-operator-of-2
     shared-slice-read-operator-of-2
     operator-of-requires
-    range-of-requires
+    span-of-requires
     add-column
     mul-column
     shared-slice-read-column

@@ -1,6 +1,6 @@
 use Prim.Native.Nat.{_+_, _*_}
 use lib.ListN.{getD, length-set}
-use Rattle.partners.proofs.RangeLaws.{range-both}
+use Rattle.partners.proofs.SpanLaws.{span-both}
 use Rattle.partners.proofs.SieveLaws.{narrows-at, narrows-on}
 use native.Mathlib.Omega.{arith}
 use borrow.Author.Needs.{needs}
@@ -121,7 +121,7 @@ returns c = let s = c .before .before .before .before .before .before .before .b
     narrows-at i (c .before .before .greater-of2 .result) (c .before .lesser-of .result) (c .lesser-of2 .result) (c .before .before .before .before .before .before .before .before .before .before .if1 .taken) (omega arith) (c .before .before .before .before .before .if2 .taken)
     (λ w.
     rw (c .before .before .greater-of2 .ensures, c .before .lesser-of .ensures, c .lesser-of2 .ensures)
-    (range-both (getD words (i * 4 + 1) 0) (getD words (i * 4 + 2) 0) (getD words (i * 4 + 3) 0) (s .range .low) (s .range .high) (s .range .except) w (omega (arith, c .before .before .before .before .greater-of .ensures, c .before .before .before .if3 .taken))))
+    (span-both (getD words (i * 4 + 1) 0) (getD words (i * 4 + 2) 0) (getD words (i * 4 + 3) 0) (s .span .low) (s .span .high) (s .span .except) w (omega (arith, c .before .before .before .before .greater-of .ensures, c .before .before .before .if3 .taken))))
 
 -- src/sieve.rt:131:15
 mul-end : tie.Need-mul-end

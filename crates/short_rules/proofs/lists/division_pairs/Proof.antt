@@ -2,13 +2,14 @@ use Rattle.short_rules.proofs.ListLaws.{pairs-size}
 use Rattle.short_rules.proofs.LeafSteps.{rest, pairs-next}
 use Rattle.relations.specs.Limits.{listWords}
 use Rattle.calculus.specs.ShortRules.{divisionPairs}
-use Rattle.calculus.specs.Leaves.{equatesWith, otherAttribute}
+use Rattle.calculus.specs.Leaves.{equatesWith}
 use Rattle.relations.specs.PlanWords.{pairWords}
 use Rattle.emission.proofs.NodeListLaws.{grown-used, grown-step, grown-none, grown-list}
 use Rattle.emission.specs.declared.node_list.NodeList.{NodeList}
 use Rattle.emission.specs.NodeLists.{nodeList, grownBy}
+use Rattle.conditions.specs.Atoms.{sidesOf}
+use Rattle.conditions.specs.declared.atom.Sides.{Sides}
 use Rattle.conditions.specs.Leaves.{leafCount, atomsOf}
-use Rattle.calculus.specs.Question as calculus
 use Rattle.relations.specs.Lists.{flat, filter}
 use lib.ListN.{length, length-append}
 use mathlib.Core.List.{[], _∷_}
@@ -46,8 +47,8 @@ leaf-requires c κs = (c .before .before .before .before .before .pre .0, omega 
 equates-with-requires : tie.Need-equates-with-requires Inv-loop μ-loop
 equates-with-requires c κs = c .leaf .ensures .1
 
-other-attribute-requires : tie.Need-other-attribute-requires Inv-loop μ-loop
-other-attribute-requires c κs = c .before .leaf .ensures .1
+sides-of-requires : tie.Need-sides-of-requires Inv-loop μ-loop
+sides-of-requires c κs = tt
 
 slice-aggregate-with-words-if : tie.Need-slice-aggregate-with-words-if Inv-loop μ-loop
 slice-aggregate-with-words-if c = search needs
@@ -57,9 +58,9 @@ with-words-if-requires c κs = let s = c .before .before .before .before .before
     let l = c .before .before .before .before .before .loop in
     let a = c .before .before .before .leaf .ensures .0 in
     let t = c .before .before .equates-with .ensures ∙ ap (equatesWith (s .args .z) (s .args .y)) a in
-    let o = c .before .other-attribute .ensures .0 ∙ ap (λ (b : calculus.Atom). otherAttribute (s .args .z) b .number) a in
+    let o = ap (λ (d : Sides). d .other .0) (c .before .sides-of .ensures ∙ ap (sidesOf (s .args .z)) a) in
     let e = pairs-next (s .args .words .now) false (s .args .leaves .now) (l .i) (l .left) (omega arith) (equatesWith (s .args .z) (s .args .y)) (s .args .z) (l .column) _ _ t o in
-    omega (arith, l .inv .2, ap length e, length-append (cond (c .before .before .equates-with .result) (l .column ∷ c .before .other-attribute .result .0 ∷ []) []) (flat pairWords (divisionPairs (s .args .z) (filter (equatesWith (s .args .z) (s .args .y)) (rest (s .args .words .now) false (s .args .leaves .now) (l .i + 1) (l .left - 1))) (l .column + cond (c .before .before .equates-with .result) 1 0))))
+    omega (arith, l .inv .2, ap length e, length-append (cond (c .before .before .equates-with .result) (l .column ∷ c .before .sides-of .result .other .0 ∷ []) []) (flat pairWords (divisionPairs (s .args .z) (filter (equatesWith (s .args .z) (s .args .y)) (rest (s .args .words .now) false (s .args .leaves .now) (l .i + 1) (l .left - 1))) (l .column + cond (c .before .before .equates-with .result) 1 0))))
 
 once-requires : tie.Need-once-requires Inv-loop μ-loop
 once-requires c κs = tt
@@ -81,9 +82,9 @@ loop-again c = let s = c .before .before .before .before .before .before .before
     let l = c .before .before .before .before .before .before .before .loop in
     let a = c .before .before .before .before .before .leaf .ensures .0 in
     let t = c .before .before .before .before .equates-with .ensures ∙ ap (equatesWith (s .args .z) (s .args .y)) a in
-    let o = c .before .before .before .other-attribute .ensures .0 ∙ ap (λ (b : calculus.Atom). otherAttribute (s .args .z) b .number) a in
+    let o = ap (λ (d : Sides). d .other .0) (c .before .before .before .sides-of .ensures ∙ ap (sidesOf (s .args .z)) a) in
     let e = pairs-next (s .args .words .now) false (s .args .leaves .now) (l .i) (l .left) (omega arith) (equatesWith (s .args .z) (s .args .y)) (s .args .z) (l .column) _ _ t o in
-    let m = length-append (cond (c .before .before .before .before .equates-with .result) (l .column ∷ c .before .before .before .other-attribute .result .0 ∷ []) []) (flat pairWords (divisionPairs (s .args .z) (filter (equatesWith (s .args .z) (s .args .y)) (rest (s .args .words .now) false (s .args .leaves .now) (l .i + 1) (l .left - 1))) (l .column + cond (c .before .before .before .before .equates-with .result) 1 0))) in
+    let m = length-append (cond (c .before .before .before .before .equates-with .result) (l .column ∷ c .before .before .before .sides-of .result .other .0 ∷ []) []) (flat pairWords (divisionPairs (s .args .z) (filter (equatesWith (s .args .z) (s .args .y)) (rest (s .args .words .now) false (s .args .leaves .now) (l .i + 1) (l .left - 1))) (l .column + cond (c .before .before .before .before .equates-with .result) 1 0))) in
     let k = ap (λ (x : ℕ). flat pairWords (divisionPairs (s .args .z) (filter (equatesWith (s .args .z) (s .args .y)) (rest (s .args .words .now) false (s .args .leaves .now) (l .i + 1) (l .left - 1))) (l .column + x))) (c .once .ensures .0) in (
       omega arith,
       omega (arith, c .once .ensures .1),
@@ -107,7 +108,7 @@ division-pairs-spec =
     loop-holds
     leaf-requires
     equates-with-requires
-    other-attribute-requires
+    sides-of-requires
     slice-aggregate-with-words-if
     with-words-if-requires
     once-requires

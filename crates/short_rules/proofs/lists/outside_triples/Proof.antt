@@ -4,18 +4,20 @@ use Rattle.relations.specs.Limits.{listWords}
 use Rattle.conditions.specs.Scopes.{scopeOf}
 use Rattle.calculus.specs.ShortRules.{outsideTriples}
 use Rattle.calculus.specs.Scope.{columnNumber}
-use Rattle.calculus.specs.Leaves.{equatesOutside, otherVariable, otherAttribute}
+use Rattle.calculus.specs.Leaves.{equatesOutside}
 use Rattle.relations.specs.PlanWords.{tripleWords}
 use Rattle.emission.proofs.NodeListLaws.{grown-used, grown-step, grown-none, grown-list}
 use Rattle.emission.specs.declared.node_list.NodeList.{NodeList}
 use Rattle.emission.specs.NodeLists.{nodeList, grownBy}
+use Rattle.conditions.proofs.AtomLaws.{other-narrow}
+use Rattle.conditions.specs.Atoms.{sidesOf}
+use Rattle.conditions.specs.declared.atom.Sides.{Sides}
 use Rattle.conditions.specs.Leaves.{leafCount, atomsOf}
-use Rattle.calculus.specs.Question as calculus
 use Rattle.relations.specs.Lists.{flat, filter}
 use lib.ListN.{length, length-append}
 use mathlib.Core.List.{[], _∷_}
 use mathlib.Core.Bool.{false, cond}
-use mathlib.Core.Path.{_≡_, refl, ap, ap₂, sym, _∙_}
+use mathlib.Core.Path.{_≡_, refl, ap, sym, _∙_}
 use Prim.Native.Nat.{ℕ, _+_, _-_, _≤_}
 use native.Mathlib.Omega.{arith}
 use borrow.Author.Needs.{needs}
@@ -48,35 +50,32 @@ leaf-requires c κs = (c .before .before .before .before .before .pre .1, omega 
 equates-outside-requires : tie.Need-equates-outside-requires Inv-loop μ-loop
 equates-outside-requires c κs = c .leaf .ensures .1
 
-other-variable-requires : tie.Need-other-variable-requires Inv-loop μ-loop
-other-variable-requires c κs = tt
-
-other-attribute-requires : tie.Need-other-attribute-requires Inv-loop μ-loop
-other-attribute-requires c κs = c .before .before .leaf .ensures .1
+sides-of-requires : tie.Need-sides-of-requires Inv-loop μ-loop
+sides-of-requires c κs = tt
 
 column-of-requires : tie.Need-column-of-requires Inv-loop μ-loop
-column-of-requires c κs = (c .before .before .before .before .before .before .before .before .before .pre .0, c .other-attribute .ensures .1)
+column-of-requires c κs = (c .before .before .before .before .before .before .before .before .pre .0, other-narrow _ (c .before .before .leaf .result) (c .sides-of .ensures) (c .before .before .leaf .ensures .1))
 
 slice-aggregate-with-words-if : tie.Need-slice-aggregate-with-words-if Inv-loop μ-loop
 slice-aggregate-with-words-if c = search needs
 
 with-words-if-requires : tie.Need-with-words-if-requires Inv-loop μ-loop
-with-words-if-requires c κs = let s = c .before .before .before .before .before .before .before .before .before .before .before in
-    let l = c .before .before .before .before .before .before .before .loop in
-    let a = c .before .before .before .before .before .leaf .ensures .0 in
-    let t = c .before .before .before .before .equates-outside .ensures ∙ ap (equatesOutside (s .args .z) (s .args .y)) a in
-    let o = c .before .column-of .ensures ∙ ap₂ (columnNumber (scopeOf (s .args .scope .now))) (c .before .before .before .other-variable .ensures ∙ ap (otherVariable (s .args .z)) a) (c .before .before .other-attribute .ensures .0 ∙ ap (λ (b : calculus.Atom). otherAttribute (s .args .z) b .number) a) in
+with-words-if-requires c κs = let s = c .before .before .before .before .before .before .before .before .before .before in
+    let l = c .before .before .before .before .before .before .loop in
+    let a = c .before .before .before .before .leaf .ensures .0 in
+    let t = c .before .before .before .equates-outside .ensures ∙ ap (equatesOutside (s .args .z) (s .args .y)) a in
+    let o = c .before .column-of .ensures ∙ ap (λ (d : Sides). columnNumber (scopeOf (s .args .scope .now)) (d .variable) (d .other .0)) (c .before .before .sides-of .ensures ∙ ap (sidesOf (s .args .z)) a) in
     let e = outside-next (s .args .words .now) false (s .args .leaves .now) (l .i) (l .left) (omega arith) (equatesOutside (s .args .z) (s .args .y)) (scopeOf (s .args .scope .now)) (s .args .z) (l .column) _ _ t o in
-    omega (arith, l .inv .2, ap length e, length-append (cond (c .before .before .before .before .equates-outside .result) (c .before .column-of .result .0 ∷ 1 ∷ l .column ∷ []) []) (flat tripleWords (outsideTriples (scopeOf (s .args .scope .now)) (s .args .z) (filter (equatesOutside (s .args .z) (s .args .y)) (rest (s .args .words .now) false (s .args .leaves .now) (l .i + 1) (l .left - 1))) (l .column + cond (c .before .before .before .before .equates-outside .result) 1 0))))
+    omega (arith, l .inv .2, ap length e, length-append (cond (c .before .before .before .equates-outside .result) (c .before .column-of .result .0 ∷ 1 ∷ l .column ∷ []) []) (flat tripleWords (outsideTriples (scopeOf (s .args .scope .now)) (s .args .z) (filter (equatesOutside (s .args .z) (s .args .y)) (rest (s .args .words .now) false (s .args .leaves .now) (l .i + 1) (l .left - 1))) (l .column + cond (c .before .before .before .equates-outside .result) 1 0))))
 
 once-requires : tie.Need-once-requires Inv-loop μ-loop
 once-requires c κs = tt
 
 add-column : tie.Need-add-column Inv-loop μ-loop
-add-column c = omega (arith, c .once .ensures .1, c .before .before .before .before .before .before .before .before .before .before .before .before .before .pre .1 .few)
+add-column c = omega (arith, c .once .ensures .1, c .before .before .before .before .before .before .before .before .before .before .before .before .pre .1 .few)
 
 add-i : tie.Need-add-i Inv-loop μ-loop
-add-i c = omega (arith, c .before .before .before .before .before .before .before .before .before .before .before .before .before .pre .1 .few)
+add-i c = omega (arith, c .before .before .before .before .before .before .before .before .before .before .before .before .pre .1 .few)
 
 sub-left : tie.Need-sub-left Inv-loop μ-loop
 sub-left c = omega arith
@@ -85,13 +84,13 @@ loop-less : tie.Need-loop-less Inv-loop μ-loop
 loop-less c = omega arith
 
 loop-again : tie.Need-loop-again Inv-loop μ-loop
-loop-again c = let s = c .before .before .before .before .before .before .before .before .before .before .before .before .before in
-    let l = c .before .before .before .before .before .before .before .before .before .loop in
-    let a = c .before .before .before .before .before .before .before .leaf .ensures .0 in
-    let t = c .before .before .before .before .before .before .equates-outside .ensures ∙ ap (equatesOutside (s .args .z) (s .args .y)) a in
-    let o = c .before .before .before .column-of .ensures ∙ ap₂ (columnNumber (scopeOf (s .args .scope .now))) (c .before .before .before .before .before .other-variable .ensures ∙ ap (otherVariable (s .args .z)) a) (c .before .before .before .before .other-attribute .ensures .0 ∙ ap (λ (b : calculus.Atom). otherAttribute (s .args .z) b .number) a) in
+loop-again c = let s = c .before .before .before .before .before .before .before .before .before .before .before .before in
+    let l = c .before .before .before .before .before .before .before .before .loop in
+    let a = c .before .before .before .before .before .before .leaf .ensures .0 in
+    let t = c .before .before .before .before .before .equates-outside .ensures ∙ ap (equatesOutside (s .args .z) (s .args .y)) a in
+    let o = c .before .before .before .column-of .ensures ∙ ap (λ (d : Sides). columnNumber (scopeOf (s .args .scope .now)) (d .variable) (d .other .0)) (c .before .before .before .before .sides-of .ensures ∙ ap (sidesOf (s .args .z)) a) in
     let e = outside-next (s .args .words .now) false (s .args .leaves .now) (l .i) (l .left) (omega arith) (equatesOutside (s .args .z) (s .args .y)) (scopeOf (s .args .scope .now)) (s .args .z) (l .column) _ _ t o in
-    let m = length-append (cond (c .before .before .before .before .before .before .equates-outside .result) (c .before .before .before .column-of .result .0 ∷ 1 ∷ l .column ∷ []) []) (flat tripleWords (outsideTriples (scopeOf (s .args .scope .now)) (s .args .z) (filter (equatesOutside (s .args .z) (s .args .y)) (rest (s .args .words .now) false (s .args .leaves .now) (l .i + 1) (l .left - 1))) (l .column + cond (c .before .before .before .before .before .before .equates-outside .result) 1 0))) in
+    let m = length-append (cond (c .before .before .before .before .before .equates-outside .result) (c .before .before .before .column-of .result .0 ∷ 1 ∷ l .column ∷ []) []) (flat tripleWords (outsideTriples (scopeOf (s .args .scope .now)) (s .args .z) (filter (equatesOutside (s .args .z) (s .args .y)) (rest (s .args .words .now) false (s .args .leaves .now) (l .i + 1) (l .left - 1))) (l .column + cond (c .before .before .before .before .before .equates-outside .result) 1 0))) in
     let k = ap (λ (x : ℕ). (flat tripleWords (outsideTriples (scopeOf (s .args .scope .now)) (s .args .z) (filter (equatesOutside (s .args .z) (s .args .y)) (rest (s .args .words .now) false (s .args .leaves .now) (l .i + 1) (l .left - 1))) (l .column + x)))) (c .once .ensures .0) in (
       omega arith,
       omega (arith, c .once .ensures .1),
@@ -115,8 +114,7 @@ outside-triples-spec =
     loop-holds
     leaf-requires
     equates-outside-requires
-    other-variable-requires
-    other-attribute-requires
+    sides-of-requires
     column-of-requires
     slice-aggregate-with-words-if
     with-words-if-requires

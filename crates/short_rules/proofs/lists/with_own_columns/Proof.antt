@@ -5,8 +5,9 @@ use Rattle.emission.proofs.NodeListLaws.{grown-used, grown-step, grown-none}
 use Rattle.emission.specs.NodeLists.{grownBy, numbersOf}
 use Rattle.short_rules.specs.Lists.{links}
 use Rattle.conditions.specs.Leaves.{leafCount, atomsOf}
+use Rattle.conditions.specs.Atoms.{sidesOf}
+use Rattle.conditions.specs.declared.atom.Sides.{Sides}
 use Rattle.calculus.specs.Leaves.{ownAttribute}
-use Rattle.calculus.specs.Question as calculus
 use Rattle.relations.specs.Lists.{filter}
 use lib.ListN.{length}
 use mathlib.Core.List.{map}
@@ -34,8 +35,8 @@ loop-holds c = (omega arith, c .before .before .pre .1, refl)
 leaf-requires : tie.Need-leaf-requires Inv-loop μ-loop
 leaf-requires c κs = (c .before .before .before .before .pre .0, omega arith)
 
-own-attribute-requires : tie.Need-own-attribute-requires Inv-loop μ-loop
-own-attribute-requires c κs = tt
+sides-of-requires : tie.Need-sides-of-requires Inv-loop μ-loop
+sides-of-requires c κs = tt
 
 links-requires : tie.Need-links-requires Inv-loop μ-loop
 links-requires c κs = c .before .leaf .ensures .1
@@ -48,7 +49,7 @@ with-words-if-requires c κs = let s = c .before .before .before .before .before
     let l = c .before .before .before .before .before .loop in
     let a = c .before .before .before .leaf .ensures .0 in
     let t = c .before .links .ensures ∙ ap (links (s .args .outside) (s .args .z) (s .args .y)) a in
-    omega (arith, l .inv .1, own-count (s .args .words .now) false (s .args .leaves .now) (l .i) (l .left) (omega arith) (links (s .args .outside) (s .args .z) (s .args .y)) (c .before .before .own-attribute .result .0) _ t)
+    omega (arith, l .inv .1, own-count (s .args .words .now) false (s .args .leaves .now) (l .i) (l .left) (omega arith) (links (s .args .outside) (s .args .z) (s .args .y)) (c .before .before .sides-of .result .own .0) _ t)
 
 add-i : tie.Need-add-i Inv-loop μ-loop
 add-i c = omega arith
@@ -64,9 +65,9 @@ loop-again c = let s = c .before .before .before .before .before .before .before
     let l = c .before .before .before .before .before .before .loop in
     let a = c .before .before .before .before .leaf .ensures .0 in
     let t = c .before .before .links .ensures ∙ ap (links (s .args .outside) (s .args .z) (s .args .y)) a in
-    let o = c .before .before .before .own-attribute .ensures ∙ ap (λ (b : calculus.Atom). ownAttribute (s .args .z) b .number) a in (
+    let o = ap (λ (d : Sides). d .own .0) (c .before .before .before .sides-of .ensures ∙ ap (sidesOf (s .args .z)) a) in (
       omega arith,
-      omega (arith, l .inv .1, grown-used _ _ (c .with-words-if .ensures), own-count (s .args .words .now) false (s .args .leaves .now) (l .i) (l .left) (omega arith) (links (s .args .outside) (s .args .z) (s .args .y)) (c .before .before .before .own-attribute .result .0) _ t),
+      omega (arith, l .inv .1, grown-used _ _ (c .with-words-if .ensures), own-count (s .args .words .now) false (s .args .leaves .now) (l .i) (l .left) (omega arith) (links (s .args .outside) (s .args .z) (s .args .y)) (c .before .before .before .sides-of .result .own .0) _ t),
       grown-step _ _ _ (c .with-words-if .ensures) ∙ ap (grownBy (l .longer)) (sym (own-next (s .args .words .now) false (s .args .leaves .now) (l .i) (l .left) (omega arith) (links (s .args .outside) (s .args .z) (s .args .y)) (s .args .z) _ _ t o)) ∙ l .inv .2,
     )
 
@@ -84,7 +85,7 @@ with-own-columns-spec =
     element-copy-out-left
     loop-holds
     leaf-requires
-    own-attribute-requires
+    sides-of-requires
     links-requires
     slice-aggregate-with-words-if
     with-words-if-requires

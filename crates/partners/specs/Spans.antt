@@ -5,7 +5,7 @@ use Prim.Native.Nat.{ℕ, _+_}
 use lib.Dec.{leb, eqb}
 use Rattle.relations.specs.Limits.{greatestNumber}
 use Rattle.relations.specs.Comparison.{Operator, holds}
-use Rattle.partners.specs.declared.sieve.Range.{Range}
+use Rattle.partners.specs.declared.sieve.Span.{Span}
 
 -- above every word: as the greatest it says nothing, and as the one left out neither
 abbrev pub noWord : ℕ
@@ -14,9 +14,9 @@ noWord = greatestNumber + 1
 unfoldable pub allowed : (low high except word : ℕ) → Bool
 allowed low high except word = leb low word && ((leb noWord high || leb word high) && (leb noWord except || not (eqb except word)))
 
-abbrev pub allowedBy : Range → ℕ → Bool
-allowedBy range word = allowed (range .low) (range .high) (range .except) word
+abbrev pub allowedBy : Span → ℕ → Bool
+allowedBy span word = allowed (span .low) (span .high) (span .except) word
 
 -- exactly those that a word compares with
-pub record Allows (operator : Operator) (x : ℕ) (range : Range) : Type 0 where
-  pub same : (word : ℕ) → allowedBy range word ≡ holds operator x word
+pub record Allows (operator : Operator) (x : ℕ) (span : Span) : Type 0 where
+  pub same : (word : ℕ) → allowedBy span word ≡ holds operator x word

@@ -1,4 +1,4 @@
--- The words that a range allows: what each comparison leaves, and what two ranges leave together. Assumes nothing.
+-- The words that a span allows: what each comparison leaves, and what two spans leave together. Assumes nothing.
 use mathlib.Core.Path.{_≡_, refl, sym, ap, _∙_}
 use mathlib.Core.Bool.{true, false, not, _&&_, _||_, cond, So}
 use mathlib.Core.Logic.{_⊎_, inl, inr, ⊎-elim}
@@ -7,7 +7,7 @@ use native.Mathlib.Omega.{arith}
 use lib.Dec.{leb, ltb, eqb}
 use borrow.Author.Tests.{ltb-true, ltb-false, leb-true, leb-false, eqb-true, eqb-false, lt-ltb, le-leb, eq-eqb, ne-eqb}
 use Rattle.relations.proofs.BoolLaws.{bool-ext, and-left, and-right, and-both, or-cases, or-by-left, or-by-right, true-or-false, not-so-false}
-use Rattle.partners.specs.Ranges.{noWord, allowed}
+use Rattle.partners.specs.Spans.{noWord, allowed}
 
 -- what an allowed word is, and which word is allowed
 module _ (low high except word : ℕ) where
@@ -48,42 +48,42 @@ module _ (low high except word : ℕ) where
 
 -- what each comparison leaves
 module _ (x word : ℕ) where
-  pub range-equal : x < noWord → allowed x x noWord word ≡ eqb x word
-  range-equal h =
+  pub span-equal : x < noWord → allowed x x noWord word ≡ eqb x word
+  span-equal h =
       bool-ext (allowed x x noWord word) (eqb x word) (λ k. eq-eqb x word (omega (arith, at-least x x noWord word k, at-most x x noWord word k h)))
       (λ k. is-allowed x x noWord word (omega (arith, eqb-true x word k)) (λ u. omega (arith, eqb-true x word k)) (λ u q. omega arith))
 
-  pub range-unequal : x < noWord → allowed 0 noWord x word ≡ not (eqb x word)
-  range-unequal h =
+  pub span-unequal : x < noWord → allowed 0 noWord x word ≡ not (eqb x word)
+  span-unequal h =
       bool-ext (allowed 0 noWord x word) (not (eqb x word)) (λ k. ap not (ne-eqb x word (not-except 0 noWord x word k h)))
       (λ k. is-allowed 0 noWord x word (omega arith) (λ u. omega arith) (λ u. eqb-false x word (not-so-false (eqb x word) k)))
 
-  pub range-less : allowed (x + 1) noWord noWord word ≡ ltb x word
-  range-less =
+  pub span-less : allowed (x + 1) noWord noWord word ≡ ltb x word
+  span-less =
       bool-ext (allowed (x + 1) noWord noWord word) (ltb x word) (λ k. lt-ltb x word (omega (arith, at-least (x + 1) noWord noWord word k)))
       (λ k. is-allowed (x + 1) noWord noWord word (omega (arith, ltb-true x word k)) (λ u. omega arith) (λ u q. omega arith))
 
-  pub range-at-most : allowed x noWord noWord word ≡ leb x word
-  range-at-most =
+  pub span-at-most : allowed x noWord noWord word ≡ leb x word
+  span-at-most =
       bool-ext (allowed x noWord noWord word) (leb x word) (λ k. le-leb x word (at-least x noWord noWord word k))
       (λ k. is-allowed x noWord noWord word (leb-true x word k) (λ u. omega arith) (λ u q. omega arith))
 
-  pub range-none : x ≡ 0 → allowed 1 0 noWord word ≡ ltb word x
-  range-none h =
+  pub span-none : x ≡ 0 → allowed 1 0 noWord word ≡ ltb word x
+  span-none h =
       bool-ext (allowed 1 0 noWord word) (ltb word x) (λ k. lt-ltb word x (omega (arith, at-least 1 0 noWord word k, at-most 1 0 noWord word k (omega arith))))
       (λ k. is-allowed 1 0 noWord word (omega (arith, ltb-true word x k)) (λ u. omega (arith, ltb-true word x k)) (λ u q. omega arith))
 
-  pub range-greater : (x ≡ 0 → ⊥) → x < noWord → allowed 0 (x - 1) noWord word ≡ ltb word x
-  range-greater z h =
+  pub span-greater : (x ≡ 0 → ⊥) → x < noWord → allowed 0 (x - 1) noWord word ≡ ltb word x
+  span-greater z h =
       bool-ext (allowed 0 (x - 1) noWord word) (ltb word x) (λ k. lt-ltb word x (omega (arith, at-most 0 (x - 1) noWord word k (omega arith))))
       (λ k. is-allowed 0 (x - 1) noWord word (omega arith) (λ u. omega (arith, ltb-true word x k)) (λ u q. omega arith))
 
-  pub range-at-least : x < noWord → allowed 0 x noWord word ≡ leb word x
-  range-at-least h =
+  pub span-at-least : x < noWord → allowed 0 x noWord word ≡ leb word x
+  span-at-least h =
       bool-ext (allowed 0 x noWord word) (leb word x) (λ k. le-leb word x (at-most 0 x noWord word k h))
       (λ k. is-allowed 0 x noWord word (omega arith) (λ u. leb-true word x k) (λ u q. omega arith))
 
--- two ranges together
+-- two spans together
 module _ (l h e l′ h′ e′ l″ h″ e″ word : ℕ) (low : l ≤ l″) (low′ : l′ ≤ l″) (one-low : (l″ ≡ l) ⊎ (l″ ≡ l′)) (high : h″ ≤ h) (high′ : h″ ≤ h′) (one-high : (h″ ≡ h) ⊎ (h″ ≡ h′)) (one-out : (e″ ≡ e) ⊎ (e″ ≡ e′)) (out : e < noWord → e″ ≡ e) (out′ : e′ < noWord → e″ ≡ e′) where
   joint : allowed l″ h″ e″ word ≡ (allowed l′ h′ e′ word && allowed l h e word)
   joint =
@@ -127,8 +127,8 @@ only a b = go (true-or-false (ltb a b))
     go (inl e) h = let k : noWord ≤ b = rw e at h in rw e (λ u. refl, λ u. absurd (omega arith))
     go (inr e) h = let k : noWord ≤ a = rw e at h in rw e (λ u. absurd (omega arith), λ u. refl)
 
-pub range-both : (l h e l′ h′ e′ word : ℕ) → noWord ≤ cond (ltb e e′) e′ e
+pub span-both : (l h e l′ h′ e′ word : ℕ) → noWord ≤ cond (ltb e e′) e′ e
     → allowed (cond (ltb l l′) l′ l) (cond (ltb h h′) h h′) (cond (ltb e e′) e e′) word ≡ (allowed l′ h′ e′ word && allowed l h e word)
-range-both l h e l′ h′ e′ word k =
+span-both l h e l′ h′ e′ word k =
     joint l h e l′ h′ e′ (cond (ltb l l′) l′ l) (cond (ltb h h′) h h′) (cond (ltb e e′) e e′) word
     (most-of l l′ .left) (most-of l l′ .right) (most-of l l′ .one) (least-of h h′ .left) (least-of h h′ .right) (least-of h h′ .one) (least-of e e′ .one) (only e e′ k .0) (only e e′ k .1)
