@@ -9,7 +9,7 @@ ghost use Rattle.calculus.specs.ShortRules.{shortRule1Fits, shortRule2Atoms, sh
 ghost use Rattle.conditions.specs.Readings.{Names, conditionAt};
 ghost use Rattle.conditions.specs.Leaves.{isTree, atomsOf, LeavesFit};
 ghost use Rattle.emission.specs.NodeLists.{attributesIn};
-ghost use Rattle.short_rules.specs.Fits.{ruleFits};
+ghost use Rattle.short_rules.specs.Fits.{ruleFits, someVariable, isAtom};
 use conditions::atom::alone_on;
 use conditions::atom::compares_with_other;
 use conditions::atom::equates_outside;
@@ -18,10 +18,13 @@ use conditions::leaves::LEAF_WORDS;
 use conditions::leaves::collect;
 use conditions::leaves::leaf;
 use emission::node_list::NodeList;
-use nodes::node::Node;
+use nodes::node::Binder;
+use nodes::node::Form;
+use nodes::node::Quantifier;
 use nodes::node::decode;
 use relations::limits::PAIRS;
 use relations::limits::TRIPLES;
+use relations::limits::VARIABLES;
 
 const MOST_TRIPLES: u32 = TRIPLES as u32;
 
@@ -108,24 +111,66 @@ fn tree_fits(words: &[u32], disjoined: bool, x: u32, reference: u32) -> bool
     tree & short_rule_2_atoms(words, x, &leaves)
 }
 
+// The variable of a "some"; none is one past the last.
+fn some_variable(form: Form) -> u32
+    ensures { λ r. ⌜ r ≡ someVariable form ⌝ }
+{
+    match form {
+        Form::Table(_) => VARIABLES,
+        Form::Alpha => VARIABLES,
+        Form::Target {
+            variable: _,
+            attribute: _,
+        } => VARIABLES,
+        Form::Binds { variable, binder } => match binder {
+            Binder::Binding => VARIABLES,
+            Binder::Quantifies(quantifier) => match quantifier {
+                Quantifier::Some => variable,
+                Quantifier::Every => VARIABLES,
+            },
+        },
+        Form::Combines(_) => VARIABLES,
+        Form::Compares(_) => VARIABLES,
+        Form::Connects(_) => VARIABLES,
+        Form::IllFormed => VARIABLES,
+    }
+}
+
+fn is_atom(form: Form) -> bool
+    ensures { λ r. ⌜ r ≡ isAtom form ⌝ }
+{
+    match form {
+        Form::Table(_) => false,
+        Form::Alpha => false,
+        Form::Target {
+            variable: _,
+            attribute: _,
+        } => false,
+        Form::Binds {
+            variable: _,
+            binder: _,
+        } => false,
+        Form::Combines(_) => false,
+        Form::Compares(_) => true,
+        Form::Connects(_) => false,
+        Form::IllFormed => false,
+    }
+}
+
 // S5 fits an "every y" above the condition that a reference names.
 fn division_fits(words: &[u32], y: u32, reference: u32) -> bool
     requires { ⌜ Names (now words) reference × (calculus.conditionNodes (conditionAt (now words) reference) ≤ questionNodeLimit) ⌝ }
     ensures { λ r. ⌜ r ≡ shortRule5Fits y (conditionAt (now (words .entry)) reference) ⌝ }
 {
     let node = decode(words, (reference - 1) as usize);
-    match node {
-        Node::Some {
-            variable,
-            range: _,
-            condition,
-        } => {
-            let mut leaves = [0u32; LEAF_WORDS];
-            let tree = collect(words, false, condition, &mut leaves);
-            tree & short_rule_5_atoms(words, variable, y, &leaves)
-        }
-        _ => false,
+    let form = node.form;
+    let z = some_variable(form);
+    if z < VARIABLES {
+        let mut leaves = [0u32; LEAF_WORDS];
+        let tree = collect(words, false, node.c, &mut leaves);
+        return tree & short_rule_5_atoms(words, z, y, &leaves);
     }
+    false
 }
 
 // The short rules that stand above a condition, by their names in document 01. S3 answers for S6 too: both stand under a "not".
@@ -146,22 +191,12 @@ pub fn rule_fits(words: &[u32], rule: ShortRule, x: u32, reference: u32) -> bool
         ShortRule::S2 => tree_fits(words, false, x, reference),
         ShortRule::S3 => {
             let node = decode(words, (reference - 1) as usize);
-            match node {
-                Node::Some {
-                    variable,
-                    range: _,
-                    condition,
-                } => rule_fits(words, ShortRule::S2, variable, condition),
-                Node::And { left: _, right: _ } => false,
-                Node::Or { left: _, right: _ } => false,
-                Node::Not { inner: _ } => false,
-                Node::Every {
-                    variable: _,
-                    range: _,
-                    condition: _,
-                } => false,
-                _ => true,
+            let form = node.form;
+            let z = some_variable(form);
+            if z < VARIABLES {
+                return rule_fits(words, ShortRule::S2, z, node.c);
             }
+            is_atom(form)
         }
         ShortRule::S4 => tree_fits(words, true, x, reference),
         ShortRule::S5 => division_fits(words, x, reference),
