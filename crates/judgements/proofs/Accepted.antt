@@ -1,6 +1,6 @@
 -- The theorem: an accepted question is a tree in good form, with as many nodes as its table; and a judgement is one only. Assumes nothing.
 use mathlib.Core.Path.{_≡_, refl, sym, _∙_, ap}
-use mathlib.Core.Bool.{Bool, true, false, cond, false≢true}
+use mathlib.Core.Bool.{Bool, true, false, cond}
 use mathlib.Core.List.{List}
 use mathlib.Core.Logic.{_⊎_, inl, inr}
 use Prim.Native.Nat.{ℕ, zero, suc, _+_, _-_, _≤_, _<_}
@@ -10,7 +10,6 @@ use borrow.Author.Tests.{ltb-false, eqb-true, eqb-false, eq-eqb, not-false}
 use Rattle.relations.specs.Limits.{questionNodeLimit}
 use Rattle.relations.proofs.BoolLaws.{true-or-false}
 use Rattle.calculus.specs.Question.{rangeNodes}
-use Rattle.nodes.specs.Kinds.{isRange}
 use Rattle.nodes.specs.Nodes.{nodeCount, nodeAt, isIllFormed}
 use Rattle.nodes.specs.References.{referencesTo, seen, firstFrom, lowest, notOnce}
 use Rattle.catalogue.specs.Stored.{relationsOf, columnsOf}
@@ -18,13 +17,12 @@ use Rattle.question.specs.Trees.{treeOf, treeNodes, questionOf}
 use Rattle.question.specs.Judgement.{countOk, isAlpha, isUnknown, lowestIllFormed, lastNode, lowestNotOnce, lowestUnknown}
 use Rattle.question.specs.Walk.{noWidths, faultsFound, judgeTree, judgeNodes, judgedByWalk}
 use Rattle.judgements.specs.Accepted.{HasColumns, QuestionRight, TableRight, AcceptedExactly}
-use Rattle.nodes.specs.declared.node.Node.{Node}
-use Rattle.nodes.specs.declared.node.Node.the-variants.{Table, Alpha, Target, Binding, RangeOr, RangeAnd, RangeAndNot, Atom as AtomNode, And, Or, Not, Some, Every, IllFormed}
 use Rattle.question.specs.declared.judgement.Judgement.{Judgement}
 use Rattle.question.specs.declared.judgement.Judgement.the-variants.{Accepted, Refused}
 use Rattle.question.proofs.Counts.{counted}
 use Rattle.question.proofs.Judgements.{all-accepted, tree-judged}
-use Rattle.judgements.proofs.SortedTrees.{RangeTree, nodeKind, sorted}
+use Rattle.question.proofs.WalkLaws.{is-alpha-form}
+use Rattle.judgements.proofs.SortedTrees.{RangeTree, TreeOf, sortOf, sorted}
 use Rattle.judgements.proofs.TreeSizes.{whole-table, range-nodes}
 use Rattle.judgements.proofs.GoodForm.{Clean, range-good}
 use Rattle.judgements.proofs.CleanForm.{range-clean}
@@ -76,7 +74,7 @@ pub record Passed (catalogue words : List ℕ) : Type 0 where
   pub count : countOk words ≡ true
   pub formed : nodeCount words ≤ lowestIllFormed words
   pub once : lastNode words ≤ lowestNotOnce words
-  pub alpha : isAlpha (nodeAt words (lastNode words)) ≡ true
+  pub alpha : isAlpha (nodeAt words (lastNode words) .form) ≡ true
   pub known : nodeCount words ≤ lowestUnknown catalogue words
   pub clean : Clean (faultsFound catalogue words)
 
@@ -86,7 +84,7 @@ accepted-passed catalogue words h =
     let a = passed-first (countOk words) 1 0 (judgeNodes catalogue words) h in
     let b = passed (ltb (lowestIllFormed words) (nodeCount words)) 2 (lowestIllFormed words) _ (a .1) in
     let c = passed (ltb (lowestNotOnce words) (lastNode words)) 3 (lowestNotOnce words) _ (b .1) in
-    let d = passed-first (isAlpha (nodeAt words (lastNode words))) 3 (lastNode words) (judgeTree catalogue words) (c .1) in
+    let d = passed-first (isAlpha (nodeAt words (lastNode words) .form)) 3 (lastNode words) (judgeTree catalogue words) (c .1) in
     let e = passed (ltb (lowestUnknown catalogue words) (nodeCount words)) 4 (lowestUnknown catalogue words) _ (d .1) in
     let f = passed (ltb (faultsFound catalogue words .unbound) questionNodeLimit) 5 (faultsFound catalogue words .unbound) _ (e .1) in
     let g = passed (ltb (faultsFound catalogue words .unfit) questionNodeLimit) 6 (faultsFound catalogue words .unfit) _ (f .1) in
@@ -110,33 +108,17 @@ passed-accepted catalogue words p =
 pub one-judgement : (catalogue words : List ℕ) {a b : Judgement} → a ≡ judgedByWalk catalogue words → b ≡ judgedByWalk catalogue words → a ≡ b
 one-judgement catalogue words p q = p ∙ sym q
 
-alpha-kind : (node : Node) → isAlpha node ≡ true → isRange (nodeKind node) ≡ true
-alpha-kind (Table relation) h = refl
-alpha-kind (Alpha target binding condition) h = refl
-alpha-kind (Target variable attribute next) h = h
-alpha-kind (Binding variable range next) h = h
-alpha-kind (RangeOr left right) h = refl
-alpha-kind (RangeAnd left right) h = refl
-alpha-kind (RangeAndNot left right) h = refl
-alpha-kind (AtomNode atom) h = absurd (false≢true h)
-alpha-kind (And left right) h = h
-alpha-kind (Or left right) h = h
-alpha-kind (Not inner) h = h
-alpha-kind (Some variable range condition) h = h
-alpha-kind (Every variable range condition) h = h
-alpha-kind IllFormed h = h
-
 -- lines 1 to 4, as searches that found nothing and as what holds of every node
-pub searched-right : (catalogue words : List ℕ) → countOk words ≡ true → nodeCount words ≤ lowestIllFormed words → lastNode words ≤ lowestNotOnce words → isAlpha (nodeAt words (lastNode words)) ≡ true
+pub searched-right : (catalogue words : List ℕ) → countOk words ≡ true → nodeCount words ≤ lowestIllFormed words → lastNode words ≤ lowestNotOnce words → isAlpha (nodeAt words (lastNode words) .form) ≡ true
     → nodeCount words ≤ lowestUnknown catalogue words → TableRight catalogue words
 searched-right catalogue words count formed once alpha known =
     let n : ℕ = nodeCount words in
     record {
       count = count;
-      formed = none-below (λ i. isIllFormed (nodeAt words i)) n formed;
+      formed = none-below (λ i. isIllFormed (nodeAt words i .form)) n formed;
       once = λ j l. eqb-true (seen (referencesTo words n) j) 1 (not-false (eqb (seen (referencesTo words n) j) 1) (none-below (notOnce (referencesTo words n)) (lastNode words) once j l));
       alpha = alpha;
-      known = none-below (λ i. isUnknown (relationsOf catalogue) (nodeAt words i)) n known;
+      known = none-below (λ i. isUnknown (relationsOf catalogue) (nodeAt words i .form)) n known;
     }
 
 pub passed-right : (catalogue words : List ℕ) → Passed catalogue words → TableRight catalogue words
@@ -147,10 +129,10 @@ right-passed catalogue words t clean =
     let n : ℕ = nodeCount words in
     record {
       count = t .count;
-      formed = all-below (λ i. isIllFormed (nodeAt words i)) n (t .formed);
+      formed = all-below (λ i. isIllFormed (nodeAt words i .form)) n (t .formed);
       once = all-below (notOnce (referencesTo words n)) (lastNode words) (λ j l. rw (eq-eqb (seen (referencesTo words n) j) 1 (t .once j l)));
       alpha = t .alpha;
-      known = all-below (λ i. isUnknown (relationsOf catalogue) (nodeAt words i)) n (t .known);
+      known = all-below (λ i. isUnknown (relationsOf catalogue) (nodeAt words i .form)) n (t .known);
       clean = clean;
     }
 
@@ -160,7 +142,8 @@ right-tree catalogue words t =
     let c = counted words (t .count) in
     let last : ℕ = lastNode words in
     let e : nodeCount words ≡ suc last = omega (arith, c .some) in
-    rw e (sorted words (relationsOf catalogue) (nodeCount words) (c .few) (t .formed) (t .known) last (omega arith) .as-range (alpha-kind (nodeAt words last) (t .alpha)))
+    let tree : TreeOf (relationsOf catalogue) (sortOf (nodeAt words last .form)) (treeOf words (suc last)) = sorted words (relationsOf catalogue) (nodeCount words) (c .few) (t .formed) (t .known) last (omega arith) in
+    rw e (rw (is-alpha-form (nodeAt words last .form) (t .alpha)) at tree)
 
 pub accepted-right : (catalogue words : List ℕ) → HasColumns catalogue → judgedByWalk catalogue words ≡ Accepted → QuestionRight catalogue words
 accepted-right catalogue words has h =

@@ -77,7 +77,7 @@ module _ (catalogue words : List ℕ) (has : HasColumns catalogue) where
       before (countOk words) (Refused 1 0) (λ count.
       behind (ltb (lowestIllFormed words) (nodeCount words)) (Refused 2 (lowestIllFormed words)) (λ formed.
       behind (ltb (lowestNotOnce words) (lastNode words)) (Refused 3 (lowestNotOnce words)) (λ once.
-      before (isAlpha (nodeAt words (lastNode words))) (Refused 3 (lastNode words)) (λ alpha.
+      before (isAlpha (nodeAt words (lastNode words) .form)) (Refused 3 (lastNode words)) (λ alpha.
       behind (ltb (lowestUnknown catalogue words) (nodeCount words)) (Refused 4 (lowestUnknown catalogue words)) (λ known.
       faults-decide-tree
       (searched-right catalogue words count (ltb-false (lowestIllFormed words) (nodeCount words) formed) (ltb-false (lowestNotOnce words) (lastNode words) once) alpha (ltb-false (lowestUnknown catalogue words) (nodeCount words) known)))))))

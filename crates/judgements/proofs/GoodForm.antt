@@ -1,17 +1,16 @@
 -- A sorted tree in which the walk finds no fault is in `calculus`' good form, and the walk's widths are its widths. Assumes nothing.
 use mathlib.Core.Path.{_≡_, refl, sym, _∙_}
-use mathlib.Core.Bool.{Bool, true, false, not, _&&_, _||_, true≢false}
+use mathlib.Core.Bool.{Bool, true, false, not, _||_, true≢false}
 use mathlib.Core.List.{List, []}
 use Prim.Native.Nat.{ℕ, zero, suc, _+_, _≤_, _<_, min}
 use native.Mathlib.Omega.{arith}
 use lib.Dec.{ltb, leb, eqb}
 use lib.ListN.{length}
 use borrow.Author.Tests.{ltb-true, ltb-false, leb-true, eqb-true, eqb-false, ne-eqb, not-false}
-use Rattle.relations.specs.Limits.{columnLimit, questionNodeLimit, variableCount, operatorCount}
+use Rattle.relations.specs.Limits.{columnLimit, questionNodeLimit, variableCount}
 use Rattle.relations.specs.Lists.{All}
-use Rattle.relations.specs.Comparison.{Operator, operatorOf, operatorFor}
+use Rattle.relations.specs.Comparison.{Operator, operatorNamed}
 use Rattle.relations.specs.Columns.{attribute}
-use Rattle.relations.proofs.BoolLaws.{and-left, and-right}
 use Rattle.calculus.specs.Question as calculus
 use Rattle.calculus.specs.Scope as scopes
 use Rattle.calculus.specs.Scope.{extend, columnsIn}
@@ -20,14 +19,17 @@ use Rattle.calculus.specs.Form as form
 use Rattle.calculus.proofs.ScopeLaws.{targets-width}
 use Rattle.calculus.proofs.LegalColumns.{targets-columns}
 use Rattle.question.specs.Trees.{Tree, nothing, branch, operandOf, targetOf, atomOf, alphaOf, reading}
-use Rattle.question.specs.Walk.{widthKept, columnsKept, noWidths, addWidths, bind, opening, inside, unboundAt, operandUnfitAt, unfitAt, targetWidthKept, lowestOf, foundAt, walk, Found}
+use Rattle.question.specs.Walk.{widthKept, columnsKept, noWidths, addWidths, bind, operandUnfitAt, targetWidthKept, Found, Step, stepOf, lowestOf, walk}
 use Rattle.nodes.specs.declared.node.Operand.{Operand}
 use Rattle.nodes.specs.declared.node.Operand.the-variants.{Of, Fixed}
 use Rattle.nodes.specs.declared.node.Atom.{Atom}
-use Rattle.nodes.specs.declared.node.Node.{Node}
-use Rattle.nodes.specs.declared.node.Node.the-variants.{Alpha, Target, Binding, RangeOr, RangeAnd, RangeAndNot, Atom as AtomNode, And, Or, Not, Some, Every}
+use Rattle.nodes.specs.declared.node.Connective.the-variants.{Not}
+use Rattle.nodes.specs.declared.node.Binder.the-variants.{Binding, Quantifies}
+use Rattle.nodes.specs.declared.node.Form.{Form}
+use Rattle.nodes.specs.declared.node.Form.the-variants.{Alpha, Target, Binds, Combines, Compares, Connects}
 use Rattle.nodes.proofs.Forms.{operandFits, atomFits, first-of, second-of}
-use Rattle.judgements.proofs.SortedTrees.{RangeTree, tableTree, alphaTree, orTree, andTree, andNotTree, TargetTree, targetTree, TargetsIfAny, noTarget, moreTargets, BindingTree, bindingTree, BindingsIfAny, noBinding, moreBindings, ConditionTree, atomTree, bothTree, eitherTree, notTree, someTree, everyTree, ConditionIfAny, withoutCondition, withCondition}
+use Rattle.judgements.proofs.SortedTrees.{RangeTree, tableTree, alphaTree, combinedTree, TargetTree, targetTree, TargetsIfAny, noTarget, moreTargets, BindingTree, bindingTree, BindingsIfAny, noBinding, moreBindings, ConditionTree, atomTree, joinedTree, notTree, quantifierTree, ConditionIfAny, withoutCondition, withCondition, atom-sides}
+use Rattle.judgements.proofs.KindsAlike.{combined-width, combined-good, joined-good, quantified-good}
 use Rattle.judgements.proofs.ScopesShown.{Shows, shows-empty, fresh, shows-bind}
 use Rattle.judgements.proofs.TreeSizes.{restriction-is}
 
@@ -36,42 +38,49 @@ pub record Clean (found : Found) : Type 0 where
   pub bound : questionNodeLimit ≤ found .unbound
   pub fit : questionNodeLimit ≤ found .unfit
 
-pub record NoFault (fault : Bool) (first second third : ℕ) : Type 0 where
+pub record NoFault (fault : Bool) (a b c : ℕ) : Type 0 where
   pub clear : fault ≡ false
-  pub none-first : questionNodeLimit ≤ first
-  pub none-second : questionNodeLimit ≤ second
-  pub none-third : questionNodeLimit ≤ third
+  pub none-a : questionNodeLimit ≤ a
+  pub none-b : questionNodeLimit ≤ b
+  pub none-c : questionNodeLimit ≤ c
 
-pub no-fault : (fault : Bool) (i first second third : ℕ) → i < questionNodeLimit → questionNodeLimit ≤ lowestOf fault i first second third → NoFault fault first second third
-no-fault true i first second third h k = absurd (omega arith)
-no-fault false i first second third h k = record { clear = refl; none-first = omega arith; none-second = omega arith; none-third = omega arith }
+pub no-fault : (fault : Bool) (i a b c : ℕ) → i < questionNodeLimit → questionNodeLimit ≤ lowestOf fault i a b c → NoFault fault a b c
+no-fault true i a b c h k = absurd (omega arith)
+no-fault false i a b c h k = record { clear = refl; none-a = omega arith; none-b = omega arith; none-c = omega arith }
+
+-- what the walk finds at a node's b, and at its a or c, which see what b gave
+module _ (columns : ℕ → ℕ) (form : Form) (scope : List ℕ) where
+  abbrev pub foundAtB : (b : Tree) → Found
+  foundAtB b = walk columns b (stepOf scope form .opening)
+
+  abbrev pub foundBeside : (b part : Tree) → Found
+  foundBeside b part = walk columns part (stepOf scope form .inside (foundAtB b))
 
 -- neither at a node nor below it
-record CleanNode (node : Node) (scope : List ℕ) (first second third : Found) : Type 0 where
-  bound-here : unboundAt node scope ≡ false
-  fit-here : unfitAt node scope (first .width) (second .width) ≡ false
-  clean-first : Clean first
-  clean-second : Clean second
-  clean-third : Clean third
+record CleanNode (step : Step) (a b c : Found) : Type 0 where
+  bound-here : step .unbound ≡ false
+  fit-here : step .unfit (a .width) (b .width) ≡ false
+  clean-a : Clean a
+  clean-b : Clean b
+  clean-c : Clean c
 
-clean-node : (columns : ℕ → ℕ) {i : ℕ} (node : Node) (scope : List ℕ) (first second third : Found) → i < questionNodeLimit → Clean (foundAt columns i node scope first second third) → CleanNode node scope first second third
-clean-node columns {i} node scope first second third small clean =
-    let u = no-fault (unboundAt node scope) i (first .unbound) (second .unbound) (third .unbound) small (clean .bound) in
-    let w = no-fault (unfitAt node scope (first .width) (second .width)) i (first .unfit) (second .unfit) (third .unfit) small (clean .fit) in
+clean-branch : (columns : ℕ → ℕ) {i : ℕ} (form : Form) (x y z : Tree) (scope : List ℕ) → i < questionNodeLimit → Clean (walk columns (branch i form x y z) scope)
+    → CleanNode (stepOf scope form) (foundBeside columns form scope y x) (foundAtB columns form scope y) (foundBeside columns form scope y z)
+unfolding walk
+clean-branch columns {i} form x y z scope small clean =
+    let step : Step = stepOf scope form in
+    let a : Found = foundBeside columns form scope y x in
+    let b : Found = foundAtB columns form scope y in
+    let c : Found = foundBeside columns form scope y z in
+    let u = no-fault (step .unbound) i (a .unbound) (b .unbound) (c .unbound) small (clean .bound) in
+    let w = no-fault (step .unfit (a .width) (b .width)) i (a .unfit) (b .unfit) (c .unfit) small (clean .fit) in
     record {
       bound-here = u .clear;
       fit-here = w .clear;
-      clean-first = record { bound = u .none-first; fit = w .none-first };
-      clean-second = record { bound = u .none-second; fit = w .none-second };
-      clean-third = record { bound = u .none-third; fit = w .none-third };
+      clean-a = record { bound = u .none-a; fit = w .none-a };
+      clean-b = record { bound = u .none-b; fit = w .none-b };
+      clean-c = record { bound = u .none-c; fit = w .none-c };
     }
-
-clean-branch : (columns : ℕ → ℕ) {i : ℕ} (node : Node) (x y z : Tree) (scope : List ℕ) → i < questionNodeLimit → Clean (walk columns (branch i node x y z) scope)
-    → CleanNode node scope (walk columns x (opening node scope)) (walk columns y (inside node scope (walk columns x (opening node scope)))) (walk columns z (inside node scope (walk columns x (opening node scope))))
-unfolding walk
-clean-branch columns node x y z scope small clean =
-    let first : Found = walk columns x (opening node scope) in
-    clean-node columns node scope first (walk columns y (inside node scope first)) (walk columns z (inside node scope first)) small clean
 
 or-clear : (a b : Bool) → (a || b) ≡ false → (a ≡ false) × (b ≡ false)
 or-clear true b h = absurd (true≢false h)
@@ -96,19 +105,16 @@ module _ {scope : List ℕ} {s : scopes.Scope} (shows : Shows scope s) where
       (known, (leb-true 1 (b .0) (second-of x y z fit), has-attribute other (b .0) (ltb-true other variableCount (first-of x y z fit)) unfit))
   good-operand v a operator (Fixed c) known fit unfit = known
 
-  good-atom : (atom : Atom) → atomFits atom ≡ true → unfitAt (AtomNode atom) scope 0 0 ≡ false → GoodAtom s (atomOf atom)
+  good-atom : (atom : Atom) → atomFits atom ≡ true → stepOf scope (Compares atom) .unfit 0 0 ≡ false → GoodAtom s (atomOf atom)
   good-atom atom fit unfit =
       let v : Bool = ltb (atom .variable) variableCount in
       let a : Bool = leb 1 (atom .attribute .0) in
       let b : Bool = leb (atom .attribute .0) columnLimit in
-      let p : Bool = leb 1 (atom .operator) in
-      let q : Bool = leb (atom .operator) operatorCount in
-      let left : (v && a && b && p && q) ≡ true = and-left (v && a && b && p && q) (operandFits (atom .operand)) fit in
-      let limits : (v && a && b) ≡ true = first-of (v && a && b) p q left in
+      let sides = atom-sides atom fit in
       let split = or-clear (ltb (widthKept scope (atom .variable)) (atom .attribute .0)) (operandUnfitAt scope (atom .operand)) unfit in
-      good-operand (atom .variable) (atom .attribute .0) (operatorFor (operatorOf (atom .operator))) (atom .operand)
-      (leb-true 1 (atom .attribute .0) (second-of v a b limits), has-attribute (atom .variable) (atom .attribute .0) (ltb-true (atom .variable) variableCount (first-of v a b limits)) (split .0))
-      (and-right (v && a && b && p && q) (operandFits (atom .operand)) fit) (split .1)
+      good-operand (atom .variable) (atom .attribute .0) (operatorNamed (atom .operator)) (atom .operand)
+      (leb-true 1 (atom .attribute .0) (second-of v a b (sides .0)), has-attribute (atom .variable) (atom .attribute .0) (ltb-true (atom .variable) variableCount (first-of v a b (sides .0))) (split .0))
+      (sides .1) (split .1)
 
   -- one target, a whole row or an attribute
   good-target : (v a : ℕ) → v < variableCount → eqb (widthKept scope v) 0 ≡ false → ltb (widthKept scope v) a ≡ false → GoodTarget s (targetOf v a)
@@ -131,7 +137,7 @@ counts a b k l e f = omega arith
 
 some-target : {relations : ℕ} {tree : Tree} → TargetTree relations tree → 1 ≤ length (reading tree .targets)
 unfolding reading
-some-target (targetTree i v ts) = omega arith
+some-target (targetTree i v a ts) = omega arith
 
 module _ (columns : ℕ → ℕ) (relations : ℕ) where
   -- an alpha's first binding is one of its bindings
@@ -190,38 +196,29 @@ module _ (columns : ℕ → ℕ) (relations : ℕ) where
 
       pub range-good : {tree : Tree} → RangeTree relations tree → (scope : List ℕ) → Clean (walk columns tree scope) → RangeGood (reading tree .range) (walk columns tree scope .width)
       range-good (tableTree {relation = relation} h) scope clean = record { good = h; wide = refl; some = has-columns relation h }
-      range-good (alphaTree {a = a} {b = b} {c = c} {x = x} {y = y} {z = z} small bs ts f) scope clean =
-          let first : Found = walk columns x noWidths in
-          let n = clean-branch columns (Alpha a b c) x y z scope small clean in
-          let B = binding-good bs noWidths [] shows-empty (n .clean-first) in
-          let T = target-good ts (first .scope) (scopeOfBindings columns (reading x .bindings) []) (B .shows-after) (n .clean-second) in
-          let l : 1 ≤ length (reading y .targets) = some-target ts in
-          let w : walk columns y (first .scope) .width ≤ columnLimit = ltb-false columnLimit (walk columns y (first .scope) .width) (n .fit-here) in
-          let A = alpha-of bs (reading y .targets) (reading z .restriction) (B .good) (maybe-good f (first .scope) (scopeOfBindings columns (reading x .bindings) []) (B .shows-after) (n .clean-third)) (T .good) l (omega (arith, T .wide)) in
-          record { good = A .alpha-good; wide = A .alpha-wide ∙ omega (arith, T .wide); some = omega (arith, T .wide, targets-columns (scopeOfBindings columns (reading x .bindings) []) (reading y .targets) l (T .good) .0, targets-width (scopeOfBindings columns (reading x .bindings) []) (reading y .targets)) }
-      range-good (orTree {a = a} {b = b} {x = x} {y = y} small r t) scope clean =
-          let n = clean-branch columns (RangeOr a b) x y nothing scope small clean in
-          let R = range-good r scope (n .clean-first) in
-          let S = range-good t scope (n .clean-second) in
-          record { good = (R .good, S .good, same-widths R S (n .fit-here)); wide = R .wide; some = R .some }
-      range-good (andTree {a = a} {b = b} {x = x} {y = y} small r t) scope clean =
-          let n = clean-branch columns (RangeAnd a b) x y nothing scope small clean in
-          let R = range-good r scope (n .clean-first) in
-          let S = range-good t scope (n .clean-second) in
-          record { good = (R .good, S .good, same-widths R S (n .fit-here)); wide = R .wide; some = R .some }
-      range-good (andNotTree {a = a} {b = b} {x = x} {y = y} small r t) scope clean =
-          let n = clean-branch columns (RangeAndNot a b) x y nothing scope small clean in
-          let R = range-good r scope (n .clean-first) in
-          let S = range-good t scope (n .clean-second) in
-          record { good = (R .good, S .good, same-widths R S (n .fit-here)); wide = R .wide; some = R .some }
+      range-good (alphaTree {x = x} {y = y} {z = z} small ts bs f) scope clean =
+          let bound : List ℕ = walk columns y noWidths .scope in
+          let s : scopes.Scope = scopeOfBindings columns (reading y .bindings) [] in
+          let n = clean-branch columns Alpha x y z scope small clean in
+          let B = binding-good bs noWidths [] shows-empty (n .clean-b) in
+          let T = target-good ts bound s (B .shows-after) (n .clean-a) in
+          let l : 1 ≤ length (reading x .targets) = some-target ts in
+          let w : walk columns x bound .width ≤ columnLimit = ltb-false columnLimit (walk columns x bound .width) (n .fit-here) in
+          let A = alpha-of bs (reading x .targets) (reading z .restriction) (B .good) (maybe-good f bound s (B .shows-after) (n .clean-c)) (T .good) l (omega (arith, T .wide)) in
+          record { good = A .alpha-good; wide = A .alpha-wide ∙ omega (arith, T .wide); some = omega (arith, T .wide, targets-columns s (reading x .targets) l (T .good) .0, targets-width s (reading x .targets)) }
+      range-good (combinedTree {k = k} {x = x} {y = y} small r t) scope clean =
+          let n = clean-branch columns (Combines k) x y nothing scope small clean in
+          let R = range-good r scope (n .clean-a) in
+          let S = range-good t scope (n .clean-b) in
+          record { good = rw (combined-good columns relations k (reading x .range) (reading y .range)) (R .good, S .good, same-widths R S (n .fit-here)); wide = combined-width columns k (reading x .range) (reading y .range) ∙ R .wide; some = R .some }
 
       pub target-good : {tree : Tree} → TargetTree relations tree → (scope : List ℕ) (s : scopes.Scope) → Shows scope s → Clean (walk columns tree scope) → TargetsGood (reading tree .targets) s (walk columns tree scope .width)
-      target-good (targetTree {v = v} {a = a} {b = b} {x = x} small inside ts) scope s shows clean =
-          let n = clean-branch columns (Target v a b) x nothing nothing scope small clean in
-          let T = targets-good ts scope s shows (n .clean-first) in
+      target-good (targetTree {v = v} {a = a} {z = z} small inside limit ts) scope s shows clean =
+          let n = clean-branch columns (Target v a) nothing nothing z scope small clean in
+          let T = targets-good ts scope s shows (n .clean-c) in
           record {
-            good = (good-target shows v a inside (n .bound-here) (n .fit-here), T .good);
-            wide = counts (targetWidthKept scope v a) (walk columns x scope .width) (form.targetWidth s (targetOf v a)) (form.targetsWidth s (reading x .targets)) (target-columns shows v a inside) (T .wide);
+            good = (good-target shows v (a .0) inside (n .bound-here) (n .fit-here), T .good);
+            wide = counts (targetWidthKept scope v (a .0)) (walk columns z scope .width) (form.targetWidth s (targetOf v (a .0))) (form.targetsWidth s (reading z .targets)) (target-columns shows v (a .0) inside) (T .wide);
           }
 
       targets-good : {tree : Tree} → TargetsIfAny relations tree → (scope : List ℕ) (s : scopes.Scope) → Shows scope s → Clean (walk columns tree scope) → TargetsGood (reading tree .targets) s (walk columns tree scope .width)
@@ -229,12 +226,11 @@ module _ (columns : ℕ → ℕ) (relations : ℕ) where
       targets-good (moreTargets ts) scope s shows clean = target-good ts scope s shows clean
 
       pub binding-good : {tree : Tree} → BindingTree relations tree → (scope : List ℕ) (s : scopes.Scope) → Shows scope s → Clean (walk columns tree scope) → BindingsGood (reading tree .bindings) s (walk columns tree scope .scope)
-      binding-good (bindingTree {v = v} {a = a} {b = b} {x = x} {y = y} small inside r bs) scope s shows clean =
-          let first : Found = walk columns x scope in
-          let n = clean-branch columns (Binding v a b) x y nothing scope small clean in
-          let R = range-good r scope (n .clean-first) in
+      binding-good (bindingTree {v = v} {y = y} {z = z} small inside r bs) scope s shows clean =
+          let n = clean-branch columns (Binds v Binding) nothing y z scope small clean in
+          let R = range-good r scope (n .clean-b) in
           let K = binder v inside shows R (n .bound-here) (n .fit-here) in
-          let B = bindings-good bs (bind scope v (first .width)) (extend s v (widthOfRange columns (reading x .range))) (K .shows-next) (n .clean-second) in
+          let B = bindings-good bs (bind scope v (walk columns y scope .width)) (extend s v (widthOfRange columns (reading y .range))) (K .shows-next) (n .clean-c) in
           record { good = (K .is-new, R .good, B .good, K .fits); shows-after = B .shows-after }
 
       bindings-good : {tree : Tree} → BindingsIfAny relations tree → (scope : List ℕ) (s : scopes.Scope) → Shows scope s → Clean (walk columns tree scope) → BindingsGood (reading tree .bindings) s (walk columns tree scope .scope)
@@ -243,29 +239,20 @@ module _ (columns : ℕ → ℕ) (relations : ℕ) where
 
       condition-good : {tree : Tree} → ConditionTree relations tree → (scope : List ℕ) (s : scopes.Scope) → Shows scope s → Clean (walk columns tree scope) → GoodCondition columns relations (reading tree .condition) s
       condition-good (atomTree {atom = atom} small fit) scope s shows clean =
-          let n = clean-branch columns (AtomNode atom) nothing nothing nothing scope small clean in
+          let n = clean-branch columns (Compares atom) nothing nothing nothing scope small clean in
           good-atom shows atom fit (n .fit-here)
-      condition-good (bothTree {a = a} {b = b} {x = x} {y = y} small f g) scope s shows clean =
-          let n = clean-branch columns (And a b) x y nothing scope small clean in
-          (condition-good f scope s shows (n .clean-first), condition-good g scope s shows (n .clean-second))
-      condition-good (eitherTree {a = a} {b = b} {x = x} {y = y} small f g) scope s shows clean =
-          let n = clean-branch columns (Or a b) x y nothing scope small clean in
-          (condition-good f scope s shows (n .clean-first), condition-good g scope s shows (n .clean-second))
-      condition-good (notTree {a = a} {x = x} small f) scope s shows clean =
-          let n = clean-branch columns (Not a) x nothing nothing scope small clean in
-          condition-good f scope s shows (n .clean-first)
-      condition-good (someTree {v = v} {a = a} {b = b} {x = x} {y = y} small inside r f) scope s shows clean =
-          let first : Found = walk columns x scope in
-          let n = clean-branch columns (Some v a b) x y nothing scope small clean in
-          let R = range-good r scope (n .clean-first) in
+      condition-good (joinedTree {k = k} {x = x} {y = y} small joins f g) scope s shows clean =
+          let n = clean-branch columns (Connects k) x y nothing scope small clean in
+          rw (joined-good columns relations joins (reading x .condition) (reading y .condition) s) (condition-good f scope s shows (n .clean-a), condition-good g scope s shows (n .clean-b))
+      condition-good (notTree {x = x} small f) scope s shows clean =
+          let n = clean-branch columns (Connects Not) x nothing nothing scope small clean in
+          condition-good f scope s shows (n .clean-a)
+      condition-good (quantifierTree {v = v} {q = q} {y = y} {z = z} small inside r f) scope s shows clean =
+          let n = clean-branch columns (Binds v (Quantifies q)) nothing y z scope small clean in
+          let R = range-good r scope (n .clean-b) in
           let K = binder v inside shows R (n .bound-here) (n .fit-here) in
-          (K .is-new, R .good, condition-good f (bind scope v (first .width)) (extend s v (widthOfRange columns (reading x .range))) (K .shows-next) (n .clean-second), K .fits)
-      condition-good (everyTree {v = v} {a = a} {b = b} {x = x} {y = y} small inside r f) scope s shows clean =
-          let first : Found = walk columns x scope in
-          let n = clean-branch columns (Every v a b) x y nothing scope small clean in
-          let R = range-good r scope (n .clean-first) in
-          let K = binder v inside shows R (n .bound-here) (n .fit-here) in
-          (K .is-new, R .good, condition-good f (bind scope v (first .width)) (extend s v (widthOfRange columns (reading x .range))) (K .shows-next) (n .clean-second), K .fits)
+          let next = condition-good f (bind scope v (walk columns y scope .width)) (extend s v (widthOfRange columns (reading y .range))) (K .shows-next) (n .clean-c) in
+          rw (quantified-good columns relations q v (reading y .range) (reading z .condition) s) (K .is-new, R .good, next, K .fits)
 
       maybe-good : {tree : Tree} → ConditionIfAny relations tree → (scope : List ℕ) (s : scopes.Scope) → Shows scope s → Clean (walk columns tree scope) → GoodMaybe columns relations (reading tree .restriction) s
       maybe-good withoutCondition scope s shows clean = tt

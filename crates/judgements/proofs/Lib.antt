@@ -1,5 +1,6 @@
 -- Accepted tables
 pub mod SortedTrees
+pub mod KindsAlike
 pub mod TreeSizes
 pub mod ScopesShown
 pub mod GoodForm

@@ -14,11 +14,12 @@ use Rattle.relations.proofs.BoolLaws.{true-or-false}
 use Rattle.relations.proofs.ListLaws.{all-append, all-mono}
 use Rattle.calculus.specs.Question.{Target, MaybeCondition, onCondition, rangeNodes, bindingNodes, maybeNodes, conditionNodes}
 use Rattle.nodes.specs.Nodes.{nodeAt}
-use Rattle.nodes.specs.References.{references, referenceList, referencesTo, hit, seen}
+use Rattle.nodes.specs.References.{referenceList, referencesTo, hit, seen}
 use Rattle.question.specs.Trees.{Tree, treeOf, treeNodes, alphaOf, reading}
 use Rattle.nodes.proofs.Forms.{node-lower}
 use Rattle.question.proofs.TreeLaws.{tree-is}
-use Rattle.judgements.proofs.SortedTrees.{RangeTree, tableTree, alphaTree, orTree, andTree, andNotTree, TargetTree, targetTree, TargetsIfAny, noTarget, moreTargets, BindingTree, bindingTree, BindingsIfAny, noBinding, moreBindings, ConditionTree, atomTree, bothTree, eitherTree, notTree, someTree, everyTree, ConditionIfAny, withoutCondition, withCondition}
+use Rattle.judgements.proofs.SortedTrees.{RangeTree, tableTree, alphaTree, combinedTree, TargetTree, targetTree, TargetsIfAny, noTarget, moreTargets, BindingTree, bindingTree, BindingsIfAny, noBinding, moreBindings, ConditionTree, atomTree, joinedTree, notTree, quantifierTree, ConditionIfAny, withoutCondition, withCondition}
+use Rattle.judgements.proofs.KindsAlike.{combined-nodes, joined-nodes, quantified-nodes}
 
 -- the sum of f over the references 1 to n, and over a list of references
 abbrev sumTo : (ℕ → ℕ) → ℕ → ℕ
@@ -94,21 +95,21 @@ module _ (words : List ℕ) where
   unfolding treeNodes treeOf
   none-small = refl
 
-  node-size : (i : ℕ) → nodesOf (suc i) ≡ sumOf nodesOf (referenceList (references (nodeAt words i))) + 1
+  node-size : (i : ℕ) → nodesOf (suc i) ≡ sumOf nodesOf (referenceList (nodeAt words i)) + 1
   unfolding treeNodes
   node-size i = rw (tree-is words i) (omega arith)
 
   total-size : (n : ℕ) → sumTo nodesOf n ≡ n + sumOf nodesOf (referencesTo words n)
   unfolding referencesTo
   total-size zero = refl
-  total-size (suc n) = omega (arith, total-size n, node-size n, sum-append nodesOf (referencesTo words n) (referenceList (references (nodeAt words n))))
+  total-size (suc n) = omega (arith, total-size n, node-size n, sum-append nodesOf (referencesTo words n) (referenceList (nodeAt words n)))
 
   all-lower : (n : ℕ) → All (λ x. x ≤ n) (referencesTo words (suc n))
   unfolding referencesTo
-  all-lower zero = let l = node-lower words 0 in all-append (λ x. x ≤ 0) [] (referenceList (references (nodeAt words 0))) tt (l .first-lower, (l .second-lower, (l .third-lower, tt)))
+  all-lower zero = let l = node-lower words 0 in all-append (λ x. x ≤ 0) [] (referenceList (nodeAt words 0)) tt (l .a-lower, (l .b-lower, (l .c-lower, tt)))
   all-lower (suc n) =
       let l = node-lower words (suc n) in
-      all-append (λ x. x ≤ suc n) (referencesTo words (suc n)) (referenceList (references (nodeAt words (suc n)))) (all-mono (λ x h. omega arith) (referencesTo words (suc n)) (all-lower n)) (l .first-lower, (l .second-lower, (l .third-lower, tt)))
+      all-append (λ x. x ≤ suc n) (referencesTo words (suc n)) (referenceList (nodeAt words (suc n))) (all-mono (λ x h. omega arith) (referencesTo words (suc n)) (all-lower n)) (l .a-lower, (l .b-lower, (l .c-lower, tt)))
 
   pub whole-table : (last : ℕ) → ((j : ℕ) → j < last → seen (referencesTo words (suc last)) j ≡ 1) → treeNodes (treeOf words (suc last)) ≡ suc last
   whole-table last once =
@@ -125,11 +126,9 @@ module _ {relations : ℕ} where
   pub restriction-is : {tree : Tree} → ConditionTree relations tree → reading tree .restriction ≡ onCondition (reading tree .condition)
   unfolding reading
   restriction-is (atomTree i h) = refl
-  restriction-is (bothTree i f g) = refl
-  restriction-is (eitherTree i f g) = refl
+  restriction-is (joinedTree i k f g) = refl
   restriction-is (notTree i f) = refl
-  restriction-is (someTree i v r f) = refl
-  restriction-is (everyTree i v r f) = refl
+  restriction-is (quantifierTree i v r f) = refl
 
   -- an alpha's first binding is one of its bindings
   alpha-nodes : {tree : Tree} → BindingTree relations tree → (targets : List Target) (restriction : MaybeCondition)
@@ -142,14 +141,12 @@ module _ {relations : ℕ} where
 
     pub range-nodes : {tree : Tree} → RangeTree relations tree → rangeNodes (reading tree .range) ≡ treeNodes tree
     range-nodes (tableTree h) = refl
-    range-nodes (alphaTree {x = x} {y = y} {z = z} i b ts c) =
-        omega (arith, alpha-nodes b (reading y .targets) (reading z .restriction), binding-nodes b, targets-nodes ts, maybe-nodes c)
-    range-nodes (orTree i r s) = omega (arith, range-nodes r, range-nodes s)
-    range-nodes (andTree i r s) = omega (arith, range-nodes r, range-nodes s)
-    range-nodes (andNotTree i r s) = omega (arith, range-nodes r, range-nodes s)
+    range-nodes (alphaTree {x = x} {y = y} {z = z} i ts b c) =
+        omega (arith, alpha-nodes b (reading x .targets) (reading z .restriction), binding-nodes b, targets-nodes ts, maybe-nodes c)
+    range-nodes (combinedTree {k = k} {x = x} {y = y} i r s) = omega (arith, combined-nodes k (reading x .range) (reading y .range), range-nodes r, range-nodes s)
 
     targets-nodes : {tree : Tree} → TargetTree relations tree → length (reading tree .targets) ≡ treeNodes tree
-    targets-nodes (targetTree i v ts) = omega (arith, more-targets ts)
+    targets-nodes (targetTree i v a ts) = omega (arith, more-targets ts)
 
     more-targets : {tree : Tree} → TargetsIfAny relations tree → length (reading tree .targets) ≡ treeNodes tree
     more-targets noTarget = refl
@@ -164,11 +161,9 @@ module _ {relations : ℕ} where
 
     condition-nodes : {tree : Tree} → ConditionTree relations tree → conditionNodes (reading tree .condition) ≡ treeNodes tree
     condition-nodes (atomTree i h) = refl
-    condition-nodes (bothTree i f g) = omega (arith, condition-nodes f, condition-nodes g)
-    condition-nodes (eitherTree i f g) = omega (arith, condition-nodes f, condition-nodes g)
+    condition-nodes (joinedTree {x = x} {y = y} i k f g) = omega (arith, joined-nodes k (reading x .condition) (reading y .condition), condition-nodes f, condition-nodes g)
     condition-nodes (notTree i f) = omega (arith, condition-nodes f)
-    condition-nodes (someTree i v r f) = omega (arith, range-nodes r, condition-nodes f)
-    condition-nodes (everyTree i v r f) = omega (arith, range-nodes r, condition-nodes f)
+    condition-nodes (quantifierTree {v = v} {q = q} {y = y} {z = z} i small r f) = omega (arith, quantified-nodes q v (reading y .range) (reading z .condition), range-nodes r, condition-nodes f)
 
     maybe-nodes : {tree : Tree} → ConditionIfAny relations tree → maybeNodes (reading tree .restriction) ≡ treeNodes tree
     maybe-nodes withoutCondition = refl

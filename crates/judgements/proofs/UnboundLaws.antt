@@ -1,32 +1,34 @@
 -- Refusal 5: the walk finds the lowest node that is at fault in the scope in which it stands. Assumes nothing.
 use mathlib.Core.Path.{_≡_, refl, sym, _∙_, ap, ap₂}
-use mathlib.Core.Bool.{Bool, true, false, not, _&&_, _||_, false≢true}
+use mathlib.Core.Bool.{Bool, true, false, not, _||_, false≢true}
 use mathlib.Core.Logic.{_⊎_, inl, inr}
 use mathlib.Core.List.{List, [], _∷_}
 use Prim.Native.Nat.{ℕ, zero, suc, _<_}
 use native.Mathlib.Omega.{arith}
-use lib.Dec.{ltb, leb, eqb}
+use lib.Dec.{ltb, eqb}
 use lib.ListN.{length, length-replicate, getD-replicate}
-use borrow.Author.Tests.{eqb-true, eqb-false, ne-eqb, ltb-true, lt-ltb, le-ltb}
-use Rattle.relations.specs.Limits.{columnLimit, questionNodeLimit, variableCount, operatorCount}
-use Rattle.relations.proofs.BoolLaws.{true-or-false, and-left, and-right}
+use borrow.Author.Tests.{eqb-true, eqb-false, ne-eqb, lt-ltb, le-ltb}
+use Rattle.relations.specs.Limits.{questionNodeLimit, variableCount}
+use Rattle.relations.proofs.BoolLaws.{true-or-false}
 use Rattle.calculus.specs.Scope as scopes
 use Rattle.calculus.specs.Scope.{entry, extend}
 use Rattle.calculus.specs.Form.{widthOfRange, scopeOfBindings}
 use Rattle.nodes.specs.Nodes.{OperandVariableFits}
 use Rattle.nodes.specs.References.{lowest}
 use Rattle.question.specs.Trees.{Tree, nothing, branch, reading}
-use Rattle.nodes.specs.Roles.{roleOf}
-use Rattle.question.specs.Walk.{widthKept, noWidths, boundWidth, bind, opening, inside, operandUnboundAt, unboundAt, lowestOf, walk, Found}
-use Rattle.judgements.specs.Faults.{inScope, firstSees, restSee, operandUnbound, widthOf, boundBy, faultAt, unbound}
+use Rattle.question.specs.Walk.{widthKept, noWidths, boundWidth, bind, operandUnboundAt, stepOf, lowestOf, walk}
+use Rattle.judgements.specs.Faults.{inScope, boundSees, othersSee, operandUnbound, widthOf, boundBy, faultAt, unbound}
 use Rattle.nodes.specs.declared.node.Operand.{Operand}
 use Rattle.nodes.specs.declared.node.Operand.the-variants.{Of, Fixed}
 use Rattle.nodes.specs.declared.node.Atom.{Atom}
-use Rattle.nodes.specs.declared.node.Node.{Node}
-use Rattle.nodes.specs.declared.node.Node.the-variants.{Table, Alpha, Target, Binding, RangeOr, RangeAnd, RangeAndNot, Atom as AtomNode, And, Or, Not, Some, Every}
-use Rattle.nodes.proofs.Forms.{operandFits, atomFits, first-of, operand-variable}
-use Rattle.judgements.proofs.SortedTrees.{RangeTree, tableTree, alphaTree, orTree, andTree, andNotTree, TargetTree, targetTree, TargetsIfAny, noTarget, moreTargets, BindingTree, bindingTree, BindingsIfAny, noBinding, moreBindings, ConditionTree, atomTree, bothTree, eitherTree, notTree, someTree, everyTree, ConditionIfAny, withoutCondition, withCondition}
+use Rattle.nodes.specs.declared.node.Connective.the-variants.{Not}
+use Rattle.nodes.specs.declared.node.Binder.the-variants.{Binding, Quantifies}
+use Rattle.nodes.specs.declared.node.Form.{Form}
+use Rattle.nodes.specs.declared.node.Form.the-variants.{Table, Alpha, Target, Binds, Combines, Compares, Connects}
+use Rattle.nodes.proofs.Forms.{atomFits, variables-fit}
+use Rattle.judgements.proofs.SortedTrees.{RangeTree, tableTree, alphaTree, combinedTree, TargetTree, targetTree, TargetsIfAny, noTarget, moreTargets, BindingTree, bindingTree, BindingsIfAny, noBinding, moreBindings, ConditionTree, atomTree, joinedTree, notTree, quantifierTree, ConditionIfAny, withoutCondition, withCondition}
 use Rattle.judgements.proofs.ScopesShown.{bind-length, kept-bound, kept-other}
+use Rattle.judgements.proofs.GoodForm.{foundAtB, foundBeside}
 use Rattle.judgements.proofs.LowestLaws.{lowest-none, node-lowest}
 
 -- the walk's scope has a width for exactly the variables in scope
@@ -72,16 +74,10 @@ module _ {scope : List ℕ} {s : scopes.Scope} (names : Names scope s) where
   operand-same (Of v a) small = zero-or-more (widthKept scope v) ∙ ap not (names .named v small)
   operand-same (Fixed c) small = refl
 
-  atom-same : (columns : ℕ → ℕ) (atom : Atom) → atomFits atom ≡ true → unboundAt (AtomNode atom) scope ≡ unbound columns (roleOf (AtomNode atom)) nothing nothing s
+  atom-same : (columns : ℕ → ℕ) (atom : Atom) → atomFits atom ≡ true → stepOf scope (Compares atom) .unbound ≡ unbound columns (Compares atom) nothing nothing s
   atom-same columns atom fits =
-      let v : Bool = ltb (atom .variable) variableCount in
-      let a : Bool = leb 1 (atom .attribute .0) in
-      let b : Bool = leb (atom .attribute .0) columnLimit in
-      let p : Bool = leb 1 (atom .operator) in
-      let q : Bool = leb (atom .operator) operatorCount in
-      ap₂ _||_
-      (operand-same (Of (atom .variable) (atom .attribute)) (ltb-true (atom .variable) variableCount (first-of v a b (first-of (v && a && b) p q (and-left (v && a && b && p && q) (operandFits (atom .operand)) fits)))))
-      (operand-same (atom .operand) (operand-variable (atom .operand) (and-right (v && a && b && p && q) (operandFits (atom .operand)) fits)))
+      let small = variables-fit (Compares atom) fits in
+      ap₂ _||_ (operand-same (Of (atom .variable) (atom .attribute)) (small .0)) (operand-same (atom .operand) (small .1))
 
 module _ (columns : ℕ → ℕ) (relations : ℕ) where
   -- the lowest fault of a tree that stands in s
@@ -93,20 +89,19 @@ module _ (columns : ℕ → ℕ) (relations : ℕ) where
   none-in scope s = sym (lowest-none questionNodeLimit)
 
   -- a node, from its own fault and its parts
-  node-in : (i : ℕ) (node : Node) (x y z : Tree) (scope : List ℕ) (s : scopes.Scope) → (unboundAt node scope ≡ true → i < questionNodeLimit)
-      → unboundAt node scope ≡ unbound columns (roleOf node) x y s
-      → walk columns x (opening node scope) .unbound ≡ lowestIn x (firstSees (roleOf node) s)
-      → walk columns y (inside node scope (walk columns x (opening node scope))) .unbound ≡ lowestIn y (restSee columns (roleOf node) x s)
-      → walk columns z (inside node scope (walk columns x (opening node scope))) .unbound ≡ lowestIn z (restSee columns (roleOf node) x s)
-      → walk columns (branch i node x y z) scope .unbound ≡ lowestIn (branch i node x y z) s
+  node-in : (i : ℕ) (form : Form) (x y z : Tree) (scope : List ℕ) (s : scopes.Scope) → (stepOf scope form .unbound ≡ true → i < questionNodeLimit)
+      → stepOf scope form .unbound ≡ unbound columns form x y s
+      → foundBeside columns form scope y x .unbound ≡ lowestIn x (othersSee columns form y s)
+      → foundAtB columns form scope y .unbound ≡ lowestIn y (boundSees form s)
+      → foundBeside columns form scope y z .unbound ≡ lowestIn z (othersSee columns form y s)
+      → walk columns (branch i form x y z) scope .unbound ≡ lowestIn (branch i form x y z) s
   unfolding walk faultAt
-  node-in i node x y z scope s small same a b c =
-      let first : Found = walk columns x (opening node scope) in
-      ap (λ (fault : Bool). lowestOf fault i (first .unbound) (walk columns y (inside node scope first) .unbound) (walk columns z (inside node scope first) .unbound)) same
-      ∙ node-lowest (unbound columns (roleOf node) x y s) i
-      (λ j. faultAt columns (unbound columns) x (firstSees (roleOf node) s) j)
-      (λ j. faultAt columns (unbound columns) y (restSee columns (roleOf node) x s) j)
-      (λ j. faultAt columns (unbound columns) z (restSee columns (roleOf node) x s) j) (λ e. small (same ∙ e)) a b c
+  node-in i form x y z scope s small same a b c =
+      ap (λ (fault : Bool). lowestOf fault i (foundBeside columns form scope y x .unbound) (foundAtB columns form scope y .unbound) (foundBeside columns form scope y z .unbound)) same
+      ∙ node-lowest (unbound columns form x y s) i
+      (λ j. faultAt columns (unbound columns) x (othersSee columns form y s) j)
+      (λ j. faultAt columns (unbound columns) y (boundSees form s) j)
+      (λ j. faultAt columns (unbound columns) z (othersSee columns form y s) j) (λ e. small (same ∙ e)) a b c
 
   mutual
     unfolding widthOfRange reading walk
@@ -114,42 +109,39 @@ module _ (columns : ℕ → ℕ) (relations : ℕ) where
     -- a range sees nothing, so it may stand anywhere
     pub range-in : {tree : Tree} → RangeTree relations tree → (scope : List ℕ) (s : scopes.Scope) → walk columns tree scope .unbound ≡ lowestIn tree s
     range-in (tableTree {i = i} {relation = relation} h) scope s = node-in i (Table relation) nothing nothing nothing scope s (λ e. absurd (false≢true e)) refl (none-in scope s) (none-in scope s) (none-in scope s)
-    range-in (alphaTree {i = i} {a = a} {b = b} {c = c} {x = x} {y = y} {z = z} small bs ts f) scope s =
+    range-in (alphaTree {i = i} {x = x} {y = y} {z = z} small ts bs f) scope s =
+        let bound : List ℕ = walk columns y noWidths .scope in
         let B = binding-in bs noWidths [] names-empty in
-        node-in i (Alpha a b c) x y z scope s (λ e. small) refl (B .0) (target-in ts (walk columns x noWidths .scope) (boundBy columns x) (B .1)) (maybe-in f (walk columns x noWidths .scope) (boundBy columns x) (B .1))
-    range-in (orTree {i = i} {a = a} {b = b} {x = x} {y = y} small r t) scope s = node-in i (RangeOr a b) x y nothing scope s (λ e. small) refl (range-in r scope []) (range-in t scope []) (none-in scope [])
-    range-in (andTree {i = i} {a = a} {b = b} {x = x} {y = y} small r t) scope s = node-in i (RangeAnd a b) x y nothing scope s (λ e. small) refl (range-in r scope []) (range-in t scope []) (none-in scope [])
-    range-in (andNotTree {i = i} {a = a} {b = b} {x = x} {y = y} small r t) scope s = node-in i (RangeAndNot a b) x y nothing scope s (λ e. small) refl (range-in r scope []) (range-in t scope []) (none-in scope [])
+        node-in i Alpha x y z scope s (λ e. small) refl (target-in ts bound (boundBy columns y) (B .1)) (B .0) (maybe-in f bound (boundBy columns y) (B .1))
+    range-in (combinedTree {i = i} {k = k} {x = x} {y = y} small r t) scope s = node-in i (Combines k) x y nothing scope s (λ e. small) refl (range-in r scope []) (range-in t scope []) (none-in scope [])
 
     target-in : {tree : Tree} → TargetTree relations tree → (scope : List ℕ) (s : scopes.Scope) → Names scope s → walk columns tree scope .unbound ≡ lowestIn tree s
-    target-in (targetTree {i = i} {v = v} {a = a} {b = b} {x = x} small inside ts) scope s names =
-        node-in i (Target v a b) x nothing nothing scope s (λ e. small) (operand-same names (Of v (record { 0 = a })) inside) (targets-in ts scope s names) (none-in scope s) (none-in scope s)
+    target-in (targetTree {i = i} {v = v} {a = a} {z = z} small inside limit ts) scope s names =
+        node-in i (Target v a) nothing nothing z scope s (λ e. small) (operand-same names (Of v a) inside) (none-in scope s) (none-in scope s) (targets-in ts scope s names)
 
     targets-in : {tree : Tree} → TargetsIfAny relations tree → (scope : List ℕ) (s : scopes.Scope) → Names scope s → walk columns tree scope .unbound ≡ lowestIn tree s
     targets-in noTarget scope s names = none-in scope s
     targets-in (moreTargets ts) scope s names = target-in ts scope s names
 
     binding-in : {tree : Tree} → BindingTree relations tree → (scope : List ℕ) (s : scopes.Scope) → Names scope s → (walk columns tree scope .unbound ≡ lowestIn tree s) × Names (walk columns tree scope .scope) (scopeOfBindings columns (reading tree .bindings) s)
-    binding-in (bindingTree {i = i} {v = v} {a = a} {b = b} {x = x} {y = y} small inside r bs) scope s names =
-        let w : ℕ = walk columns x scope .width in
-        let B = bindings-in bs (bind scope v w) (extend s v (widthOf columns x)) (names-bind v w (widthOf columns x) names inside) in
-        (node-in i (Binding v a b) x y nothing scope s (λ e. small) (names .named v inside) (range-in r scope []) (B .0) (none-in (bind scope v w) (extend s v (widthOf columns x))), B .1)
+    binding-in (bindingTree {i = i} {v = v} {y = y} {z = z} small inside r bs) scope s names =
+        let w : ℕ = walk columns y scope .width in
+        let next : scopes.Scope = extend s v (widthOf columns y) in
+        let B = bindings-in bs (bind scope v w) next (names-bind v w (widthOf columns y) names inside) in
+        (node-in i (Binds v Binding) nothing y z scope s (λ e. small) (names .named v inside) (none-in (bind scope v w) _) (range-in r scope []) (B .0), B .1)
 
     bindings-in : {tree : Tree} → BindingsIfAny relations tree → (scope : List ℕ) (s : scopes.Scope) → Names scope s → (walk columns tree scope .unbound ≡ lowestIn tree s) × Names (walk columns tree scope .scope) (scopeOfBindings columns (reading tree .bindings) s)
     bindings-in noBinding scope s names = (none-in scope s, names)
     bindings-in (moreBindings b) scope s names = binding-in b scope s names
 
     condition-in : {tree : Tree} → ConditionTree relations tree → (scope : List ℕ) (s : scopes.Scope) → Names scope s → walk columns tree scope .unbound ≡ lowestIn tree s
-    condition-in (atomTree {i = i} {atom = atom} small fits) scope s names = node-in i (AtomNode atom) nothing nothing nothing scope s (λ e. small) (atom-same names columns atom fits) (none-in scope s) (none-in scope s) (none-in scope s)
-    condition-in (bothTree {i = i} {a = a} {b = b} {x = x} {y = y} small f g) scope s names = node-in i (And a b) x y nothing scope s (λ e. small) refl (condition-in f scope s names) (condition-in g scope s names) (none-in scope s)
-    condition-in (eitherTree {i = i} {a = a} {b = b} {x = x} {y = y} small f g) scope s names = node-in i (Or a b) x y nothing scope s (λ e. small) refl (condition-in f scope s names) (condition-in g scope s names) (none-in scope s)
-    condition-in (notTree {i = i} {a = a} {x = x} small f) scope s names = node-in i (Not a) x nothing nothing scope s (λ e. small) refl (condition-in f scope s names) (none-in scope s) (none-in scope s)
-    condition-in (someTree {i = i} {v = v} {a = a} {b = b} {x = x} {y = y} small inside r f) scope s names =
-        let w : ℕ = walk columns x scope .width in
-        node-in i (Some v a b) x y nothing scope s (λ e. small) (names .named v inside) (range-in r scope []) (condition-in f (bind scope v w) (extend s v (widthOf columns x)) (names-bind v w (widthOf columns x) names inside)) (none-in (bind scope v w) (extend s v (widthOf columns x)))
-    condition-in (everyTree {i = i} {v = v} {a = a} {b = b} {x = x} {y = y} small inside r f) scope s names =
-        let w : ℕ = walk columns x scope .width in
-        node-in i (Every v a b) x y nothing scope s (λ e. small) (names .named v inside) (range-in r scope []) (condition-in f (bind scope v w) (extend s v (widthOf columns x)) (names-bind v w (widthOf columns x) names inside)) (none-in (bind scope v w) (extend s v (widthOf columns x)))
+    condition-in (atomTree {i = i} {atom = atom} small fits) scope s names = node-in i (Compares atom) nothing nothing nothing scope s (λ e. small) (atom-same names columns atom fits) (none-in scope s) (none-in scope s) (none-in scope s)
+    condition-in (joinedTree {i = i} {k = k} {x = x} {y = y} small joins f g) scope s names = node-in i (Connects k) x y nothing scope s (λ e. small) refl (condition-in f scope s names) (condition-in g scope s names) (none-in scope s)
+    condition-in (notTree {i = i} {x = x} small f) scope s names = node-in i (Connects Not) x nothing nothing scope s (λ e. small) refl (condition-in f scope s names) (none-in scope s) (none-in scope s)
+    condition-in (quantifierTree {i = i} {v = v} {q = q} {y = y} {z = z} small inside r f) scope s names =
+        let w : ℕ = walk columns y scope .width in
+        let next : scopes.Scope = extend s v (widthOf columns y) in
+        node-in i (Binds v (Quantifies q)) nothing y z scope s (λ e. small) (names .named v inside) (none-in (bind scope v w) _) (range-in r scope []) (condition-in f (bind scope v w) next (names-bind v w (widthOf columns y) names inside))
 
     maybe-in : {tree : Tree} → ConditionIfAny relations tree → (scope : List ℕ) (s : scopes.Scope) → Names scope s → walk columns tree scope .unbound ≡ lowestIn tree s
     maybe-in withoutCondition scope s names = none-in scope s

@@ -1,7 +1,7 @@
 -- Refusal 6: where no node is at fault by 5, the walk finds the lowest node that is at fault by 6 in the scope in which it stands.
 -- The walk counts widths only up to 33. That hides a fault only above a lower one: a range wider than 32 has an alpha at fault in it. Assumes nothing.
 use mathlib.Core.Path.{_≡_, refl, sym, _∙_, ap, ap₂}
-use mathlib.Core.Bool.{Bool, true, false, not, _&&_, _||_, false≢true}
+use mathlib.Core.Bool.{Bool, true, false, not, _||_, false≢true}
 use mathlib.Core.Logic.{_⊎_, inl, inr}
 use mathlib.Core.List.{List, [], _∷_}
 use Prim.Native.Nat.{ℕ, zero, suc, _+_, _≤_, _<_, min}
@@ -9,9 +9,9 @@ use native.Mathlib.Omega.{arith}
 use lib.Dec.{ltb, leb, eqb}
 use lib.ListN.{length, length-replicate, getD-replicate}
 use borrow.Author.Tests.{eqb-true, eqb-false, ne-eqb, ltb-true, ltb-false, leb-true}
-use Rattle.relations.specs.Limits.{columnLimit, questionNodeLimit, variableCount, operatorCount}
+use Rattle.relations.specs.Limits.{columnLimit, questionNodeLimit, variableCount}
 use Rattle.relations.specs.Lists.{All}
-use Rattle.relations.proofs.BoolLaws.{true-or-false, and-left, and-right}
+use Rattle.relations.proofs.BoolLaws.{true-or-false}
 use Rattle.relations.proofs.ListLaws.{all-append}
 use Rattle.calculus.specs.Question as calculus
 use Rattle.calculus.specs.Scope as scopes
@@ -19,23 +19,24 @@ use Rattle.calculus.specs.Scope.{entry, extend, columnsIn}
 use Rattle.calculus.specs.Form.{NotInScope, widthOfRange, scopeOfBindings}
 use Rattle.calculus.specs.Form as form
 use Rattle.calculus.proofs.ScopeLaws.{columns-extend}
-use Rattle.nodes.specs.Kinds.{isTarget}
 use Rattle.nodes.specs.References.{lowest}
-use Rattle.question.specs.Trees.{Tree, nothing, branch, targetOf, alphaOf, reading}
-use Rattle.nodes.specs.Roles.{roleOf}
-use Rattle.question.specs.Walk.{widthKept, columnsKept, noWidths, addWidths, boundWidth, bind, opening, inside, operandUnfitAt, unboundAt, unfitAt, targetWidthKept, lowestOf, walk, Found}
-use Rattle.judgements.specs.Faults.{firstSees, restSee, operandUnfit, widthOf, boundBy, faultAt, unfit}
+use Rattle.question.specs.Trees.{Tree, nothing, branch, targetOf, alphaOf, combined, reading}
+use Rattle.question.specs.Walk.{widthKept, columnsKept, noWidths, addWidths, boundWidth, bind, operandUnfitAt, targetWidthKept, Found, Step, stepOf, lowestOf, walk}
+use Rattle.judgements.specs.Faults.{boundSees, othersSee, operandUnfit, widthOf, boundBy, faultAt, unfit}
 use Rattle.nodes.specs.declared.node.Operand.{Operand}
 use Rattle.nodes.specs.declared.node.Operand.the-variants.{Of, Fixed}
 use Rattle.nodes.specs.declared.node.Atom.{Atom}
-use Rattle.nodes.specs.declared.node.Node.{Node}
-use Rattle.nodes.specs.declared.node.Node.the-variants.{Table, Alpha, Target, Binding, RangeOr, RangeAnd, RangeAndNot, Atom as AtomNode, And, Or, Not, Some, Every}
-use Rattle.nodes.proofs.Forms.{operandFits, atomFits, first-of, second-of, third-of}
-use Rattle.judgements.proofs.SortedTrees.{RangeTree, tableTree, alphaTree, orTree, andTree, andNotTree, TargetTree, targetTree, TargetsIfAny, noTarget, moreTargets, BindingTree, bindingTree, BindingsIfAny, noBinding, moreBindings, ConditionTree, atomTree, bothTree, eitherTree, notTree, someTree, everyTree, ConditionIfAny, withoutCondition, withCondition}
+use Rattle.nodes.specs.declared.node.Connective.the-variants.{Not}
+use Rattle.nodes.specs.declared.node.Binder.the-variants.{Binding, Quantifies}
+use Rattle.nodes.specs.declared.node.Form.{Form}
+use Rattle.nodes.specs.declared.node.Form.the-variants.{Table, Alpha, Target, Binds, Combines, Compares, Connects}
+use Rattle.nodes.proofs.Forms.{operandFits, atomFits, first-of, third-of}
+use Rattle.judgements.proofs.SortedTrees.{RangeTree, tableTree, alphaTree, combinedTree, TargetTree, targetTree, TargetsIfAny, noTarget, moreTargets, BindingTree, bindingTree, BindingsIfAny, noBinding, moreBindings, ConditionTree, atomTree, joinedTree, notTree, quantifierTree, ConditionIfAny, withoutCondition, withCondition, atom-sides}
+use Rattle.judgements.proofs.KindsAlike.{combined-width}
 use Rattle.judgements.proofs.ScopesShown.{HasWidth, fresh, width-extend, bind-length, kept-bound, kept-other, columns-bound}
-use Rattle.judgements.proofs.GoodForm.{no-fault}
+use Rattle.judgements.proofs.GoodForm.{no-fault, foundAtB, foundBeside}
 use Rattle.judgements.proofs.LowestLaws.{lowest-none, node-lowest, same-ltb}
-use Rattle.judgements.proofs.Ordered.{Fitting, Ordered}
+use Rattle.judgements.proofs.Ordered.{Ordered}
 
 -- two widths are the same, or both over 32
 abbrev Alike : ℕ → ℕ → Type 0
@@ -114,16 +115,10 @@ module _ {scope : List ℕ} {s : scopes.Scope} (wide : Wide scope s) where
       attribute-same v (a .0) (ltb-true v variableCount (first-of x y z fits)) (leb-true (a .0) columnLimit (third-of x y z fits))
   operand-same (Fixed c) fits = refl
 
-  atom-same : (columns : ℕ → ℕ) (atom : Atom) → atomFits atom ≡ true → unfitAt (AtomNode atom) scope 0 0 ≡ unfit columns (roleOf (AtomNode atom)) nothing nothing s
+  atom-same : (columns : ℕ → ℕ) (atom : Atom) → atomFits atom ≡ true → stepOf scope (Compares atom) .unfit 0 0 ≡ unfit columns (Compares atom) nothing nothing s
   atom-same columns atom fits =
-      let v : Bool = ltb (atom .variable) variableCount in
-      let a : Bool = leb 1 (atom .attribute .0) in
-      let b : Bool = leb (atom .attribute .0) columnLimit in
-      let p : Bool = leb 1 (atom .operator) in
-      let q : Bool = leb (atom .operator) operatorCount in
-      ap₂ _||_
-      (operand-same (Of (atom .variable) (atom .attribute)) (first-of (v && a && b) p q (and-left (v && a && b && p && q) (operandFits (atom .operand)) fits)))
-      (operand-same (atom .operand) (and-right (v && a && b && p && q) (operandFits (atom .operand)) fits))
+      let sides = atom-sides atom fits in
+      ap₂ _||_ (operand-same (Of (atom .variable) (atom .attribute)) (sides .0)) (operand-same (atom .operand) (sides .1))
 
   target-columns : (v a : ℕ) → v < variableCount → Alike (targetWidthKept scope v a) (form.targetWidth s (targetOf v a))
   target-columns v zero small = wide .shown v small
@@ -171,43 +166,40 @@ module _ (columns : ℕ → ℕ) (relations : ℕ) where
   abbrev Bound : Found → Type 0
   Bound found = questionNodeLimit ≤ found .unbound
 
-  record BoundNode (node : Node) (scope : List ℕ) (first second third : Found) : Type 0 where
-    here : unboundAt node scope ≡ false
-    bound-first : Bound first
-    bound-second : Bound second
-    bound-third : Bound third
+  record BoundNode (step : Step) (a b c : Found) : Type 0 where
+    here : step .unbound ≡ false
+    bound-a : Bound a
+    bound-b : Bound b
+    bound-c : Bound c
 
-  bound-node : (i : ℕ) (node : Node) (x y z : Tree) (scope : List ℕ) → i < questionNodeLimit → Bound (walk columns (branch i node x y z) scope)
-      → BoundNode node scope (walk columns x (opening node scope)) (walk columns y (inside node scope (walk columns x (opening node scope)))) (walk columns z (inside node scope (walk columns x (opening node scope))))
+  bound-node : (i : ℕ) (form : Form) (x y z : Tree) (scope : List ℕ) → i < questionNodeLimit → Bound (walk columns (branch i form x y z) scope)
+      → BoundNode (stepOf scope form) (foundBeside columns form scope y x) (foundAtB columns form scope y) (foundBeside columns form scope y z)
   unfolding walk
-  bound-node i node x y z scope small bound =
-      let first : Found = walk columns x (opening node scope) in
-      let second : Found = walk columns y (inside node scope first) in
-      let third : Found = walk columns z (inside node scope first) in
-      let n = no-fault (unboundAt node scope) i (first .unbound) (second .unbound) (third .unbound) small bound in
-      record { here = n .clear; bound-first = n .none-first; bound-second = n .none-second; bound-third = n .none-third }
+  bound-node i form x y z scope small bound =
+      let n = no-fault (stepOf scope form .unbound) i (foundBeside columns form scope y x .unbound) (foundAtB columns form scope y .unbound) (foundBeside columns form scope y z .unbound) small bound in
+      record { here = n .clear; bound-a = n .none-a; bound-b = n .none-b; bound-c = n .none-c }
 
   none-in : (scope : List ℕ) (s : scopes.Scope) → walk columns nothing scope .unfit ≡ lowestIn nothing s
   unfolding walk faultAt
   none-in scope s = sym (lowest-none questionNodeLimit)
 
   -- a node, from its own fault and its parts
-  node-in : (i : ℕ) (node : Node) (x y z : Tree) (scope : List ℕ) (s : scopes.Scope) → (unfit columns (roleOf node) x y s ≡ true → i < questionNodeLimit)
-      → (unfitAt node scope (walk columns x (opening node scope) .width) (walk columns y (inside node scope (walk columns x (opening node scope))) .width) ≡ unfit columns (roleOf node) x y s)
-      ⊎ ((i < questionNodeLimit) × ((walk columns x (opening node scope) .unfit < i) ⊎ (walk columns y (inside node scope (walk columns x (opening node scope))) .unfit < i)))
-      → walk columns x (opening node scope) .unfit ≡ lowestIn x (firstSees (roleOf node) s)
-      → walk columns y (inside node scope (walk columns x (opening node scope))) .unfit ≡ lowestIn y (restSee columns (roleOf node) x s)
-      → walk columns z (inside node scope (walk columns x (opening node scope))) .unfit ≡ lowestIn z (restSee columns (roleOf node) x s)
-      → walk columns (branch i node x y z) scope .unfit ≡ lowestIn (branch i node x y z) s
+  node-in : (i : ℕ) (form : Form) (x y z : Tree) (scope : List ℕ) (s : scopes.Scope) → (unfit columns form x y s ≡ true → i < questionNodeLimit)
+      → (stepOf scope form .unfit (foundBeside columns form scope y x .width) (foundAtB columns form scope y .width) ≡ unfit columns form x y s)
+      ⊎ ((i < questionNodeLimit) × ((foundBeside columns form scope y x .unfit < i) ⊎ (foundAtB columns form scope y .unfit < i)))
+      → foundBeside columns form scope y x .unfit ≡ lowestIn x (othersSee columns form y s)
+      → foundAtB columns form scope y .unfit ≡ lowestIn y (boundSees form s)
+      → foundBeside columns form scope y z .unfit ≡ lowestIn z (othersSee columns form y s)
+      → walk columns (branch i form x y z) scope .unfit ≡ lowestIn (branch i form x y z) s
   unfolding walk faultAt
-  node-in i node x y z scope s small same a b c =
-      let first : Found = walk columns x (opening node scope) in
-      let second : Found = walk columns y (inside node scope first) in
-      hidden (unfitAt node scope (first .width) (second .width)) (unfit columns (roleOf node) x y s) i (first .unfit) (second .unfit) (walk columns z (inside node scope first) .unfit) same
-      ∙ node-lowest (unfit columns (roleOf node) x y s) i
-      (λ j. faultAt columns (unfit columns) x (firstSees (roleOf node) s) j)
-      (λ j. faultAt columns (unfit columns) y (restSee columns (roleOf node) x s) j)
-      (λ j. faultAt columns (unfit columns) z (restSee columns (roleOf node) x s) j) small a b c
+  node-in i form x y z scope s small same p q r =
+      let a : Found = foundBeside columns form scope y x in
+      let b : Found = foundAtB columns form scope y in
+      hidden (stepOf scope form .unfit (a .width) (b .width)) (unfit columns form x y s) i (a .unfit) (b .unfit) (foundBeside columns form scope y z .unfit) same
+      ∙ node-lowest (unfit columns form x y s) i
+      (λ j. faultAt columns (unfit columns) x (othersSee columns form y s) j)
+      (λ j. faultAt columns (unfit columns) y (boundSees form s) j)
+      (λ j. faultAt columns (unfit columns) z (othersSee columns form y s) j) small p q r
 
   -- what is shown of each sort
   pub record RangeIn (bound : ℕ) (tree : Tree) (found : Found) (s : scopes.Scope) : Type 0 where
@@ -231,13 +223,13 @@ module _ (columns : ℕ → ℕ) (relations : ℕ) where
   alpha-wide (bindingTree i v r bs) targets restriction = refl
 
   -- widths that differ, or a part at fault
-  sides-same : {i : ℕ} {x y : Tree} {first second : Found} {s t : scopes.Scope} → i < questionNodeLimit → RangeIn i x first s → RangeIn i y second t
-      → (not (eqb (first .width) (second .width)) ≡ not (eqb (widthOf columns x) (widthOf columns y))) ⊎ ((i < questionNodeLimit) × ((first .unfit < i) ⊎ (second .unfit < i)))
-  sides-same {i} {x} {y} {first} {second} small r t = go (r .exact) (t .exact)
+  sides-same : {i : ℕ} {x y : Tree} {a b : Found} {s t : scopes.Scope} → i < questionNodeLimit → RangeIn i x a s → RangeIn i y b t
+      → (not (eqb (a .width) (b .width)) ≡ not (eqb (widthOf columns x) (widthOf columns y))) ⊎ ((i < questionNodeLimit) × ((a .unfit < i) ⊎ (b .unfit < i)))
+  sides-same {i} {x} {y} {a} {b} small r t = go (r .exact) (t .exact)
     where
-      go : (first .width ≡ widthOf columns x) ⊎ (first .unfit < i) → (second .width ≡ widthOf columns y) ⊎ (second .unfit < i)
-          → (not (eqb (first .width) (second .width)) ≡ not (eqb (widthOf columns x) (widthOf columns y))) ⊎ ((i < questionNodeLimit) × ((first .unfit < i) ⊎ (second .unfit < i)))
-      go (inl e) (inl f) = inl (ap₂ (λ (a b : ℕ). not (eqb a b)) e f)
+      go : (a .width ≡ widthOf columns x) ⊎ (a .unfit < i) → (b .width ≡ widthOf columns y) ⊎ (b .unfit < i)
+          → (not (eqb (a .width) (b .width)) ≡ not (eqb (widthOf columns x) (widthOf columns y))) ⊎ ((i < questionNodeLimit) × ((a .unfit < i) ⊎ (b .unfit < i)))
+      go (inl e) (inl f) = inl (ap₂ (λ (v w : ℕ). not (eqb v w)) e f)
       go (inl e) (inr l) = inr (small, inr l)
       go (inr l) q = inr (small, inl l)
 
@@ -253,9 +245,6 @@ module _ (columns : ℕ → ℕ) (relations : ℕ) where
       go (inl t) = inr (omega (arith, l, own-lowest (ltb columnLimit w) i a b c t))
       go (inr f) = inl (omega (arith, e, ltb-false columnLimit w f))
 
-  target-limit : {v a b : ℕ} → Fitting (Target v a b) → a ≤ columnLimit
-  target-limit {v} {a} {b} f = leb-true a columnLimit (second-of (ltb v variableCount) (leb a columnLimit) (eqb b 0 || isTarget (f .kind b)) (f .fit))
-
   module _ (has-columns : (relation : ℕ) → relation < relations → 1 ≤ columns relation) where
     mutual
       unfolding widthOfRange reading walk
@@ -263,55 +252,49 @@ module _ (columns : ℕ → ℕ) (relations : ℕ) where
       pub range-in : {tree : Tree} → RangeTree relations tree → (bound : ℕ) → Ordered bound tree → (scope : List ℕ) (s : scopes.Scope) → Bound (walk columns tree scope) → RangeIn bound tree (walk columns tree scope) s
       range-in (tableTree {i = i} {relation = relation} h) bound o scope s free =
           record { unfit-is = node-in i (Table relation) nothing nothing nothing scope s (λ e. absurd (false≢true e)) (inl refl) (none-in scope s) (none-in scope s) (none-in scope s); alike = refl; some = has-columns relation h; exact = inl refl }
-      range-in (alphaTree {i = i} {a = a} {b = b} {c = c} {x = x} {y = y} {z = z} small bs ts f) bound o scope s free =
-          let first : Found = walk columns x noWidths in
-          let second : Found = walk columns y (first .scope) in
-          let third : Found = walk columns z (first .scope) in
-          let n = bound-node i (Alpha a b c) x y z scope small free in
-          let B = binding-in bs i (o .2) noWidths [] wide-empty (n .bound-first) in
-          let T = target-in ts i (o .3) (first .scope) (boundBy columns x) (B .wide-after) (n .bound-second) in
-          let k : ℕ = form.targetsWidth (boundBy columns x) (reading y .targets) in
-          let e : second .width ≡ min (suc columnLimit) k = T .wide in
-          let w : widthOfRange columns (alphaOf (reading y .targets) (reading x .bindings) (reading z .restriction)) ≡ k = alpha-wide bs (reading y .targets) (reading z .restriction) in
+      range-in (alphaTree {i = i} {x = x} {y = y} {z = z} small ts bs f) bound o scope s free =
+          let b : Found = walk columns y noWidths in
+          let a : Found = walk columns x (b .scope) in
+          let c : Found = walk columns z (b .scope) in
+          let n = bound-node i Alpha x y z scope small free in
+          let B = binding-in bs i (o .2) noWidths [] wide-empty (n .bound-b) in
+          let T = target-in ts i (o .1) (b .scope) (boundBy columns y) (B .wide-after) (n .bound-a) in
+          let k : ℕ = form.targetsWidth (boundBy columns y) (reading x .targets) in
+          let e : a .width ≡ min (suc columnLimit) k = T .wide in
+          let w : widthOfRange columns (alphaOf (reading x .targets) (reading y .bindings) (reading z .restriction)) ≡ k = alpha-wide bs (reading x .targets) (reading z .restriction) in
           record {
             unfit-is =
-                node-in i (Alpha a b c) x y z scope s (λ h. small) (inl (same-ltb columnLimit (second .width) columnLimit k (λ h. omega (arith, h, e)) (λ h. omega (arith, h, e))))
-                (B .unfit-is) (T .unfit-is) (maybe-in f i (o .4) (first .scope) (boundBy columns x) (B .wide-after) (n .bound-third));
+                node-in i Alpha x y z scope s (λ h. small) (inl (same-ltb columnLimit (a .width) columnLimit k (λ h. omega (arith, h, e)) (λ h. omega (arith, h, e))))
+                (T .unfit-is) (B .unfit-is) (maybe-in f i (o .3) (b .scope) (boundBy columns y) (B .wide-after) (n .bound-c));
             alike = omega (arith, e, w);
-            some = target-wide ts (first .scope) (n .bound-second);
-            exact = rw w (alpha-exact k (first .unfit) (second .unfit) (third .unfit) (o .0) e);
+            some = target-wide ts (b .scope) (n .bound-a);
+            exact = rw w (alpha-exact k (a .unfit) (b .unfit) (c .unfit) (o .0) e);
           }
-      range-in (orTree {i = i} {a = a} {b = b} {x = x} {y = y} small r t) bound o scope s free =
-          let n = bound-node i (RangeOr a b) x y nothing scope small free in
-          let R = range-in r i (o .2) scope [] (n .bound-first) in
-          let S = range-in t i (o .3) scope [] (n .bound-second) in
+      range-in (combinedTree {i = i} {k = k} {x = x} {y = y} small r t) bound o scope s free =
+          let n = bound-node i (Combines k) x y nothing scope small free in
+          let R = range-in r i (o .1) scope [] (n .bound-a) in
+          let S = range-in t i (o .2) scope [] (n .bound-b) in
           let fault : Bool = not (eqb (walk columns x scope .width) (walk columns y scope .width)) in
-          record { unfit-is = node-in i (RangeOr a b) x y nothing scope s (λ h. small) (sides-same small R S) (R .unfit-is) (S .unfit-is) (none-in scope []); alike = R .alike; some = R .some; exact = side-exact fault (walk columns y scope .unfit) (walk columns nothing scope .unfit) (o .0) (R .exact) }
-      range-in (andTree {i = i} {a = a} {b = b} {x = x} {y = y} small r t) bound o scope s free =
-          let n = bound-node i (RangeAnd a b) x y nothing scope small free in
-          let R = range-in r i (o .2) scope [] (n .bound-first) in
-          let S = range-in t i (o .3) scope [] (n .bound-second) in
-          let fault : Bool = not (eqb (walk columns x scope .width) (walk columns y scope .width)) in
-          record { unfit-is = node-in i (RangeAnd a b) x y nothing scope s (λ h. small) (sides-same small R S) (R .unfit-is) (S .unfit-is) (none-in scope []); alike = R .alike; some = R .some; exact = side-exact fault (walk columns y scope .unfit) (walk columns nothing scope .unfit) (o .0) (R .exact) }
-      range-in (andNotTree {i = i} {a = a} {b = b} {x = x} {y = y} small r t) bound o scope s free =
-          let n = bound-node i (RangeAndNot a b) x y nothing scope small free in
-          let R = range-in r i (o .2) scope [] (n .bound-first) in
-          let S = range-in t i (o .3) scope [] (n .bound-second) in
-          let fault : Bool = not (eqb (walk columns x scope .width) (walk columns y scope .width)) in
-          record { unfit-is = node-in i (RangeAndNot a b) x y nothing scope s (λ h. small) (sides-same small R S) (R .unfit-is) (S .unfit-is) (none-in scope []); alike = R .alike; some = R .some; exact = side-exact fault (walk columns y scope .unfit) (walk columns nothing scope .unfit) (o .0) (R .exact) }
+          let w : widthOfRange columns (combined k (reading x .range) (reading y .range)) ≡ widthOf columns x = combined-width columns k (reading x .range) (reading y .range) in
+          record {
+            unfit-is = node-in i (Combines k) x y nothing scope s (λ h. small) (sides-same small R S) (R .unfit-is) (S .unfit-is) (none-in scope []);
+            alike = rw w (R .alike);
+            some = R .some;
+            exact = rw w (side-exact fault (walk columns y scope .unfit) (walk columns nothing scope .unfit) (o .0) (R .exact));
+          }
 
       target-wide : {tree : Tree} → TargetTree relations tree → (scope : List ℕ) → Bound (walk columns tree scope) → 1 ≤ walk columns tree scope .width
-      target-wide (targetTree {i = i} {v = v} {a = a} {b = b} {x = x} small inside ts) scope free =
-          let n = bound-node i (Target v a b) x nothing nothing scope small free in
-          some-more (targetWidthKept scope v a) (walk columns x scope .width) (taken-some scope v a (n .here))
+      target-wide (targetTree {i = i} {v = v} {a = a} {z = z} small inside limit ts) scope free =
+          let n = bound-node i (Target v a) nothing nothing z scope small free in
+          some-more (targetWidthKept scope v (a .0)) (walk columns z scope .width) (taken-some scope v (a .0) (n .here))
 
       target-in : {tree : Tree} → TargetTree relations tree → (bound : ℕ) → Ordered bound tree → (scope : List ℕ) (s : scopes.Scope) → Wide scope s → Bound (walk columns tree scope) → TargetsIn tree (walk columns tree scope) s
-      target-in (targetTree {i = i} {v = v} {a = a} {b = b} {x = x} small inside ts) bound o scope s wide free =
-          let n = bound-node i (Target v a b) x nothing nothing scope small free in
-          let T = targets-in ts i (o .2) scope s wide (n .bound-first) in
+      target-in (targetTree {i = i} {v = v} {a = a} {z = z} small inside limit ts) bound o scope s wide free =
+          let n = bound-node i (Target v a) nothing nothing z scope small free in
+          let T = targets-in ts i (o .3) scope s wide (n .bound-c) in
           record {
-            unfit-is = node-in i (Target v a b) x nothing nothing scope s (λ e. small) (inl (attribute-same wide v a inside (target-limit (o .1)))) (T .unfit-is) (none-in scope s) (none-in scope s);
-            wide = counts (targetWidthKept scope v a) (walk columns x scope .width) (form.targetWidth s (targetOf v a)) (form.targetsWidth s (reading x .targets)) (target-columns wide v a inside) (T .wide);
+            unfit-is = node-in i (Target v a) nothing nothing z scope s (λ e. small) (inl (attribute-same wide v (a .0) inside limit)) (none-in scope s) (none-in scope s) (T .unfit-is);
+            wide = counts (targetWidthKept scope v (a .0)) (walk columns z scope .width) (form.targetWidth s (targetOf v (a .0))) (form.targetsWidth s (reading z .targets)) (target-columns wide v (a .0) inside) (T .wide);
           }
 
       targets-in : {tree : Tree} → TargetsIfAny relations tree → (bound : ℕ) → Ordered bound tree → (scope : List ℕ) (s : scopes.Scope) → Wide scope s → Bound (walk columns tree scope) → TargetsIn tree (walk columns tree scope) s
@@ -319,13 +302,13 @@ module _ (columns : ℕ → ℕ) (relations : ℕ) where
       targets-in (moreTargets ts) bound o scope s wide free = target-in ts bound o scope s wide free
 
       binding-in : {tree : Tree} → BindingTree relations tree → (bound : ℕ) → Ordered bound tree → (scope : List ℕ) (s : scopes.Scope) → Wide scope s → Bound (walk columns tree scope) → BindingsIn tree (walk columns tree scope) s
-      binding-in (bindingTree {i = i} {v = v} {a = a} {b = b} {x = x} {y = y} small inside r bs) bound o scope s wide free =
-          let w : ℕ = walk columns x scope .width in
-          let n = bound-node i (Binding v a b) x y nothing scope small free in
-          let R = range-in r i (o .2) scope [] (n .bound-first) in
-          let next = wide-bind v w (widthOf columns x) wide inside (new-variable wide v inside (n .here)) (R .some) (R .alike) in
-          let B = bindings-in bs i (o .3) (bind scope v w) (extend s v (widthOf columns x)) next (n .bound-second) in
-          record { unfit-is = node-in i (Binding v a b) x y nothing scope s (λ e. small) (inl (columns-same wide w (widthOf columns x) (R .alike))) (R .unfit-is) (B .unfit-is) (none-in (bind scope v w) (extend s v (widthOf columns x))); wide-after = B .wide-after }
+      binding-in (bindingTree {i = i} {v = v} {y = y} {z = z} small inside r bs) bound o scope s wide free =
+          let w : ℕ = walk columns y scope .width in
+          let next : scopes.Scope = extend s v (widthOf columns y) in
+          let n = bound-node i (Binds v Binding) nothing y z scope small free in
+          let R = range-in r i (o .2) scope [] (n .bound-b) in
+          let B = bindings-in bs i (o .3) (bind scope v w) next (wide-bind v w (widthOf columns y) wide inside (new-variable wide v inside (n .here)) (R .some) (R .alike)) (n .bound-c) in
+          record { unfit-is = node-in i (Binds v Binding) nothing y z scope s (λ e. small) (inl (columns-same wide w (widthOf columns y) (R .alike))) (none-in (bind scope v w) _) (R .unfit-is) (B .unfit-is); wide-after = B .wide-after }
 
       bindings-in : {tree : Tree} → BindingsIfAny relations tree → (bound : ℕ) → Ordered bound tree → (scope : List ℕ) (s : scopes.Scope) → Wide scope s → Bound (walk columns tree scope) → BindingsIn tree (walk columns tree scope) s
       bindings-in noBinding bound o scope s wide free = record { unfit-is = none-in scope s; wide-after = wide }
@@ -333,28 +316,20 @@ module _ (columns : ℕ → ℕ) (relations : ℕ) where
 
       condition-in : {tree : Tree} → ConditionTree relations tree → (bound : ℕ) → Ordered bound tree → (scope : List ℕ) (s : scopes.Scope) → Wide scope s → Bound (walk columns tree scope) → walk columns tree scope .unfit ≡ lowestIn tree s
       condition-in (atomTree {i = i} {atom = atom} small fits) bound o scope s wide free =
-          node-in i (AtomNode atom) nothing nothing nothing scope s (λ e. small) (inl (atom-same wide columns atom fits)) (none-in scope s) (none-in scope s) (none-in scope s)
-      condition-in (bothTree {i = i} {a = a} {b = b} {x = x} {y = y} small f g) bound o scope s wide free =
-          let n = bound-node i (And a b) x y nothing scope small free in
-          node-in i (And a b) x y nothing scope s (λ e. small) (inl refl) (condition-in f i (o .2) scope s wide (n .bound-first)) (condition-in g i (o .3) scope s wide (n .bound-second)) (none-in scope s)
-      condition-in (eitherTree {i = i} {a = a} {b = b} {x = x} {y = y} small f g) bound o scope s wide free =
-          let n = bound-node i (Or a b) x y nothing scope small free in
-          node-in i (Or a b) x y nothing scope s (λ e. small) (inl refl) (condition-in f i (o .2) scope s wide (n .bound-first)) (condition-in g i (o .3) scope s wide (n .bound-second)) (none-in scope s)
-      condition-in (notTree {i = i} {a = a} {x = x} small f) bound o scope s wide free =
-          let n = bound-node i (Not a) x nothing nothing scope small free in
-          node-in i (Not a) x nothing nothing scope s (λ e. small) (inl refl) (condition-in f i (o .2) scope s wide (n .bound-first)) (none-in scope s) (none-in scope s)
-      condition-in (someTree {i = i} {v = v} {a = a} {b = b} {x = x} {y = y} small inside r f) bound o scope s wide free =
-          let w : ℕ = walk columns x scope .width in
-          let n = bound-node i (Some v a b) x y nothing scope small free in
-          let R = range-in r i (o .2) scope [] (n .bound-first) in
-          let next = wide-bind v w (widthOf columns x) wide inside (new-variable wide v inside (n .here)) (R .some) (R .alike) in
-          node-in i (Some v a b) x y nothing scope s (λ e. small) (inl (columns-same wide w (widthOf columns x) (R .alike))) (R .unfit-is) (condition-in f i (o .3) (bind scope v w) (extend s v (widthOf columns x)) next (n .bound-second)) (none-in (bind scope v w) (extend s v (widthOf columns x)))
-      condition-in (everyTree {i = i} {v = v} {a = a} {b = b} {x = x} {y = y} small inside r f) bound o scope s wide free =
-          let w : ℕ = walk columns x scope .width in
-          let n = bound-node i (Every v a b) x y nothing scope small free in
-          let R = range-in r i (o .2) scope [] (n .bound-first) in
-          let next = wide-bind v w (widthOf columns x) wide inside (new-variable wide v inside (n .here)) (R .some) (R .alike) in
-          node-in i (Every v a b) x y nothing scope s (λ e. small) (inl (columns-same wide w (widthOf columns x) (R .alike))) (R .unfit-is) (condition-in f i (o .3) (bind scope v w) (extend s v (widthOf columns x)) next (n .bound-second)) (none-in (bind scope v w) (extend s v (widthOf columns x)))
+          node-in i (Compares atom) nothing nothing nothing scope s (λ e. small) (inl (atom-same wide columns atom fits)) (none-in scope s) (none-in scope s) (none-in scope s)
+      condition-in (joinedTree {i = i} {k = k} {x = x} {y = y} small joins f g) bound o scope s wide free =
+          let n = bound-node i (Connects k) x y nothing scope small free in
+          node-in i (Connects k) x y nothing scope s (λ e. small) (inl refl) (condition-in f i (o .1) scope s wide (n .bound-a)) (condition-in g i (o .2) scope s wide (n .bound-b)) (none-in scope s)
+      condition-in (notTree {i = i} {x = x} small f) bound o scope s wide free =
+          let n = bound-node i (Connects Not) x nothing nothing scope small free in
+          node-in i (Connects Not) x nothing nothing scope s (λ e. small) (inl refl) (condition-in f i (o .1) scope s wide (n .bound-a)) (none-in scope s) (none-in scope s)
+      condition-in (quantifierTree {i = i} {v = v} {q = q} {y = y} {z = z} small inside r f) bound o scope s wide free =
+          let w : ℕ = walk columns y scope .width in
+          let next : scopes.Scope = extend s v (widthOf columns y) in
+          let n = bound-node i (Binds v (Quantifies q)) nothing y z scope small free in
+          let R = range-in r i (o .2) scope [] (n .bound-b) in
+          let F = condition-in f i (o .3) (bind scope v w) next (wide-bind v w (widthOf columns y) wide inside (new-variable wide v inside (n .here)) (R .some) (R .alike)) (n .bound-c) in
+          node-in i (Binds v (Quantifies q)) nothing y z scope s (λ e. small) (inl (columns-same wide w (widthOf columns y) (R .alike))) (none-in (bind scope v w) _) (R .unfit-is) F
 
       maybe-in : {tree : Tree} → ConditionIfAny relations tree → (bound : ℕ) → Ordered bound tree → (scope : List ℕ) (s : scopes.Scope) → Wide scope s → Bound (walk columns tree scope) → walk columns tree scope .unfit ≡ lowestIn tree s
       maybe-in withoutCondition bound o scope s wide free = none-in scope s

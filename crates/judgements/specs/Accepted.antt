@@ -31,12 +31,12 @@ pub record TableRight (catalogue words : List ℕ) : Type 0 where
   -- 1: "node words not a multiple of 6, or 0 or over 64 nodes"
   pub count : countOk words ≡ true
   -- 2: "a word breaks the node's form"
-  pub formed : (i : ℕ) → i < nodeCount words → isIllFormed (nodeAt words i) ≡ false
+  pub formed : (i : ℕ) → i < nodeCount words → isIllFormed (nodeAt words i .form) ≡ false
   -- 3: "a node but the last isn't referenced exactly once; else the last isn't an alpha"
   pub once : (j : ℕ) → j < lastNode words → seen (referencesTo words (nodeCount words)) j ≡ 1
-  pub alpha : isAlpha (nodeAt words (lastNode words)) ≡ true
+  pub alpha : isAlpha (nodeAt words (lastNode words) .form) ≡ true
   -- 4: "unknown relation"
-  pub known : (i : ℕ) → i < nodeCount words → isUnknown (relationsOf catalogue) (nodeAt words i) ≡ false
+  pub known : (i : ℕ) → i < nodeCount words → isUnknown (relationsOf catalogue) (nodeAt words i .form) ≡ false
 
 -- A judgement accepts a table exactly when lines 1 to 4 are not given and the tree is in good form: 5 and 6 refuse all else, and nothing more. Proved in
 -- proofs/FaultsDecide.antt of the judgement by faults, and in proofs/Accepted.antt of the walk's.

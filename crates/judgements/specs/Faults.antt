@@ -11,9 +11,8 @@ use Rattle.catalogue.specs.Stored.{columnsOf}
 use Rattle.nodes.specs.Nodes.{nodeCount, nodeAt}
 use Rattle.nodes.specs.References.{lowest}
 use Rattle.question.specs.Trees.{Tree, nothing, branch, reading, questionTree}
-use Rattle.nodes.specs.Roles.{roleOf}
-use Rattle.nodes.specs.declared.roles.Role.{Role}
-use Rattle.nodes.specs.declared.roles.Role.the-variants.{Stored, Opens, Takes, Binds, Sides, Compares, Joins}
+use Rattle.nodes.specs.declared.node.Form.{Form}
+use Rattle.nodes.specs.declared.node.Form.the-variants.{Table, Alpha, Target, Binds, Combines, Compares, Connects, IllFormed}
 use Rattle.question.specs.Judgement.{countOk, isAlpha, lowestIllFormed, lastNode, lowestNotOnce, lowestUnknown}
 use Rattle.nodes.specs.declared.node.Operand.{Operand}
 use Rattle.nodes.specs.declared.node.Operand.the-variants.{Of, Fixed}
@@ -24,16 +23,17 @@ abbrev pub inScope : Scope → ℕ → Bool
 inScope [] variable = false
 inScope (entry x width ∷ s) variable = eqb variable x || inScope s variable
 
--- The scope that a node's first part sees, where the node stands in s. "A range sees no variable of its surroundings", and an alpha's
+-- The scope that a node's b sees, where the node stands in s. "A range sees no variable of its surroundings", and an alpha's
 -- first binding none.
-abbrev pub firstSees : Role → Scope → Scope
-firstSees (Stored relation) s = s
-firstSees Opens s = []
-firstSees (Takes operand) s = s
-firstSees (Binds variable) s = []
-firstSees Sides s = []
-firstSees (Compares left right) s = s
-firstSees Joins s = s
+abbrev pub boundSees : Form → Scope → Scope
+boundSees (Table relation) s = s
+boundSees Alpha s = []
+boundSees (Target variable attribute) s = s
+boundSees (Binds variable binder) s = []
+boundSees (Combines combination) s = []
+boundSees (Compares atom) s = s
+boundSees (Connects connective) s = s
+boundSees IllFormed s = s
 
 abbrev pub operandUnbound : Scope → Operand → Bool
 operandUnbound s (Of variable attribute) = not (inScope s variable)
@@ -51,43 +51,45 @@ module _ (columns : ℕ → ℕ) where
   abbrev pub boundBy : Tree → Scope
   boundBy bindings = scopeOfBindings columns (reading bindings .bindings) []
 
-  -- The scope that the other parts see, behind the first: an alpha's targets and condition see what all its bindings bind;
+  -- The scope that its a and c see, behind b: an alpha's targets and condition see what all its bindings bind;
   -- "along a chain each binding's variable and columns join those bound before it", as a quantifier's do for its condition.
-  abbrev pub restSee : Role → (first : Tree) → Scope → Scope
-  restSee (Stored relation) first s = s
-  restSee Opens first s = boundBy first
-  restSee (Takes operand) first s = s
-  restSee (Binds variable) first s = extend s variable (widthOf first)
-  restSee Sides first s = []
-  restSee (Compares left right) first s = s
-  restSee Joins first s = s
+  abbrev pub othersSee : Form → (b : Tree) → Scope → Scope
+  othersSee (Table relation) b s = s
+  othersSee Alpha b s = boundBy b
+  othersSee (Target variable attribute) b s = s
+  othersSee (Binds variable binder) b s = extend s variable (widthOf b)
+  othersSee (Combines combination) b s = []
+  othersSee (Compares atom) b s = s
+  othersSee (Connects connective) b s = s
+  othersSee IllFormed b s = s
 
   -- Node j of a tree, which stands in s, has the fault in the scope in which node j stands.
-  unfoldable pub faultAt : (Role → (first second : Tree) → Scope → Bool) → Tree → Scope → ℕ → Bool
+  unfoldable pub faultAt : (Form → (a b : Tree) → Scope → Bool) → Tree → Scope → ℕ → Bool
   faultAt fault nothing s j = false
-  faultAt fault (branch i node first second third) s j =
-      (eqb i j && fault (roleOf node) first second s)
-      || (faultAt fault first (firstSees (roleOf node) s) j || (faultAt fault second (restSee (roleOf node) first s) j || faultAt fault third (restSee (roleOf node) first s) j))
+  faultAt fault (branch i form a b c) s j =
+      (eqb i j && fault form a b s) || (faultAt fault a (othersSee form b s) j || (faultAt fault b (boundSees form s) j || faultAt fault c (othersSee form b s) j))
 
   -- 5: "variable not in scope, or bound while in scope"
-  abbrev pub unbound : Role → (first second : Tree) → Scope → Bool
-  unbound (Stored relation) first second s = false
-  unbound Opens first second s = false
-  unbound (Takes operand) first second s = operandUnbound s operand
-  unbound (Binds variable) first second s = inScope s variable
-  unbound Sides first second s = false
-  unbound (Compares left right) first second s = operandUnbound s left || operandUnbound s right
-  unbound Joins first second s = false
+  abbrev pub unbound : Form → (a b : Tree) → Scope → Bool
+  unbound (Table relation) a b s = false
+  unbound Alpha a b s = false
+  unbound (Target variable attribute) a b s = not (inScope s variable)
+  unbound (Binds variable binder) a b s = inScope s variable
+  unbound (Combines combination) a b s = false
+  unbound (Compares atom) a b s = not (inScope s (atom .variable)) || operandUnbound s (atom .operand)
+  unbound (Connects connective) a b s = false
+  unbound IllFormed a b s = false
 
   -- 6: "range sides differ in width; attribute beyond its variable; columns in scope, or an alpha's width, over 32"
-  abbrev pub unfit : Role → (first second : Tree) → Scope → Bool
-  unfit (Stored relation) first second s = false
-  unfit Opens first second s = ltb columnLimit (targetsWidth (boundBy first) (reading second .targets))
-  unfit (Takes operand) first second s = operandUnfit s operand
-  unfit (Binds variable) first second s = ltb columnLimit (columnsIn s + widthOf first)
-  unfit Sides first second s = not (eqb (widthOf first) (widthOf second))
-  unfit (Compares left right) first second s = operandUnfit s left || operandUnfit s right
-  unfit Joins first second s = false
+  abbrev pub unfit : Form → (a b : Tree) → Scope → Bool
+  unfit (Table relation) a b s = false
+  unfit Alpha a b s = ltb columnLimit (targetsWidth (boundBy b) (reading a .targets))
+  unfit (Target variable attribute) a b s = ltb (widthIn s variable) (attribute .0)
+  unfit (Binds variable binder) a b s = ltb columnLimit (columnsIn s + widthOf b)
+  unfit (Combines combination) a b s = not (eqb (widthOf a) (widthOf b))
+  unfit (Compares atom) a b s = ltb (widthIn s (atom .variable)) (atom .attribute .0) || operandUnfit s (atom .operand)
+  unfit (Connects connective) a b s = false
+  unfit IllFormed a b s = false
 
 module _ (catalogue words : List ℕ) where
   -- "lowest node"
@@ -104,7 +106,7 @@ module _ (catalogue words : List ℕ) where
       cond (countOk words)
       (cond (ltb (lowestIllFormed words) (nodeCount words)) (Refused 2 (lowestIllFormed words))
       (cond (ltb (lowestNotOnce words) (lastNode words)) (Refused 3 (lowestNotOnce words))
-      (cond (isAlpha (nodeAt words (lastNode words)))
+      (cond (isAlpha (nodeAt words (lastNode words) .form))
       (cond (ltb (lowestUnknown catalogue words) (nodeCount words)) (Refused 4 (lowestUnknown catalogue words))
       (cond (ltb lowestUnbound (nodeCount words)) (Refused 5 lowestUnbound)
       (cond (ltb lowestUnfit (nodeCount words)) (Refused 6 lowestUnfit)
