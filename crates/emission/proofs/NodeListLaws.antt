@@ -17,10 +17,10 @@ use Rattle.relations.proofs.ListLaws.{length-flat}
 use Rattle.relations.proofs.PlanWordsBack.{attributes-back, triples-back, pairs-back}
 use Rattle.relations.proofs.StoreLaws.{sets-append}
 use Rattle.emission.specs.NodeLists.{padded, nodeList, grownBy, numbersOf, attributesIn, knownTriples, triplesIn, pairsIn, ListsAttributes, ListsTriples, ListsPairs}
-use Rattle.emission.specs.Joins.{pairingNumber, paired, linked, linkingNumber, linkingUnit, ListsFor}
+use Rattle.emission.specs.Joins.{combinationNumber, paired, linked, linkingNumber, linkingUnit, ListsFor}
 use Rattle.emission.specs.declared.node_list.NodeList.{NodeList}
-use Rattle.emission.specs.declared.emit.Pairing.{Pairing}
-use Rattle.emission.specs.declared.emit.Pairing.the-variants.{Unite, Intersect, Subtract}
+use Rattle.nodes.specs.declared.node.Combination.{Combination}
+use Rattle.nodes.specs.declared.node.Combination.the-variants.{Or, And, AndNot}
 use Rattle.emission.specs.declared.emit.Linking.{Linking}
 use Rattle.emission.specs.declared.emit.Linking.the-variants.{Semijoin, Antijoin, Divide}
 
@@ -147,10 +147,10 @@ getD-behind [] place h = refl
 getD-behind (word ∷ list) zero h = absurd (omega arith)
 getD-behind (word ∷ list) (suc place) h = getD-behind list place (omega arith)
 
-pub pair-words : (how : Pairing) (left right : ℕ) → pairingNumber how ∷ left ∷ right ∷ 0 ∷ padded (0 ∷ []) ≡ nodeWords (paired how left right)
-pair-words Unite left right = refl
-pair-words Intersect left right = refl
-pair-words Subtract left right = refl
+pub pair-words : (how : Combination) (left right : ℕ) → combinationNumber how ∷ left ∷ right ∷ 0 ∷ padded (0 ∷ []) ≡ nodeWords (paired how left right)
+pair-words Or left right = refl
+pair-words And left right = refl
+pair-words AndNot left right = refl
 
 -- the first columns, listed
 pub first-listed : (columns : ℕ) {nothing list : NodeList} → columns ≤ listWords → nothing ≡ nodeList [] → list ≡ grownBy nothing (numbersOf (allColumns columns)) → list ≡ nodeList (numbersOf (allColumns columns))

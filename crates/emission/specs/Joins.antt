@@ -5,18 +5,18 @@ use Rattle.relations.specs.Nodes.{Node, semijoin, antijoin, divide, unite, inte
 use Rattle.relations.specs.PlanWords.{shapeOf}
 use Rattle.emission.specs.NodeLists.{triplesIn, pairsIn, ListsTriples, ListsPairs, nodeList}
 use Rattle.emission.specs.declared.node_list.NodeList.{NodeList}
-use Rattle.emission.specs.declared.emit.Pairing.{Pairing}
-use Rattle.emission.specs.declared.emit.Pairing.the-variants.{Unite, Intersect, Subtract}
+use Rattle.nodes.specs.declared.node.Combination.{Combination}
+use Rattle.nodes.specs.declared.node.Combination.the-variants.{Or, And, AndNot}
 use Rattle.emission.specs.declared.emit.Linking.{Linking}
 use Rattle.emission.specs.declared.emit.Linking.the-variants.{Semijoin, Antijoin, Divide}
 
-abbrev pub paired : Pairing → ℕ → ℕ → Node
-paired Unite left right = unite left right
-paired Intersect left right = intersect left right
-paired Subtract left right = subtract left right
+abbrev pub paired : Combination → ℕ → ℕ → Node
+paired Or left right = unite left right
+paired And left right = intersect left right
+paired AndNot left right = subtract left right
 
-abbrev pub pairingNumber : Pairing → ℕ
-pairingNumber how = operationNumber (operationOfNode (paired how 0 0))
+abbrev pub combinationNumber : Combination → ℕ
+combinationNumber how = operationNumber (operationOfNode (paired how 0 0))
 
 abbrev pub linked : Linking → ℕ → ℕ → NodeList → Node
 linked Semijoin left right list = semijoin left right (triplesIn list)

@@ -7,13 +7,14 @@ ghost use lib.Seq.{sets};
 ghost use Rattle.relations.specs.Limits.{listWords, planNodeWords};
 ghost use Rattle.relations.specs.Nodes as nodes;
 ghost use Rattle.calculus.specs.Scope.{allColumns};
-ghost use Rattle.emission.specs.Joins.{pairingNumber, paired, linkingNumber, linkingUnit, linked, ListsFor};
+ghost use Rattle.emission.specs.Joins.{combinationNumber, paired, linkingNumber, linkingUnit, linked, ListsFor};
 ghost use Rattle.emission.specs.NodeLists.{padded, attributesIn, ListsAttributes};
 ghost use Rattle.emission.specs.Selects.{NamesOperator, selecting};
 ghost use Rattle.emission.specs.Written.{Room, Written};
 use crate::node_list::NodeList;
 use crate::node_list::no_list;
 use crate::node_list::with_columns;
+use nodes::node::Combination;
 use relations::limits::HEAD_WORDS;
 use relations::limits::LIST_WORDS;
 use relations::limits::PAIR_WORDS;
@@ -118,28 +119,22 @@ pub fn product(plan: &mut [u32], n: u32, left: u32, right: u32) -> u32
     push(plan, n, 5, left, right, 0, &[0u32; 1])
 }
 
-// The operations on two values of one width.
-pub enum Pairing {
-    Unite,
-    Intersect,
-    Subtract,
-}
-
-fn pairing_number(how: Pairing) -> u32
-    ensures { λ r. ⌜ r ≡ pairingNumber how ⌝ }
+// Operations 9, 10 and 11: the rows of either side, of both, of the left side and not the right.
+fn combination_number(how: Combination) -> u32
+    ensures { λ r. ⌜ r ≡ combinationNumber how ⌝ }
 {
     match how {
-        Pairing::Unite => 9,
-        Pairing::Intersect => 10,
-        Pairing::Subtract => 11,
+        Combination::Or => 9,
+        Combination::And => 10,
+        Combination::AndNot => 11,
     }
 }
 
-pub fn pair(plan: &mut [u32], n: u32, how: Pairing, left: u32, right: u32) -> u32
+pub fn pair(plan: &mut [u32], n: u32, how: Combination, left: u32, right: u32) -> u32
     requires { ⌜ Room (now plan) n 1 ⌝ }
     ensures { λ r. ⌜ Written (now (plan .entry)) n (paired how left right ∷ []) (now (plan .exit)) r ⌝ }
 {
-    push(plan, n, pairing_number(how), left, right, 0, &[0u32; 1])
+    push(plan, n, combination_number(how), left, right, 0, &[0u32; 1])
 }
 
 // The operations on two values with a list of triples, or of pairs.

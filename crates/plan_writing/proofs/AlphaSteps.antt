@@ -19,7 +19,9 @@ use Rattle.calculus.proofs.SizeTheorem.{range-size, bindings-size, maybe-size}
 use Rattle.catalogue.specs.Stored.{relationsOf, columnsOf}
 use Rattle.nodes.specs.Nodes.{nodeAt}
 use Rattle.question.specs.Trees.{alphaOf}
-use Rattle.nodes.specs.declared.node.Node.the-variants.{Binding}
+use Rattle.nodes.specs.declared.node.Binder.the-variants.{Binding}
+use Rattle.nodes.specs.declared.node.Form.the-variants.{Binds}
+use Rattle.conditions.proofs.Readings.{made}
 use Rattle.conditions.specs.Readings.{Inside, Names, rangeAt, targetsAt, bindingsAt, restrictionAt}
 use Rattle.conditions.specs.Scopes.{noVariables, scopeOf, ScopeFits, Extended}
 use Rattle.plan_writing.specs.Translating.{translateWanted, RangeReady, RangeDone, BindingsReady, BindingsDone, ConditionReady, TargetsReady, TargetsDone}
@@ -40,7 +42,7 @@ pub record AlphaAsked (catalogue words plan : List ℕ) (t n target binding cond
   pub condition-inside : Inside words condition
   pub ready : RangeReady catalogue plan (alpha (targetsAt words target) variable (rangeAt words range) (bindingsAt words next) (restrictionAt words condition)) n
 
-pub alpha-asked : {catalogue plan : List ℕ} (words : List ℕ) {t n binding variable range next : ℕ} (target condition : ℕ) → Binding variable range next ≡ nodeAt words (binding - 1)
+pub alpha-asked : {catalogue plan : List ℕ} (words : List ℕ) {t n binding variable a range next : ℕ} (target condition : ℕ) → made (Binds variable Binding) a range next ≡ nodeAt words (binding - 1)
     → (2 * max binding condition + 1 ≡ t) × (Inside words target × Names words binding × Inside words condition × RangeReady catalogue plan (alphaOf (targetsAt words target) (bindingsAt words binding) (restrictionAt words condition)) n)
     → AlphaAsked catalogue words plan t n target binding condition variable range next
 alpha-asked {catalogue} {plan} words {n = n} target condition e asked =

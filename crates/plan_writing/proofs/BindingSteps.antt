@@ -1,10 +1,9 @@
 -- Translating bindings: what each asks for, and what the chain leaves. Assumes nothing.
 use Prim.Native.Nat.{ℕ, _+_, _*_, _-_, _≤_, _<_}
 use mathlib.Core.Path.{_≡_, refl, sym, ap, ap₂, subst, _∙_}
-use mathlib.Core.Bool.{Bool, _||_}
+use mathlib.Core.Bool.{Bool}
 use mathlib.Core.List.{List, [], _∷_}
 use native.Mathlib.Omega.{arith}
-use lib.Dec.{ltb, eqb}
 use borrow.Author.Tests.{ltb-true}
 use Rattle.relations.specs.Limits.{columnLimit, variableCount}
 use Rattle.relations.specs.Nodes.{join}
@@ -15,15 +14,19 @@ use Rattle.calculus.specs.Translation.{translateBindings}
 use Rattle.calculus.proofs.SizeTheorem.{range-size}
 use Rattle.catalogue.specs.Stored.{relationsOf, columnsOf}
 use Rattle.nodes.specs.Kinds.{isBinding, isRange}
-use Rattle.nodes.specs.Nodes.{kindNamed, nodeAt}
-use Rattle.nodes.specs.declared.node.Node.the-variants.{Binding}
-use Rattle.nodes.proofs.Forms.{lower, first-of, second-of, references-lower}
-use Rattle.conditions.specs.Readings.{Inside, Names, rangeAt, bindingsAt}
+use Rattle.nodes.specs.Nodes.{nodeAt, VariablesFit}
+use Rattle.nodes.specs.declared.node.Binder.the-variants.{Binding, Quantifies}
+use Rattle.nodes.specs.declared.node.Form.{Form}
+use Rattle.nodes.specs.declared.node.Form.the-variants.{Table, Alpha, Target, Binds, Combines, Compares, Connects, IllFormed}
+use Rattle.nodes.specs.declared.node.Node.{Node}
+use Rattle.question.specs.Trees.{Reading, readingOf}
+use Rattle.nodes.proofs.Forms.{lower, lower-if-any, node-variables}
+use Rattle.conditions.specs.Readings.{Inside, Names, readingAt, rangeAt, bindingsAt}
 use Rattle.conditions.specs.Scopes.{withVariable, scopeOf, ScopeFits, Extended}
-use Rattle.plan_writing.specs.Translating.{withBindings, RangeReady, RangeDone, BindingsReady, BindingsDone}
+use Rattle.plan_writing.specs.Translating.{bindingVariable, withBindings, RangeReady, RangeDone, BindingsReady, BindingsDone}
 use Rattle.emission.specs.Written.{Room, Written}
 use Rattle.plan_writing.specs.declared.translate.MadeRange.{MadeRange}
-use Rattle.conditions.proofs.Readings.{Below, fits-in, bindings-is}
+use Rattle.conditions.proofs.Readings.{made, made-is, Below, fits-in, bindings-is}
 use Rattle.plan_writing.proofs.RangeSteps.{lower-call, range-wide}
 use Rattle.emission.proofs.WrittenLaws.{written-nothing, written-then, room-after, room-less, written-as, going-on}
 
@@ -35,17 +38,48 @@ pub record Chain (words : List ℕ) (reference variable range next : ℕ) : Type
   pub next-below : next ≤ reference - 1
   pub reads : bindingsAt words reference ≡ bind variable (rangeAt words range) (bindingsAt words next)
 
-pub chain : (words : List ℕ) {reference variable range next : ℕ} → 1 ≤ reference → Binding variable range next ≡ nodeAt words (reference - 1) → Chain words reference variable range next
-chain words {reference} {variable} {range} {next} named e =
+pub chain : (words : List ℕ) {reference variable a range next : ℕ} → 1 ≤ reference → made (Binds variable Binding) a range next ≡ nodeAt words (reference - 1) → Chain words reference variable range next
+chain words {reference} {variable} {a} {range} {next} named e =
     let i : ℕ = reference - 1 in
     let fit = fits-in words i e in
     record {
       named = named;
-      variable-known = ltb-true variable variableCount (first-of (ltb variable variableCount) (isRange (kindNamed words i range)) (eqb next 0 || isBinding (kindNamed words i next)) fit);
-      range-below = lower words i range isRange refl (second-of (ltb variable variableCount) (isRange (kindNamed words i range)) (eqb next 0 || isBinding (kindNamed words i next)) fit);
-      next-below = references-lower words i (Binding variable range next) fit .second-lower;
-      reads = bindings-is words reference (Binding variable range next) named e;
+      variable-known = ltb-true variable variableCount (fit .words-fit);
+      range-below = lower words i range isRange refl (fit .b-fits);
+      next-below = lower-if-any words i next isBinding refl (fit .c-fits);
+      reads = bindings-is words reference (made (Binds variable Binding) a range next) named e;
     }
+
+-- a decoded node, by the variable that the code asks for: it is a binding, or it reads as none
+binding-is : (form : Form) → bindingVariable form < variableCount → form ≡ Binds (bindingVariable form) Binding
+binding-is (Table relation) h = absurd (omega arith)
+binding-is Alpha h = absurd (omega arith)
+binding-is (Target variable attribute) h = absurd (omega arith)
+binding-is (Binds variable Binding) h = refl
+binding-is (Binds variable (Quantifies quantifier)) h = absurd (omega arith)
+binding-is (Combines combination) h = absurd (omega arith)
+binding-is (Compares atom) h = absurd (omega arith)
+binding-is (Connects connective) h = absurd (omega arith)
+binding-is IllFormed h = absurd (omega arith)
+
+no-binding : (form : Form) (a b c : Reading) → VariablesFit form → variableCount ≤ bindingVariable form → readingOf form a b c .bindings ≡ noMore
+no-binding (Table relation) a b c fits h = refl
+no-binding Alpha a b c fits h = refl
+no-binding (Target variable attribute) a b c fits h = refl
+no-binding (Binds variable Binding) a b c fits h = absurd (omega (arith, fits))
+no-binding (Binds variable (Quantifies quantifier)) a b c fits h = refl
+no-binding (Combines combination) a b c fits h = refl
+no-binding (Compares atom) a b c fits h = refl
+no-binding (Connects connective) a b c fits h = refl
+no-binding IllFormed a b c fits h = refl
+
+module _ (words : List ℕ) (reference : ℕ) {node : Node} {variable : ℕ} (e : node ≡ nodeAt words (reference - 1)) (v : variable ≡ bindingVariable (node .form)) where
+  pub binding-made : variable < variableCount → made (Binds variable Binding) (node .a) (node .b) (node .c) ≡ nodeAt words (reference - 1)
+  binding-made small = rw v (made-is words (reference - 1) (binding-is (node .form) (rw v at small)) e)
+
+  pub none-bound : 1 ≤ reference → variableCount ≤ variable → bindingsAt words reference ≡ noMore
+  none-bound named large =
+      bindings-is words reference node named e ∙ no-binding (node .form) (readingAt words (node .a)) (readingAt words (node .b)) (readingAt words (node .c)) (rw e (node-variables words (reference - 1))) (rw v at large)
 
 -- the parts of a good chain
 record Parts (catalogue : List ℕ) (scope : List ℕ) (variable : ℕ) (range : Range) (rest : Bindings) : Type 0 where

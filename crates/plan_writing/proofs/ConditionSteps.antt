@@ -16,21 +16,22 @@ use Rattle.calculus.specs.Translation.{Wanted, itself, itsOpposite, divisionBy,
 use Rattle.calculus.proofs.SizeTheorem.{condition-size}
 use Rattle.nodes.specs.Nodes.{nodeAt}
 use Rattle.catalogue.specs.Stored.{relationsOf, columnsOf}
-use Rattle.question.specs.Trees.{atomOf}
-use Rattle.nodes.specs.declared.node.Node.the-variants.{Atom as AtomNode, And, Or, Not, Some, Every}
+use Rattle.question.specs.Trees.{atomOf, quantified}
+use Rattle.nodes.specs.declared.node.Connective.the-variants.{And, Or, Not}
+use Rattle.nodes.specs.declared.node.Quantifier.{Quantifier}
+use Rattle.nodes.specs.declared.node.Binder.the-variants.{Quantifies}
+use Rattle.nodes.specs.declared.node.Form.the-variants.{Binds, Compares, Connects}
 use Rattle.nodes.specs.declared.node.Atom as question-atom
 use Rattle.conditions.specs.Readings.{Names, rangeAt, restrictionAt, conditionAt}
 use Rattle.conditions.specs.Scopes.{scopeOf}
 use Rattle.conditions.specs.Atoms.{AtomNarrow}
 use Rattle.rule_writing.specs.Rules.{atomNodes}
 use Rattle.emission.specs.Written.{Room, Written}
-use Rattle.plan_writing.specs.Quantifying.{wantedIn, oppositeWanted, oppositeIf, quantified}
+use Rattle.plan_writing.specs.Quantifying.{wantedIn, oppositeWanted, oppositeIf}
 use Rattle.plan_writing.specs.Translating.{translateWanted, ConditionReady}
 use Rattle.plan_writing.specs.declared.quantifying.Wanted as code
 use Rattle.plan_writing.specs.declared.quantifying.Wanted.the-variants.{Itself, Opposite, Division}
-use Rattle.plan_writing.specs.declared.quantifying.Quantifier.{Quantifier}
-use Rattle.plan_writing.specs.declared.quantifying.Quantifier.the-variants.{Some as OfSome, Every as OfEvery}
-use Rattle.conditions.proofs.Readings.{Part, and-parts, or-parts, not-part, some-variable, every-variable, some-parts, every-parts, restriction-is}
+use Rattle.conditions.proofs.Readings.{made, Part, and-parts, or-parts, not-part, binder-variable, quantifier-parts, restriction-is}
 use Rattle.conditions.proofs.OtherNodes.{restriction-good}
 use Rattle.conditions.proofs.LeafLaws.{found-narrow}
 use Rattle.emission.proofs.WrittenLaws.{written-then, written-nothing, room-after, room-less, last-is, written-as, going-on}
@@ -200,35 +201,30 @@ pub record Quantified (quantifier : Quantifier) (variable range condition : ℕ)
   pub ready : ConditionReady catalogue plan wanted (onCondition (quantified quantifier variable (rangeAt words range) (conditionAt words condition))) scope n
 
 module _ {catalogue words plan scope : List ℕ} {reference n : ℕ} (wanted : Wanted) (h : Names words reference) (r : ConditionReady catalogue plan wanted (restrictionAt words reference) scope n) where
-  pub atom-step : {found : question-atom.Atom} → AtomNode found ≡ nodeAt words (reference - 1) → AtomHere found words plan reference n
-  atom-step {found} e =
-      let reads = restriction-is words reference (AtomNode found) (h .0) e in
+  pub atom-step : {found : question-atom.Atom} {a b c : ℕ} → made (Compares found) a b c ≡ nodeAt words (reference - 1) → AtomHere found words plan reference n
+  atom-step {found} {a} {b} {c} e =
+      let reads = restriction-is words reference (made (Compares found) a b c) (h .0) e in
       record { reads = reads; narrow = found-narrow words (reference - 1) e refl; room = atom-room (plain-ready wanted _ (λ y. refl) (ready-as (sym reads) r)) }
 
-  pub and-step : {left right : ℕ} → And left right ≡ nodeAt words (reference - 1) → TwoSides conditionAnd left right catalogue words plan scope reference n
-  and-step {left} {right} e =
-      let reads = restriction-is words reference (And left right) (h .0) e in
+  pub and-step : {left right c : ℕ} → made (Connects And) left right c ≡ nodeAt words (reference - 1) → TwoSides conditionAnd left right catalogue words plan scope reference n
+  and-step {left} {right} {c} e =
+      let reads = restriction-is words reference (made (Connects And) left right c) (h .0) e in
       record { reads = reads; parts = and-parts words reference h e; ready = and-ready (plain-ready wanted _ (λ y. refl) (ready-as (sym reads) r)) }
 
-  pub or-step : {left right : ℕ} → Or left right ≡ nodeAt words (reference - 1) → TwoSides conditionOr left right catalogue words plan scope reference n
-  or-step {left} {right} e =
-      let reads = restriction-is words reference (Or left right) (h .0) e in
+  pub or-step : {left right c : ℕ} → made (Connects Or) left right c ≡ nodeAt words (reference - 1) → TwoSides conditionOr left right catalogue words plan scope reference n
+  or-step {left} {right} {c} e =
+      let reads = restriction-is words reference (made (Connects Or) left right c) (h .0) e in
       record { reads = reads; parts = or-parts words reference h e; ready = or-ready (plain-ready wanted _ (λ y. refl) (ready-as (sym reads) r)) }
 
-  pub not-step : {inner : ℕ} → Not inner ≡ nodeAt words (reference - 1) → OneInner inner catalogue words plan scope reference n
-  not-step {inner} e =
-      let reads = restriction-is words reference (Not inner) (h .0) e in
+  pub not-step : {inner b c : ℕ} → made (Connects Not) inner b c ≡ nodeAt words (reference - 1) → OneInner inner catalogue words plan scope reference n
+  not-step {inner} {b} {c} e =
+      let reads = restriction-is words reference (made (Connects Not) inner b c) (h .0) e in
       record { reads = reads; part = not-part words reference h e; ready = not-ready (plain-ready wanted _ (λ y. refl) (ready-as (sym reads) r)) }
 
-  pub some-step : {variable range condition : ℕ} → Some variable range condition ≡ nodeAt words (reference - 1) → Quantified OfSome variable range condition catalogue words plan wanted scope reference n
-  some-step {variable} {range} {condition} e =
-      let reads = restriction-is words reference (Some variable range condition) (h .0) e in
-      record { reads = reads; known = some-variable words reference h e; parts = some-parts words reference h e; ready = ready-as (sym reads) r }
-
-  pub every-step : {variable range condition : ℕ} → Every variable range condition ≡ nodeAt words (reference - 1) → Quantified OfEvery variable range condition catalogue words plan wanted scope reference n
-  every-step {variable} {range} {condition} e =
-      let reads = restriction-is words reference (Every variable range condition) (h .0) e in
-      record { reads = reads; known = every-variable words reference h e; parts = every-parts words reference h e; ready = ready-as (sym reads) r }
+  pub quantifier-step : {quantifier : Quantifier} {variable a range condition : ℕ} → made (Binds variable (Quantifies quantifier)) a range condition ≡ nodeAt words (reference - 1) → Quantified quantifier variable range condition catalogue words plan wanted scope reference n
+  quantifier-step {quantifier} {variable} {a} {range} {condition} e =
+      let reads = restriction-is words reference (made (Binds variable (Quantifies quantifier)) a range condition) (h .0) e in
+      record { reads = reads; known = binder-variable words reference h e; parts = quantifier-parts words reference h e; ready = ready-as (sym reads) r }
 
 -- the sides of an "and" or an "or", one written behind the other
 module _ {catalogue words plan scope : List ℕ} {join : Condition → Condition → Condition} {reference n left right : ℕ} (b : TwoSides join left right catalogue words plan scope reference n) where

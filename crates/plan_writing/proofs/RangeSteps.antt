@@ -1,10 +1,9 @@
 -- Translating a range: what its parts ask for, and what the whole leaves. Assumes nothing.
 use Prim.Native.Nat.{ℕ, _+_, _*_, _-_, _≤_, _<_, max}
 use mathlib.Core.Path.{_≡_, refl, sym, ap, subst, _∙_}
-use mathlib.Core.Bool.{Bool, true, _&&_, _||_}
+use mathlib.Core.Bool.{Bool}
 use mathlib.Core.List.{List, [], _∷_, _++_}
 use native.Mathlib.Omega.{arith}
-use lib.Dec.{eqb}
 use lib.ListN.{length}
 use Rattle.relations.specs.Nodes.{Node}
 use Rattle.calculus.specs.Question.{Range, table, alpha, rangeOr, rangeAnd, rangeAndNot, rangeNodes}
@@ -18,18 +17,18 @@ use Rattle.calculus.proofs.SizeTheorem.{range-size}
 use Rattle.judgements.specs.Accepted.{HasColumns}
 use Rattle.catalogue.specs.Stored.{relationsOf, columnsOf}
 use Rattle.nodes.specs.Kinds.{isTarget, isBinding, isRange, isCondition}
-use Rattle.nodes.specs.Nodes.{kindNamed, nodeAt}
-use Rattle.question.specs.Trees.{alphaOf}
-use Rattle.nodes.specs.declared.node.Node.the-variants.{Alpha}
-use Rattle.nodes.proofs.Forms.{lower, second-of, references-lower}
+use Rattle.nodes.specs.Nodes.{nodeAt}
+use Rattle.question.specs.Trees.{alphaOf, combined}
+use Rattle.nodes.specs.declared.node.Form.the-variants.{Alpha, Combines}
+use Rattle.nodes.proofs.Forms.{lower, lower-if-any}
 use Rattle.conditions.specs.Readings.{Inside, Names, rangeAt, targetsAt, bindingsAt, restrictionAt}
-use Rattle.plan_writing.specs.Translating.{rangesBy, RangeReady, RangeDone}
+use Rattle.plan_writing.specs.Translating.{RangeReady, RangeDone}
 use Rattle.emission.specs.Joins.{paired}
 use Rattle.emission.specs.Written.{Room, Written}
-use Rattle.emission.specs.declared.emit.Pairing.{Pairing}
-use Rattle.emission.specs.declared.emit.Pairing.the-variants.{Unite, Intersect, Subtract}
+use Rattle.nodes.specs.declared.node.Combination.{Combination}
+use Rattle.nodes.specs.declared.node.Combination.the-variants.{Or, And, AndNot}
 use Rattle.plan_writing.specs.declared.translate.MadeRange.{MadeRange}
-use Rattle.conditions.proofs.Readings.{Below, fits-in, two-lower, range-is}
+use Rattle.conditions.proofs.Readings.{made, Below, fits-in, range-is}
 use Rattle.emission.proofs.WrittenLaws.{room-after, room-less, last-is, written-as, going-on}
 
 pub some-nodes : (range : Range) → 1 ≤ rangeNodes range
@@ -57,32 +56,32 @@ lower-call words h names below ready = (omega (arith, names .0, below .1), ((bel
 
 -- a range of two ranges: its size, width, good form and nodes, by those of its sides
 module _ (columns : ℕ → ℕ) where
-  sides-size : (how : Pairing) (a b : Range) → rangeNodes (rangesBy how a b) ≡ rangeNodes a + rangeNodes b + 1
+  sides-size : (how : Combination) (a b : Range) → rangeNodes (combined how a b) ≡ rangeNodes a + rangeNodes b + 1
   unfolding rangeNodes
-  sides-size Unite a b = refl
-  sides-size Intersect a b = refl
-  sides-size Subtract a b = refl
+  sides-size Or a b = refl
+  sides-size And a b = refl
+  sides-size AndNot a b = refl
 
-  sides-wide : (how : Pairing) (a b : Range) → widthOfRange columns (rangesBy how a b) ≡ widthOfRange columns a
+  sides-wide : (how : Combination) (a b : Range) → widthOfRange columns (combined how a b) ≡ widthOfRange columns a
   unfolding widthOfRange
-  sides-wide Unite a b = refl
-  sides-wide Intersect a b = refl
-  sides-wide Subtract a b = refl
+  sides-wide Or a b = refl
+  sides-wide And a b = refl
+  sides-wide AndNot a b = refl
 
-  sides-good : (how : Pairing) (relations : ℕ) (a b : Range) → GoodRange columns relations (rangesBy how a b) → GoodRange columns relations a × GoodRange columns relations b
+  sides-good : (how : Combination) (relations : ℕ) (a b : Range) → GoodRange columns relations (combined how a b) → GoodRange columns relations a × GoodRange columns relations b
   unfolding GoodRange
-  sides-good Unite relations a b g = (g .0, g .1)
-  sides-good Intersect relations a b g = (g .0, g .1)
-  sides-good Subtract relations a b g = (g .0, g .1)
+  sides-good Or relations a b g = (g .0, g .1)
+  sides-good And relations a b g = (g .0, g .1)
+  sides-good AndNot relations a b g = (g .0, g .1)
 
-  sides-nodes : (how : Pairing) (short : Bool) (a b : Range) (n : ℕ) → translateRange columns short (rangesBy how a b) n ≡ plainSides (paired how) (λ m. translateRange columns short a m) (λ m. translateRange columns short b m) n
+  sides-nodes : (how : Combination) (short : Bool) (a b : Range) (n : ℕ) → translateRange columns short (combined how a b) n ≡ plainSides (paired how) (λ m. translateRange columns short a m) (λ m. translateRange columns short b m) n
   unfolding translateRange
-  sides-nodes Unite short a b n = refl
-  sides-nodes Intersect short a b n = refl
-  sides-nodes Subtract short a b n = refl
+  sides-nodes Or short a b n = refl
+  sides-nodes And short a b n = refl
+  sides-nodes AndNot short a b n = refl
 
 -- from what the whole was asked with: the calls on the two sides, room for the node behind them, and what is left
-module _ (how : Pairing) (words : List ℕ) (left right : ℕ) {catalogue plan : List ℕ} {t n : ℕ} (asked : (2 * max left right + 1 ≡ t) × (Names words left × Names words right × RangeReady catalogue plan (rangesBy how (rangeAt words left) (rangeAt words right)) n)) where
+module _ (how : Combination) (words : List ℕ) (left right : ℕ) {catalogue plan : List ℕ} {t n : ℕ} (asked : (2 * max left right + 1 ≡ t) × (Names words left × Names words right × RangeReady catalogue plan (combined how (rangeAt words left) (rangeAt words right)) n)) where
   abbrev columns : ℕ → ℕ
   columns = columnsOf catalogue
 
@@ -92,7 +91,7 @@ module _ (how : Pairing) (words : List ℕ) (left right : ℕ) {catalogue plan :
   abbrev b : Range
   b = rangeAt words right
 
-  ready : RangeReady catalogue plan (rangesBy how a b) n
+  ready : RangeReady catalogue plan (combined how a b) n
   ready = asked .1 .2
 
   good : GoodRange columns (relationsOf catalogue) a × GoodRange columns (relationsOf catalogue) b
@@ -112,7 +111,7 @@ module _ (how : Pairing) (words : List ℕ) (left right : ℕ) {catalogue plan :
       pub room-last : Room later (second .count) 1
       room-last = room-after 1 room-right (r .written) (omega (arith, range-size columns short b (first .count)))
 
-      pub sides-done : {after : List ℕ} {count : ℕ} → Written later (second .count) (paired how (first .count - 1) (second .count - 1) ∷ []) after count → RangeDone catalogue short plan (rangesBy how a b) n after (record { count = count; width = first .width })
+      pub sides-done : {after : List ℕ} {count : ℕ} → Written later (second .count) (paired how (first .count - 1) (second .count - 1) ∷ []) after count → RangeDone catalogue short plan (combined how a b) n after (record { count = count; width = first .width })
       sides-done w =
           let T : ℕ → List Node = λ m. translateRange columns short a m in
           let U : ℕ → List Node = λ m. translateRange columns short b m in
@@ -124,13 +123,15 @@ module _ (how : Pairing) (words : List ℕ) (left right : ℕ) {catalogue plan :
           }
 
 -- a node that reads as a range of two
-pub call-sides : (how : Pairing) (catalogue words : List ℕ) {t reference n left right : ℕ} {plan : List ℕ} → rangeAt words reference ≡ rangesBy how (rangeAt words left) (rangeAt words right) → (isRange (kindNamed words (reference - 1) left) && isRange (kindNamed words (reference - 1) right)) ≡ true
-    → (2 * reference ≡ t) × (Names words reference × RangeReady catalogue plan (rangeAt words reference) n) → (2 * max left right + 1 < t) × (Names words left × Names words right × RangeReady catalogue plan (rangesBy how (rangeAt words left) (rangeAt words right)) n)
-call-sides how catalogue words {reference = reference} {n} {left} {right} {plan} e fit asked =
-    let below = two-lower words isRange refl (reference - 1) left right fit in
-    let names = asked .1 .0 in (
-      omega (arith, asked .0, names .0, below .0 .1, below .1 .1),
-      ((below .0 .0, omega (arith, names .1, below .0 .1)), (below .1 .0, omega (arith, names .1, below .1 .1)), subst (λ range. RangeReady catalogue plan range n) e (asked .1 .1)),
+pub call-sides : (how : Combination) (catalogue words : List ℕ) {t reference n left right c : ℕ} {plan : List ℕ} → made (Combines how) left right c ≡ nodeAt words (reference - 1)
+    → (2 * reference ≡ t) × (Names words reference × RangeReady catalogue plan (rangeAt words reference) n) → (2 * max left right + 1 < t) × (Names words left × Names words right × RangeReady catalogue plan (combined how (rangeAt words left) (rangeAt words right)) n)
+call-sides how catalogue words {reference = reference} {n} {left} {right} {c} {plan} e asked =
+    let names = asked .1 .0 in
+    let fit = fits-in words (reference - 1) e in
+    let below : Below reference left = lower words (reference - 1) left isRange refl (fit .a-fits) in
+    let below' : Below reference right = lower words (reference - 1) right isRange refl (fit .b-fits) in (
+      omega (arith, asked .0, names .0, below .1, below' .1),
+      ((below .0, omega (arith, names .1, below .1)), (below' .0, omega (arith, names .1, below' .1)), subst (λ range. RangeReady catalogue plan range n) (range-is words reference (made (Combines how) left right c) (names .0) e) (asked .1 .1)),
     )
 
 -- the other ranges: what they read as, and their calls
@@ -141,13 +142,15 @@ room-one {range = range} ready = room-less 1 (ready .room) (omega (arith, some-n
 pub done-as : {catalogue before after : List ℕ} {short : Bool} {n : ℕ} {made : MadeRange} {whole range : Range} → whole ≡ range → RangeDone catalogue short before range n after made → RangeDone catalogue short before whole n after made
 done-as {catalogue} {before} {after} {short} {n} {made} e done = subst (λ range. RangeDone catalogue short before range n after made) (sym e) done
 
-pub call-alpha : (catalogue words : List ℕ) {t reference n target binding condition : ℕ} {plan : List ℕ} → Alpha target binding condition ≡ nodeAt words (reference - 1) → (2 * reference ≡ t) × (Names words reference × RangeReady catalogue plan (rangeAt words reference) n)
+pub call-alpha : (catalogue words : List ℕ) {t reference n target binding condition : ℕ} {plan : List ℕ} → made Alpha target binding condition ≡ nodeAt words (reference - 1) → (2 * reference ≡ t) × (Names words reference × RangeReady catalogue plan (rangeAt words reference) n)
     → (2 * max binding condition + 1 < t) × (Inside words target × Names words binding × Inside words condition × RangeReady catalogue plan (alphaOf (targetsAt words target) (bindingsAt words binding) (restrictionAt words condition)) n)
 call-alpha catalogue words {t} {reference} {n} {target} {binding} {condition} {plan} e asked =
     let i : ℕ = reference - 1 in
     let names = asked .1 .0 in
-    let low = references-lower words i (Alpha target binding condition) (fits-in words i e) in
-    let some : 1 ≤ binding = lower words i binding isBinding refl (second-of (isTarget (kindNamed words i target)) (isBinding (kindNamed words i binding)) (eqb condition 0 || isCondition (kindNamed words i condition)) (fits-in words i e)) .0 in (
-      omega (arith, asked .0, names .0, low .first-lower, low .third-lower),
-      (omega (arith, names .1, low .second-lower), (some, omega (arith, names .1, low .first-lower)), omega (arith, names .1, low .third-lower), subst (λ range. RangeReady catalogue plan range n) (range-is words reference (Alpha target binding condition) (names .0) e) (asked .1 .1)),
+    let fit = fits-in words i e in
+    let first : target ≤ i = lower words i target isTarget refl (fit .a-fits) .1 in
+    let second : Below reference binding = lower words i binding isBinding refl (fit .b-fits) in
+    let third : condition ≤ i = lower-if-any words i condition isCondition refl (fit .c-fits) in (
+      omega (arith, asked .0, names .0, second .1, third),
+      (omega (arith, names .1, first), (second .0, omega (arith, names .1, second .1)), omega (arith, names .1, third), subst (λ range. RangeReady catalogue plan range n) (range-is words reference (made Alpha target binding condition) (names .0) e) (asked .1 .1)),
     )

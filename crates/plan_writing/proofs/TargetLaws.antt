@@ -12,11 +12,12 @@ use Rattle.calculus.specs.Scope.{targetColumns}
 use Rattle.calculus.specs.Form.{GoodTarget}
 use Rattle.question.specs.Trees.{targetOf}
 use Rattle.nodes.specs.Nodes.{nodeAt}
-use Rattle.nodes.specs.declared.node.Node.the-variants.{Target as TargetNode}
-use Rattle.nodes.proofs.Forms.{references-lower}
+use Rattle.nodes.specs.Kinds.{isTarget}
+use Rattle.nodes.specs.declared.node.Form.the-variants.{Target as TargetForm}
+use Rattle.nodes.proofs.Forms.{lower-if-any}
 use Rattle.conditions.specs.Readings.{Inside, targetsAt}
 use Rattle.conditions.specs.Scopes.{scopeOf, ScopeFits}
-use Rattle.conditions.proofs.Readings.{fits-in, targets-is, targets-none}
+use Rattle.conditions.proofs.Readings.{made, fits-in, targets-is, targets-none}
 use Rattle.emission.specs.NodeLists.{nodeList, grownBy, numbersOf}
 use Rattle.emission.specs.declared.node_list.NodeList.{NodeList}
 use Rattle.emission.proofs.NodeListLaws.{numbers-append, grown-used, grown-step, grown-none, grown-list}
@@ -51,12 +52,12 @@ targets-start {words} {scope} {reference} {list} r e =
 
 module _ {words scope : List ℕ} {whole reference : ℕ} {list : NodeList} (left : TargetsLeft words scope whole reference list) where
   -- the next node is a target
-  module _ {variable number next : ℕ} (named : 1 ≤ reference) (e : TargetNode variable number next ≡ nodeAt words (reference - 1)) where
+  module _ {variable number a b next : ℕ} (named : 1 ≤ reference) (e : made (TargetForm variable (record { 0 = number })) a b next ≡ nodeAt words (reference - 1)) where
     abbrev here : List Attribute
     here = targetColumns (scopeOf scope) (targetOf variable number)
 
     reads : targetsAt words reference ≡ targetOf variable number ∷ targetsAt words next
-    reads = targets-is words reference (TargetNode variable number next) named e
+    reads = targets-is words reference (made (TargetForm variable (record { 0 = number })) a b next) named e
 
     good-here : All (GoodTarget (scopeOf scope)) (targetOf variable number ∷ targetsAt words next)
     good-here = subst (All (GoodTarget (scopeOf scope))) reads (left .good)
@@ -65,7 +66,7 @@ module _ {words scope : List ℕ} {whole reference : ℕ} {list : NodeList} (lef
     few-here = ap (λ (ts : List Target). length (flat (targetColumns (scopeOf scope)) ts)) reads ∙ length-append here (columnsOfTargets words scope next)
 
     pub next-lower : next < reference
-    next-lower = omega (arith, references-lower words (reference - 1) (TargetNode variable number next) (fits-in words (reference - 1) e) .first-lower)
+    next-lower = omega (arith, lower-if-any words (reference - 1) next isTarget refl (fits-in words (reference - 1) e .c-fits))
 
     pub target-ready : ScopeFits scope → ScopeFits scope × GoodTarget (scopeOf scope) (targetOf variable number) × (list .used + length here ≤ listWords)
     target-ready fits = (fits, good-here .0, omega (arith, left .few, few-here))

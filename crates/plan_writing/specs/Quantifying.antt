@@ -3,15 +3,15 @@ use Prim.Native.Nat.{ℕ, _+_, _-_}
 use mathlib.Core.Bool.{Bool, true, false, cond, _&&_}
 use mathlib.Core.List.{List, [], _∷_}
 use Rattle.relations.specs.Nodes.{Node, project, subtract}
-use Rattle.calculus.specs.Question.{Range, Condition, forSome, forEvery}
+use Rattle.calculus.specs.Question.{Condition}
 use Rattle.calculus.specs.Scope.{allColumns}
 use Rattle.calculus.specs.ShortRules.{shortRule2Fits, shortRule4Fits, shortRule5Fits}
 use Rattle.calculus.specs.Translation as calculus
 use Rattle.short_rules.specs.declared.fits.ShortRule.the-variants.{S2, S3, S4}
 use Rattle.plan_writing.specs.declared.quantifying.Wanted.{Wanted}
 use Rattle.plan_writing.specs.declared.quantifying.Wanted.the-variants.{Itself, Opposite, Division}
-use Rattle.plan_writing.specs.declared.quantifying.Quantifier.{Quantifier}
-use Rattle.plan_writing.specs.declared.quantifying.Quantifier.the-variants.{Some, Every}
+use Rattle.nodes.specs.declared.node.Quantifier.{Quantifier}
+use Rattle.nodes.specs.declared.node.Quantifier.the-variants.{Some, Every}
 use Rattle.plan_writing.specs.declared.quantifying.Way.{Way}
 use Rattle.plan_writing.specs.declared.quantifying.Way.the-variants.{ByRule, AsDivisor, ByDivision, Plain}
 
@@ -27,10 +27,6 @@ oppositeWanted (Division y k) = false
 
 abbrev pub oppositeIf : Bool → Wanted
 oppositeIf test = cond test Opposite Itself
-
-abbrev pub quantified : Quantifier → ℕ → Range → Condition → Condition
-quantified Some x range f = forSome x range f
-quantified Every x range f = forEvery x range f
 
 -- S2 first; S3 and S5 where the node above has found that they fit; S4 and then S5 first
 abbrev pub wayOf : Bool → Quantifier → Wanted → ℕ → Condition → Way

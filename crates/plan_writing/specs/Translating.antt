@@ -4,10 +4,10 @@ use mathlib.Core.Path.{_≡_}
 use mathlib.Core.Bool.{Bool, true, _||_}
 use mathlib.Core.List.{List, []}
 use lib.ListN.{length}
-use Rattle.relations.specs.Limits.{listWords}
+use Rattle.relations.specs.Limits.{listWords, variableCount}
 use Rattle.relations.specs.Lists.{All, flat}
 use Rattle.relations.specs.Nodes.{Node}
-use Rattle.calculus.specs.Question.{Range, rangeOr, rangeAnd, rangeAndNot, Bindings, noMore, bind, MaybeCondition, noCondition, onCondition, rangeNodes, bindingNodes, maybeNodes}
+use Rattle.calculus.specs.Question.{Range, Bindings, noMore, bind, MaybeCondition, noCondition, onCondition, rangeNodes, bindingNodes, maybeNodes}
 use Rattle.calculus.specs.Scope.{Scope, extend, columnsIn, targetColumns}
 use Rattle.calculus.specs.Form.{GoodTarget, widthOfRange, scopeOfBindings, GoodRange, GoodBindings, GoodMaybe}
 use Rattle.calculus.specs.ShortRules.{projectNodes, shortRule3Fits, shortRule5Fits, shortRule6Fits}
@@ -17,15 +17,22 @@ use Rattle.judgements.specs.Accepted.{HasColumns}
 use Rattle.conditions.specs.Readings.{Inside, targetsAt}
 use Rattle.conditions.specs.Scopes.{scopeOf, ScopeFits, withVariable}
 use Rattle.emission.specs.Written.{Room, Written}
-use Rattle.emission.specs.declared.emit.Pairing.{Pairing}
-use Rattle.emission.specs.declared.emit.Pairing.the-variants.{Unite, Intersect, Subtract}
+use Rattle.nodes.specs.declared.node.Binder.the-variants.{Binding, Quantifies}
+use Rattle.nodes.specs.declared.node.Form.{Form}
+use Rattle.nodes.specs.declared.node.Form.the-variants.{Table, Alpha, Target, Binds, Combines, Compares, Connects, IllFormed}
 use Rattle.plan_writing.specs.declared.translate.MadeRange.{MadeRange}
 
--- the range that an operation makes of two
-abbrev pub rangesBy : Pairing → Range → Range → Range
-rangesBy Unite a b = rangeOr a b
-rangesBy Intersect a b = rangeAnd a b
-rangesBy Subtract a b = rangeAndNot a b
+-- the variable of a binding; none is one past the last
+abbrev pub bindingVariable : Form → ℕ
+bindingVariable (Table relation) = variableCount
+bindingVariable Alpha = variableCount
+bindingVariable (Target variable attribute) = variableCount
+bindingVariable (Binds variable Binding) = variable
+bindingVariable (Binds variable (Quantifies quantifier)) = variableCount
+bindingVariable (Combines combination) = variableCount
+bindingVariable (Compares atom) = variableCount
+bindingVariable (Connects connective) = variableCount
+bindingVariable IllFormed = variableCount
 
 -- T of a condition, for whatever is wanted of it; no nodes where there is none
 abbrev pub translateWanted : (columns : ℕ → ℕ) (short : Bool) → Wanted → MaybeCondition → Scope → (p n : ℕ) → List Node

@@ -6,9 +6,10 @@ ghost use Rattle.calculus.specs.Question.{conditionNodes};
 ghost use Rattle.conditions.specs.Readings.{Names, conditionAt};
 ghost use Rattle.emission.specs.Written.{Room, Written};
 ghost use Rattle.plan_writing.specs.Quantifying.{wayOf, keptNodes, oppositeWanted, oppositeIf};
-use emission::emit::Pairing;
 use emission::emit::pair;
 use emission::emit::project_first;
+use nodes::node::Combination;
+use nodes::node::Quantifier;
 use short_rules::fits::ShortRule;
 use short_rules::fits::rule_fits;
 
@@ -36,11 +37,6 @@ pub fn opposite_if(test: bool) -> Wanted
         return Wanted::Opposite;
     }
     Wanted::Itself
-}
-
-pub enum Quantifier {
-    Some,
-    Every,
 }
 
 // How a quantifier's nodes are made: by S2, S3 or S4; by S5, below "every y", whose range is node k; by S5 of the "some" below it; or plainly.
@@ -100,9 +96,9 @@ pub fn write_kept(
     match quantifier {
         Quantifier::Some => project_first(plan, n, n - 1, columns),
         Quantifier::Every => {
-            let failing = pair(plan, n, Pairing::Subtract, q, n - 1);
+            let failing = pair(plan, n, Combination::AndNot, q, n - 1);
             let failed = project_first(plan, failing, n, columns);
-            pair(plan, failed, Pairing::Subtract, p, failing)
+            pair(plan, failed, Combination::AndNot, p, failing)
         }
     }
 }

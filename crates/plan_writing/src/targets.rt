@@ -21,7 +21,7 @@ use emission::node_list::NodeList;
 use emission::node_list::no_list;
 use emission::node_list::with_columns;
 use emission::node_list::with_word;
-use nodes::node::Node;
+use nodes::node::Form;
 use nodes::node::decode;
 use rule_writing::rules::write_project;
 
@@ -49,14 +49,14 @@ fn targets_from(words: &[u32], reference: u32, scope: &[u8; SCOPE_BYTES]) -> Nod
     let mut at = reference;
     while 0 < at {
         let node = decode(words, (at - 1) as usize);
-        match node {
-            Node::Target {
+        let form = node.form;
+        match form {
+            Form::Target {
                 variable,
                 attribute,
-                next,
             } => {
-                list = with_target(scope, variable, attribute, list);
-                at = next;
+                list = with_target(scope, variable, attribute.0, list);
+                at = node.c;
             }
             _ => {
                 at = 0;

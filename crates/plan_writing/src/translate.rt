@@ -1,18 +1,18 @@
 // Translation: a range, the parts of an alpha and a condition call each other. Each function has a number of its own that falls at each call:
 // twice the reference of the node that it is handed, or one more than twice the greatest of the references of a node's parts. Nothing that is
 // long stands in these functions' frames but a scope that grows, so that the deepest question takes little stack.
+ghost use mathlib.Core.Path.{_≡_};
 ghost use Prim.Native.Nat.{_<_};
 ghost use Rattle.relations.specs.Limits.{variableCount};
 ghost use Rattle.calculus.specs.Question as calculus;
 ghost use Rattle.calculus.specs.Translation.{itself, translateCondition};
 ghost use Rattle.catalogue.specs.Stored.{columnsOf};
-ghost use Rattle.question.specs.Trees.{alphaOf};
+ghost use Rattle.question.specs.Trees.{alphaOf, combined, quantified};
 ghost use Rattle.conditions.specs.Readings.{Inside, Names, rangeAt, targetsAt, bindingsAt, restrictionAt, conditionAt};
 ghost use Rattle.conditions.specs.Scopes.{scopeOf};
 ghost use Rattle.emission.specs.Written.{Room, Written};
-ghost use Rattle.plan_writing.specs.Quantifying.{wantedIn, quantified};
-ghost use Rattle.plan_writing.specs.Translating.{rangesBy, RangeReady, RangeDone, BindingsReady, BindingsDone, ConditionReady, translateWanted};
-use crate::quantifying::Quantifier;
+ghost use Rattle.plan_writing.specs.Quantifying.{wantedIn};
+ghost use Rattle.plan_writing.specs.Translating.{bindingVariable, RangeReady, RangeDone, BindingsReady, BindingsDone, ConditionReady, translateWanted};
 use crate::quantifying::Wanted;
 use crate::quantifying::Way;
 use crate::quantifying::is_opposite;
@@ -24,12 +24,16 @@ use catalogue::stored::columns_of;
 use conditions::scope::SCOPE_BYTES;
 use conditions::scope::columns_in;
 use conditions::scope::extend;
-use emission::emit::Pairing;
 use emission::emit::load;
 use emission::emit::pair;
 use emission::emit::product;
-use nodes::node::Node;
+use nodes::node::Binder;
+use nodes::node::Combination;
+use nodes::node::Connective;
+use nodes::node::Form;
+use nodes::node::Quantifier;
 use nodes::node::decode;
+use relations::limits::VARIABLES;
 use rule_writing::rules::write_atom;
 use rule_writing::rules::write_rule;
 use short_rules::fits::ShortRule;
@@ -59,6 +63,28 @@ fn translate_table(
     }
 }
 
+// The variable of a binding; none is one past the last.
+fn binding_variable(form: Form) -> u32
+    ensures { λ r. ⌜ r ≡ bindingVariable form ⌝ }
+{
+    match form {
+        Form::Table(_) => VARIABLES,
+        Form::Alpha => VARIABLES,
+        Form::Target {
+            variable: _,
+            attribute: _,
+        } => VARIABLES,
+        Form::Binds { variable, binder } => match binder {
+            Binder::Binding => variable,
+            Binder::Quantifies(_) => VARIABLES,
+        },
+        Form::Combines(_) => VARIABLES,
+        Form::Compares(_) => VARIABLES,
+        Form::Connects(_) => VARIABLES,
+        Form::IllFormed => VARIABLES,
+    }
+}
+
 // The nodes of the range that a reference names. A node of another sort, which refusal 2 shuts out, reads as relation 0.
 pub fn translate_range(
     catalogue: &[u32],
@@ -72,40 +98,17 @@ pub fn translate_range(
     ensures { λ r. ⌜ RangeDone (now (catalogue .entry)) short (now (plan .entry)) (rangeAt (now (words .entry)) reference) n (now (plan .exit)) r ⌝ }
 {
     let node = decode(words, (reference - 1) as usize);
-    match node {
-        Node::Table { relation } => translate_table(catalogue, short, relation, plan, n),
-        Node::Alpha {
-            target,
-            binding,
-            condition,
-        } => translate_alpha(catalogue, words, short, target, binding, condition, plan, n),
-        Node::RangeOr { left, right } => translate_ranges(
+    let form = node.form;
+    match form {
+        Form::Table(relation) => translate_table(catalogue, short, relation, plan, n),
+        Form::Alpha => translate_alpha(catalogue, words, short, node.a, node.b, node.c, plan, n),
+        Form::Combines(how) => translate_ranges(
             catalogue,
             words,
             short,
-            Pairing::Unite,
-            left,
-            right,
-            plan,
-            n,
-        ),
-        Node::RangeAnd { left, right } => translate_ranges(
-            catalogue,
-            words,
-            short,
-            Pairing::Intersect,
-            left,
-            right,
-            plan,
-            n,
-        ),
-        Node::RangeAndNot { left, right } => translate_ranges(
-            catalogue,
-            words,
-            short,
-            Pairing::Subtract,
-            left,
-            right,
+            how,
+            node.a,
+            node.b,
             plan,
             n,
         ),
@@ -118,14 +121,14 @@ fn translate_ranges(
     catalogue: &[u32],
     words: &[u32],
     short: bool,
-    how: Pairing,
+    how: Combination,
     left: u32,
     right: u32,
     plan: &mut [u32],
     n: u32,
 ) -> MadeRange
-    requires { ⌜ Names (now words) left × Names (now words) right × RangeReady (now catalogue) (now plan) (rangesBy how (rangeAt (now words) left) (rangeAt (now words) right)) n ⌝ }
-    ensures { λ r. ⌜ RangeDone (now (catalogue .entry)) short (now (plan .entry)) (rangesBy how (rangeAt (now (words .entry)) left) (rangeAt (now (words .entry)) right)) n (now (plan .exit)) r ⌝ }
+    requires { ⌜ Names (now words) left × Names (now words) right × RangeReady (now catalogue) (now plan) (combined how (rangeAt (now words) left) (rangeAt (now words) right)) n ⌝ }
+    ensures { λ r. ⌜ RangeDone (now (catalogue .entry)) short (now (plan .entry)) (combined how (rangeAt (now (words .entry)) left) (rangeAt (now (words .entry)) right)) n (now (plan .exit)) r ⌝ }
 {
     let first = translate_range(catalogue, words, short, left, plan, n);
     let second = translate_range(catalogue, words, short, right, plan, first.count);
@@ -151,41 +154,37 @@ fn translate_alpha(
     ensures { λ r. ⌜ RangeDone (now (catalogue .entry)) short (now (plan .entry)) (alphaOf (targetsAt (now (words .entry)) target) (bindingsAt (now (words .entry)) binding) (restrictionAt (now (words .entry)) condition)) n (now (plan .exit)) r ⌝ }
 {
     let node = decode(words, (binding - 1) as usize);
-    match node {
-        Node::Binding {
-            variable,
-            range,
-            next,
-        } => {
-            let first = translate_range(catalogue, words, short, range, plan, n);
-            let mut scope = [0u8; SCOPE_BYTES];
-            extend(&mut scope, variable, first.width);
-            let p = first.count - 1;
-            let joined = translate_bindings(
-                catalogue,
-                words,
-                short,
-                next,
-                &mut scope,
-                p,
-                plan,
-                first.count,
-            );
-            let kept = translate_condition(
-                catalogue,
-                words,
-                short,
-                condition,
-                Wanted::Itself,
-                &scope,
-                joined - 1,
-                plan,
-                joined,
-            );
-            write_targets(words, short, target, &scope, plan, kept)
-        }
-        _ => translate_table(catalogue, short, 0, plan, n),
+    let form = node.form;
+    let variable = binding_variable(form);
+    if variable < VARIABLES {
+        let first = translate_range(catalogue, words, short, node.b, plan, n);
+        let mut scope = [0u8; SCOPE_BYTES];
+        extend(&mut scope, variable, first.width);
+        let p = first.count - 1;
+        let joined = translate_bindings(
+            catalogue,
+            words,
+            short,
+            node.c,
+            &mut scope,
+            p,
+            plan,
+            first.count,
+        );
+        let kept = translate_condition(
+            catalogue,
+            words,
+            short,
+            condition,
+            Wanted::Itself,
+            &scope,
+            joined - 1,
+            plan,
+            joined,
+        );
+        return write_targets(words, short, target, &scope, plan, kept);
     }
+    translate_table(catalogue, short, 0, plan, n)
 }
 
 // The next bindings: each range, and its product with the value p. The scope gets their variables.
@@ -206,20 +205,16 @@ fn translate_bindings(
         return n;
     }
     let node = decode(words, (reference - 1) as usize);
-    match node {
-        Node::Binding {
-            variable,
-            range,
-            next,
-        } => {
-            let made = translate_range(catalogue, words, short, range, plan, n);
-            let q = made.count;
-            let count = product(plan, q, p, q - 1);
-            extend(scope, variable, made.width);
-            translate_bindings(catalogue, words, short, next, scope, q, plan, count)
-        }
-        _ => n,
+    let form = node.form;
+    let variable = binding_variable(form);
+    if variable < VARIABLES {
+        let made = translate_range(catalogue, words, short, node.b, plan, n);
+        let q = made.count;
+        let count = product(plan, q, p, q - 1);
+        extend(scope, variable, made.width);
+        return translate_bindings(catalogue, words, short, node.c, scope, q, plan, count);
     }
+    n
 }
 
 // T(f, P): the nodes for the rows of P, node p, that meet the condition that a reference names, or for what else is wanted of it; none are P itself.
@@ -241,80 +236,64 @@ fn translate_condition(
         return n;
     }
     let node = decode(words, (reference - 1) as usize);
-    match node {
-        Node::Atom(atom) => write_atom(scope, is_opposite(wanted), atom, p, plan, n),
-        Node::And { left, right } => {
-            let first = translate_part(catalogue, words, short, left, scope, p, plan, n);
-            translate_part(
+    let form = node.form;
+    match form {
+        Form::Compares(atom) => write_atom(scope, is_opposite(wanted), atom, p, plan, n),
+        Form::Connects(connective) => match connective {
+            Connective::And => {
+                let first = translate_part(catalogue, words, short, node.a, scope, p, plan, n);
+                translate_part(
+                    catalogue,
+                    words,
+                    short,
+                    node.b,
+                    scope,
+                    first - 1,
+                    plan,
+                    first,
+                )
+            }
+            Connective::Or => {
+                let first = translate_part(catalogue, words, short, node.a, scope, p, plan, n);
+                let second = translate_part(catalogue, words, short, node.b, scope, p, plan, first);
+                pair(plan, second, Combination::Or, first - 1, second - 1)
+            }
+            Connective::Not => {
+                let opposite = short & rule_fits(words, ShortRule::S3, 0, node.a);
+                let met = translate_condition(
+                    catalogue,
+                    words,
+                    short,
+                    node.a,
+                    opposite_if(opposite),
+                    scope,
+                    p,
+                    plan,
+                    n,
+                );
+                if opposite {
+                    return met;
+                }
+                pair(plan, met, Combination::AndNot, p, met - 1)
+            }
+        },
+        Form::Binds { variable, binder } => match binder {
+            Binder::Quantifies(quantifier) => translate_quantifier(
                 catalogue,
                 words,
                 short,
-                right,
-                scope,
-                first - 1,
-                plan,
-                first,
-            )
-        }
-        Node::Or { left, right } => {
-            let first = translate_part(catalogue, words, short, left, scope, p, plan, n);
-            let second = translate_part(catalogue, words, short, right, scope, p, plan, first);
-            pair(plan, second, Pairing::Unite, first - 1, second - 1)
-        }
-        Node::Not { inner } => {
-            let opposite = short & rule_fits(words, ShortRule::S3, 0, inner);
-            let met = translate_condition(
-                catalogue,
-                words,
-                short,
-                inner,
-                opposite_if(opposite),
+                quantifier,
+                wanted,
+                variable,
+                node.b,
+                node.c,
                 scope,
                 p,
                 plan,
                 n,
-            );
-            if opposite {
-                return met;
-            }
-            pair(plan, met, Pairing::Subtract, p, met - 1)
-        }
-        Node::Some {
-            variable,
-            range,
-            condition,
-        } => translate_quantifier(
-            catalogue,
-            words,
-            short,
-            Quantifier::Some,
-            wanted,
-            variable,
-            range,
-            condition,
-            scope,
-            p,
-            plan,
-            n,
-        ),
-        Node::Every {
-            variable,
-            range,
-            condition,
-        } => translate_quantifier(
-            catalogue,
-            words,
-            short,
-            Quantifier::Every,
-            wanted,
-            variable,
-            range,
-            condition,
-            scope,
-            p,
-            plan,
-            n,
-        ),
+            ),
+            Binder::Binding => n,
+        },
         _ => n,
     }
 }

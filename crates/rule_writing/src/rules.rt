@@ -25,7 +25,6 @@ use conditions::scope::column_of;
 use conditions::scope::extend;
 use emission::emit::Comparand;
 use emission::emit::Linking;
-use emission::emit::Pairing;
 use emission::emit::link;
 use emission::emit::pair;
 use emission::emit::project;
@@ -33,6 +32,7 @@ use emission::emit::select;
 use emission::node_list::NodeList;
 use emission::node_list::no_list;
 use nodes::node::Atom;
+use nodes::node::Combination;
 use nodes::node::Operand;
 use short_rules::fits::ShortRule;
 use short_rules::fits::short_rule_1_fits;
@@ -222,7 +222,7 @@ fn write_division(
     let divided = link(plan, q, Linking::Divide, q - 1, k, pairs);
     let matched = link(plan, divided, Linking::Semijoin, p, q, triples);
     let unmatched = link(plan, matched, Linking::Antijoin, p, k, no_list());
-    pair(plan, unmatched, Pairing::Unite, divided, matched)
+    pair(plan, unmatched, Combination::Or, divided, matched)
 }
 
 // What a rule that fits writes behind the range of x, which stands before node n: S2 for "some x", S3 for a "not" above it, S4 for "every x", each above the

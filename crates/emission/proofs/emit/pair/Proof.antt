@@ -8,8 +8,8 @@ use borrow.Author.Needs.{needs}
 use Rattle.emission.proofs.emit.pair.Statement.{statement}
 use Rattle.emission.proofs.emit.pair.Tie as tie
 
-pairing-number-requires : tie.Need-pairing-number-requires
-pairing-number-requires c κs = search needs
+combination-number-requires : tie.Need-combination-number-requires
+combination-number-requires c κs = search needs
 
 slice-aggregate-push : tie.Need-slice-aggregate-push
 slice-aggregate-push c = search needs
@@ -23,10 +23,10 @@ same-length c = search needs
 returns : tie.Need-returns
 returns c = let s = c .before .before .before .before .before .before .before in
     written-one _ _ (c .before .before .push .ensures)
-    (ap (λ (number : ℕ). number ∷ s .args .left ∷ s .args .right ∷ 0 ∷ padded (0 ∷ [])) (c .before .before .before .before .pairing-number .ensures) ∙ pair-words (s .args .how) (s .args .left) (s .args .right))
+    (ap (λ (number : ℕ). number ∷ s .args .left ∷ s .args .right ∷ 0 ∷ padded (0 ∷ [])) (c .before .before .before .before .combination-number .ensures) ∙ pair-words (s .args .how) (s .args .left) (s .args .right))
     refl
 
 pub pair-spec : {M : Type 1} → statement M
 pair-spec =
     tie.close
-    (tie.spec pairing-number-requires slice-aggregate-push push-requires same-length returns)
+    (tie.spec combination-number-requires slice-aggregate-push push-requires same-length returns)

@@ -8,8 +8,8 @@ use Rattle.short_rules.specs.declared.fits.ShortRule.the-variants.{S2, S4}
 use Rattle.plan_writing.specs.Quantifying.{wayOf}
 use Rattle.plan_writing.specs.declared.quantifying.Wanted.{Wanted}
 use Rattle.plan_writing.specs.declared.quantifying.Wanted.the-variants.{Itself}
-use Rattle.plan_writing.specs.declared.quantifying.Quantifier.{Quantifier}
-use Rattle.plan_writing.specs.declared.quantifying.Quantifier.the-variants.{Some, Every}
+use Rattle.nodes.specs.declared.node.Quantifier.{Quantifier}
+use Rattle.nodes.specs.declared.node.Quantifier.the-variants.{Some, Every}
 use Rattle.plan_writing.specs.declared.quantifying.Way.the-variants.{ByRule, ByDivision, Plain}
 use borrow.Author.Needs.{needs}
 use Rattle.plan_writing.proofs.quantifying.way_of.Statement.{statement}

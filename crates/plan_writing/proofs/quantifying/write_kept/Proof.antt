@@ -4,7 +4,7 @@ use mathlib.Core.List.{[], _∷_}
 use Rattle.relations.specs.Nodes.{subtract}
 use Rattle.emission.proofs.WrittenLaws.{written-then, written-as}
 use Rattle.plan_writing.specs.Quantifying.{keptNodes}
-use Rattle.plan_writing.specs.declared.quantifying.Quantifier.{Quantifier}
+use Rattle.nodes.specs.declared.node.Quantifier.{Quantifier}
 use borrow.Author.Needs.{needs}
 use Rattle.plan_writing.proofs.quantifying.write_kept.Statement.{statement}
 use Rattle.plan_writing.proofs.quantifying.write_kept.Tie as tie

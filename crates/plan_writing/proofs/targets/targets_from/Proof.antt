@@ -1,5 +1,7 @@
-use mathlib.Core.Path.{sym, _∙_}
-use Rattle.conditions.proofs.Readings.{targets-is}
+use mathlib.Core.Path.{_∙_}
+use Prim.Native.Nat.{_-_}
+use Rattle.conditions.specs.Readings.{readingAt}
+use Rattle.conditions.proofs.Readings.{made-is, targets-is}
 use Rattle.conditions.proofs.OtherNodes.{no-targets}
 use Rattle.plan_writing.proofs.TargetLaws.{TargetsLeft, targets-start, next-lower, target-ready, targets-on, targets-end, targets-done}
 use native.Mathlib.Omega.{arith}
@@ -27,24 +29,24 @@ cast-decode c = omega arith
 decode-requires : tie.Need-decode-requires Inv-loop μ-loop
 decode-requires c κs = omega (arith, c .before .loop .inv .inside)
 
-enum-known-node : tie.Need-enum-known-node Inv-loop μ-loop
-enum-known-node c = c .match .keys1
+enum-known-form : tie.Need-enum-known-form Inv-loop μ-loop
+enum-known-form c = c .match .keys1
 
 with-target-requires : tie.Need-with-target-requires Inv-loop μ-loop
-with-target-requires c κs = target-ready (c .before .before .before .before .before .loop .inv) (omega arith) (sym (c .before .node .given .1) ∙ c .before .before .before .decode .ensures) (c .before .before .before .before .before .before .before .before .pre .fits)
+with-target-requires c κs = target-ready (c .before .before .before .before .before .loop .inv) (omega arith) (made-is (c .before .before .before .before .before .before .before .before .args .words .now) (c .before .before .before .before .before .loop .at - 1) (c .before .form .given .1) (c .before .before .before .decode .ensures)) (c .before .before .before .before .before .before .before .before .pre .fits)
 
 loop-less : tie.Need-loop-less Inv-loop μ-loop
-loop-less c = next-lower (c .before .before .before .before .before .before .loop .inv) (omega arith) (sym (c .before .before .node .given .1) ∙ c .before .before .before .before .decode .ensures)
+loop-less c = next-lower (c .before .before .before .before .before .before .loop .inv) (omega arith) (made-is (c .before .before .before .before .before .before .before .before .before .args .words .now) (c .before .before .before .before .before .before .loop .at - 1) (c .before .before .form .given .1) (c .before .before .before .before .decode .ensures))
 
 loop-again : tie.Need-loop-again Inv-loop μ-loop
-loop-again c = targets-on (c .before .before .before .before .before .before .loop .inv) (omega arith) (sym (c .before .before .node .given .1) ∙ c .before .before .before .before .decode .ensures) (c .with-target .ensures)
+loop-again c = targets-on (c .before .before .before .before .before .before .loop .inv) (omega arith) (made-is (c .before .before .before .before .before .before .before .before .before .args .words .now) (c .before .before .before .before .before .before .loop .at - 1) (c .before .before .form .given .1) (c .before .before .before .before .decode .ensures)) (c .with-target .ensures)
 
 loop-less-2 : tie.Need-loop-less-2 Inv-loop μ-loop
 loop-less-2 c = omega arith
 
 loop-again-2 : tie.Need-loop-again-2 Inv-loop μ-loop
 loop-again-2 c = let words = c .before .before .before .before .before .before .args .words .now in
-    targets-end (c .before .before .before .loop .inv) (targets-is words (c .before .before .before .loop .at) (c .before .decode .result) (omega arith) (c .before .decode .ensures) ∙ no-targets (c .before .decode .result) _ _ _ (c .match .keys2))
+    targets-end (c .before .before .before .loop .inv) (targets-is words (c .before .before .before .loop .at) (c .before .decode .result) (omega arith) (c .before .decode .ensures) ∙ no-targets (c .before .decode .result .form) (readingAt words (c .before .decode .result .a)) (readingAt words (c .before .decode .result .b)) (readingAt words (c .before .decode .result .c)) (c .match .keys2))
 
 returns : tie.Need-returns Inv-loop μ-loop
 returns c = targets-done (c .before .loop .inv) (omega arith)
@@ -60,7 +62,7 @@ targets-from-spec =
     sub-decode
     cast-decode
     decode-requires
-    enum-known-node
+    enum-known-form
     with-target-requires
     loop-less
     loop-again
