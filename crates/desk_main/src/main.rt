@@ -1,17 +1,14 @@
 // `desk`: reads a bundle from standard input, answers its question, and prints the answer's listing, or the refusal. A program has no exit status of
 // its own: input that can't be read and a listing that can't be written whole are told on standard error, where nothing else is written.
 ghost use Rattle.listing.specs.Listing.{Listable};
-use bundle_reading::Reading;
 use desk::Answered;
 use libc::STDERR_FILENO;
 use libc::STDOUT_FILENO;
 use relations::limits::CATALOGUE_WORDS;
 use relations::limits::PLAN_WORDS;
-use relations::limits::QUESTION_NODE_WORDS;
 use relations::limits::QUESTION_WORDS;
-use relations::limits::TEXT_BYTES;
 use relations::limits::WORDS;
-use standard_input::read_input;
+use standard_input::read_bundle;
 
 fn print(text: &[u8]) {
     if !io::write_all(STDOUT_FILENO, text) {
@@ -62,38 +59,24 @@ fn print_answer(mode: u32, catalogue: &[u32], tables: &[u32], question: &[u32]) 
     }
 }
 
-// A bundle's text.
-fn print_outcome(text: &[u8]) {
+fn main() {
     let mut catalogue = [0u32; CATALOGUE_WORDS];
     let mut tables = [0u32; WORDS];
     let mut question = [0u32; QUESTION_WORDS];
-    match bundle_reading::read(text, &mut catalogue, &mut tables, &mut question) {
-        Reading::Bundle {
-            mode,
-            pairs,
-            words,
-            nodes,
-        } => {
-            print_answer(
-                mode,
-                &catalogue[..2 * pairs],
-                &tables[..words],
-                &question[..QUESTION_NODE_WORDS * nodes],
-            );
-        }
-        Reading::WrongLine(line) => print_refusal(12, line as u32),
-        Reading::SmallBuffer => print_refusal(14, 0),
-    }
-}
-
-// One byte more than a text may have is asked for, so that `read` can tell an over-long one.
-fn main() {
-    let mut text = [0u8; TEXT_BYTES + 1];
-    let input = read_input(&mut text);
+    let input = read_bundle(&mut catalogue, &mut tables, &mut question);
+    let pairs = input.catalogue;
+    let words = input.tables;
+    let nodes = input.question;
     if input.failed {
         io::write_all(STDERR_FILENO, b"desk: the input could not be read\n");
+    } else if input.status != 0 {
+        print_refusal(input.status, input.place);
     } else {
-        let bytes = input.bytes;
-        print_outcome(&text[..bytes]);
+        print_answer(
+            input.mode,
+            &catalogue[..pairs],
+            &tables[..words],
+            &question[..nodes],
+        );
     }
 }

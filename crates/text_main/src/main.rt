@@ -1,14 +1,12 @@
 // Reads a bundle from standard input, and writes it back from what it read; or prints status= and place= lines.
-use bundle_reading::Reading;
 use bundle_writing::Writing;
 use libc::STDERR_FILENO;
 use libc::STDOUT_FILENO;
 use relations::limits::CATALOGUE_WORDS;
-use relations::limits::QUESTION_NODE_WORDS;
 use relations::limits::QUESTION_WORDS;
 use relations::limits::TEXT_BYTES;
 use relations::limits::WORDS;
-use standard_input::read_input;
+use standard_input::read_bundle;
 
 fn line(key: &[u8], number: u64) {
     io::write_all(STDOUT_FILENO, key);
@@ -16,8 +14,8 @@ fn line(key: &[u8], number: u64) {
     io::write_all(STDOUT_FILENO, b"\n");
 }
 
-fn refuse(status: u64, place: usize) {
-    line(b"status=", status);
+fn refuse(status: u32, place: u32) {
+    line(b"status=", status as u64);
     line(b"place=", place as u64);
 }
 
@@ -34,38 +32,24 @@ fn write_back(mode: u32, catalogue: &[u32], tables: &[u32], nodes: &[u32]) {
     }
 }
 
-// A bundle's text.
-fn rewrite(text: &[u8]) {
+fn main() {
     let mut catalogue = [0u32; CATALOGUE_WORDS];
     let mut tables = [0u32; WORDS];
     let mut question = [0u32; QUESTION_WORDS];
-    match bundle_reading::read(text, &mut catalogue, &mut tables, &mut question) {
-        Reading::Bundle {
-            mode,
-            pairs,
-            words,
-            nodes,
-        } => {
-            write_back(
-                mode,
-                &catalogue[..2 * pairs],
-                &tables[..words],
-                &question[..QUESTION_NODE_WORDS * nodes],
-            );
-        }
-        Reading::WrongLine(line) => refuse(12, line),
-        Reading::SmallBuffer => refuse(14, 0),
-    }
-}
-
-// One byte more than a text may have is asked for, so that `read` can tell an over-long one.
-fn main() {
-    let mut text = [0u8; TEXT_BYTES + 1];
-    let input = read_input(&mut text);
+    let input = read_bundle(&mut catalogue, &mut tables, &mut question);
+    let pairs = input.catalogue;
+    let words = input.tables;
+    let nodes = input.question;
     if input.failed {
         io::write_all(STDERR_FILENO, b"text: the input could not be read\n");
+    } else if input.status != 0 {
+        refuse(input.status, input.place);
     } else {
-        let bytes = input.bytes;
-        rewrite(&text[..bytes]);
+        write_back(
+            input.mode,
+            &catalogue[..pairs],
+            &tables[..words],
+            &question[..nodes],
+        );
     }
 }

@@ -1,4 +1,4 @@
--- `standard_input::read_input` meets its contract: each turn reads a byte or more, and never past the text's end. Assumes nothing.
+-- `standard_input::read_text` meets its contract: each turn reads a byte or more, and never past the text's end. Assumes nothing.
 use Prim.Native.Nat.{ℕ, _≤_, _-_}
 use mathlib.Core.Path.{_≡_, refl}
 use mathlib.Core.List.{List}
@@ -6,8 +6,8 @@ use lib.ListN.{length, length-take}
 use borrow.Author.Needs.{needs}
 use native.Mathlib.Omega.{arith}
 use Rattle.io.specs.Counts.{Counts}
-use Rattle.standard_input.proofs.read_input.Statement.{statement}
-use Rattle.standard_input.proofs.read_input.Tie as tie
+use Rattle.standard_input.proofs.read_text.Statement.{statement}
+use Rattle.standard_input.proofs.read_text.Tie as tie
 
 counts : (n : ℕ) (bytes : List ℕ) → n ≤ length bytes → Counts n bytes
 counts n bytes within = (within, omega (arith, within, length-take n bytes))
@@ -66,8 +66,8 @@ same-length-2 c = omega arith
 returns-2 : tie.Need-returns-2 Inv-loop μ-loop
 returns-2 c = counts _ _ (omega arith)
 
-pub read-input-spec : {M : Type 1} → statement M
-read-input-spec =
+pub read-text-spec : {M : Type 1} → statement M
+read-text-spec =
     tie.close
     (tie.spec
     Inv-loop
