@@ -7,7 +7,7 @@ use Rattle.calculus.specs.Translation.{translateRange}
 use Rattle.catalogue.specs.Judging.{pairsOk, catalogueWords}
 use Rattle.values.specs.Words.{wordsOf}
 use Rattle.nodes.specs.Kinds.{fieldsOf}
-use Rattle.nodes.specs.Nodes.{kindNamed, spelled, nodeAt}
+use Rattle.nodes.specs.Nodes.{kindNamed, formOf, nodeAt}
 use Rattle.nodes.specs.References.{referencesTo, seen, firstFrom}
 use Rattle.question.specs.Trees.{treesBelow, treeOf, reading}
 use Rattle.judgements.specs.Faults.{faultAt, judgedQuestion}
@@ -28,7 +28,7 @@ shown-read = record { numbers = refl; catalogue = refl; tables = refl; question 
 
 -- each line in the table's order
 each-line : All Holds papers
-unfolding answerOutcome translateOutcome runOutcome pairsOk catalogueWords judgedQuestion nodeAt kindNamed fieldsOf spelled referencesTo seen firstFrom treesBelow treeOf reading faultAt translateRange widthOfRange judgePlanNodes nodesIn startOf rowsIn run fitOf wordsOf
+unfolding answerOutcome translateOutcome runOutcome pairsOk catalogueWords judgedQuestion nodeAt kindNamed fieldsOf formOf referencesTo seen firstFrom treesBelow treeOf reading faultAt translateRange widthOfRange judgePlanNodes nodesIn startOf rowsIn run fitOf wordsOf
 each-line = (record { numbers = refl; rows = refl }, (record { numbers = refl; rows = refl }, (record { numbers = refl; rows = refl }, (record { numbers = refl; rows = refl }, (record { numbers = refl; rows = refl }, (record { numbers = refl; rows = refl }, (record { numbers = refl; rows = refl }, (record { numbers = refl; rows = refl }, (record { numbers = refl; rows = refl }, (record { numbers = refl; rows = refl }, (record { numbers = refl; rows = refl }, (record { numbers = refl; rows = refl }, tt))))))))))))
 
 pub papers-hold : PapersHold

@@ -16,7 +16,7 @@ use Rattle.demands.proofs.LineLaws.{turned, none-answered, outcome-of, 
 module _ (catalogue question : List ℕ) where
   by-lines : judgedQuestion catalogue question ≡ outcomeBy (wrongCount question ∷ questionLines question catalogue) Refused Accepted
   unfolding judgedQuestion
-  by-lines = rw (turned (countOk question) _ (Refused 1 0), turned (isAlpha (nodeAt question (lastNode question))) _ (Refused 3 (lastNode question)))
+  by-lines = rw (turned (countOk question) _ (Refused 1 0), turned (isAlpha (nodeAt question (lastNode question) .form)) _ (Refused 3 (lastNode question)))
 
   pub accepted-by-lines : NoneGiven (wrongCount question ∷ questionLines question catalogue) → judgedQuestion catalogue question ≡ Accepted
   accepted-by-lines none = by-lines ∙ none-answered (wrongCount question ∷ questionLines question catalogue) Refused Accepted none

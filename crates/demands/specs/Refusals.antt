@@ -51,7 +51,7 @@ module _ (question : List ℕ) where
   notOnceReferenced = line 3 (ltb (lowestNotOnce question) (lastNode question)) (lowestNotOnce question)
 
   abbrev pub lastNoAlpha : Line
-  lastNoAlpha = line 3 (not (isAlpha (nodeAt question (lastNode question)))) (lastNode question)
+  lastNoAlpha = line 3 (not (isAlpha (nodeAt question (lastNode question) .form))) (lastNode question)
 
   module _ (catalogue : List ℕ) where
     -- "unknown relation", at the "lowest table node"

@@ -91,7 +91,7 @@ module _ (catalogue question : List ℕ) (mode : ℕ) (plan : List ℕ) where
       either Numbered (countOk question)
       (either Numbered (ltb (lowestIllFormed question) (nodeCount question)) (λ e. omega (arith, e))
       (either Numbered (ltb (lowestNotOnce question) (lastNode question)) (λ e. omega (arith, e))
-      (either Numbered (isAlpha (nodeAt question (lastNode question)))
+      (either Numbered (isAlpha (nodeAt question (lastNode question) .form))
       (either Numbered (ltb (lowestUnknown catalogue question) (nodeCount question)) (λ e. omega (arith, e))
       (either Numbered (ltb (lowestUnbound catalogue question) (nodeCount question)) (λ e. omega (arith, e))
       (either Numbered (ltb (lowestUnfit catalogue question) (nodeCount question)) (λ e. omega (arith, e)) tt)))
