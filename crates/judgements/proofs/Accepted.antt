@@ -15,7 +15,8 @@ use Rattle.nodes.specs.References.{referencesTo, seen, firstFrom, lowest, notOn
 use Rattle.catalogue.specs.Stored.{relationsOf, columnsOf}
 use Rattle.question.specs.Trees.{treeOf, treeNodes, questionOf}
 use Rattle.question.specs.Judgement.{countOk, isAlpha, isUnknown, lowestIllFormed, lastNode, lowestNotOnce, lowestUnknown}
-use Rattle.question.specs.Walk.{noWidths, faultsFound, judgeTree, judgeNodes, judgedByWalk}
+use Rattle.node_judging.specs.Steps.{noWidths}
+use Rattle.question.specs.Walk.{faultsFound, judgeTree, judgeNodes, judgedByWalk}
 use Rattle.judgements.specs.Accepted.{HasColumns, QuestionRight, TableRight, AcceptedExactly}
 use Rattle.question.specs.declared.judgement.Judgement.{Judgement}
 use Rattle.question.specs.declared.judgement.Judgement.the-variants.{Accepted, Refused}

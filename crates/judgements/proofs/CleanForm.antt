@@ -16,7 +16,8 @@ use Rattle.calculus.specs.Scope.{entry, extend, columnsIn}
 use Rattle.calculus.specs.Form.{NotInScope, Known, GoodAtom, GoodTarget, widthOfRange, scopeOfBindings, GoodRange, GoodBindings, GoodMaybe, GoodCondition}
 use Rattle.calculus.specs.Form as form
 use Rattle.question.specs.Trees.{Tree, nothing, branch, operandOf, targetOf, atomOf, alphaOf, reading}
-use Rattle.question.specs.Walk.{widthKept, columnsKept, noWidths, addWidths, bind, operandUnboundAt, operandUnfitAt, Found, Step, stepOf, lowestOf, walk}
+use Rattle.node_judging.specs.Steps.{widthKept, columnsKept, noWidths, addWidths, bind, operandUnboundAt, operandUnfitAt, Found, Step, stepOf}
+use Rattle.question.specs.Walk.{lowestOf, walk}
 use Rattle.nodes.specs.declared.node.Operand.{Operand}
 use Rattle.nodes.specs.declared.node.Operand.the-variants.{Of, Fixed}
 use Rattle.nodes.specs.declared.node.Atom.{Atom}

@@ -14,7 +14,8 @@ use Rattle.nodes.specs.Nodes.{nodeCount, nodeAt}
 use Rattle.nodes.specs.References.{lowest}
 use Rattle.question.specs.Trees.{questionTree}
 use Rattle.question.specs.Judgement.{countOk, isAlpha, lowestIllFormed, lastNode, lowestNotOnce, lowestUnknown}
-use Rattle.question.specs.Walk.{noWidths, faultsFound, judgeTree, judgeNodes, judgedByWalk}
+use Rattle.node_judging.specs.Steps.{noWidths}
+use Rattle.question.specs.Walk.{faultsFound, judgeTree, judgeNodes, judgedByWalk}
 use Rattle.judgements.specs.Accepted.{HasColumns, TableRight, AcceptedExactly, FaultsDecide}
 use Rattle.judgements.specs.Faults.{faultAt, unbound, unfit, lowestUnbound, lowestUnfit, judgedQuestion}
 use Rattle.question.specs.declared.judgement.Judgement.{Judgement}

@@ -17,7 +17,7 @@ use Rattle.calculus.specs.Scope as calculus
 use Rattle.calculus.specs.Scope.{ScopeEntry, entry, extend, columnsIn}
 use Rattle.calculus.specs.Form.{NotInScope}
 use Rattle.calculus.proofs.ScopeLaws.{columns-extend}
-use Rattle.question.specs.Walk.{widthKept, columnsKept, noWidths, addWidths, boundWidth, bind}
+use Rattle.node_judging.specs.Steps.{widthKept, columnsKept, noWidths, addWidths, boundWidth, bind}
 
 abbrev pub HasWidth : ScopeEntry → Type 0
 HasWidth (entry variable width) = 1 ≤ width

@@ -16,7 +16,8 @@ use Rattle.calculus.specs.Form.{widthOfRange, scopeOfBindings}
 use Rattle.nodes.specs.Nodes.{OperandVariableFits}
 use Rattle.nodes.specs.References.{lowest}
 use Rattle.question.specs.Trees.{Tree, nothing, branch, reading}
-use Rattle.question.specs.Walk.{widthKept, noWidths, boundWidth, bind, operandUnboundAt, stepOf, lowestOf, walk}
+use Rattle.node_judging.specs.Steps.{widthKept, noWidths, boundWidth, bind, operandUnboundAt, stepOf}
+use Rattle.question.specs.Walk.{lowestOf, walk}
 use Rattle.judgements.specs.Faults.{inScope, boundSees, othersSee, operandUnbound, widthOf, boundBy, faultAt, unbound}
 use Rattle.nodes.specs.declared.node.Operand.{Operand}
 use Rattle.nodes.specs.declared.node.Operand.the-variants.{Of, Fixed}

@@ -21,7 +21,8 @@ use Rattle.calculus.specs.Form as form
 use Rattle.calculus.proofs.ScopeLaws.{columns-extend}
 use Rattle.nodes.specs.References.{lowest}
 use Rattle.question.specs.Trees.{Tree, nothing, branch, targetOf, alphaOf, combined, reading}
-use Rattle.question.specs.Walk.{widthKept, columnsKept, noWidths, addWidths, boundWidth, bind, operandUnfitAt, targetWidthKept, Found, Step, stepOf, lowestOf, walk}
+use Rattle.node_judging.specs.Steps.{widthKept, columnsKept, noWidths, addWidths, boundWidth, bind, operandUnfitAt, targetWidthKept, Found, Step, stepOf}
+use Rattle.question.specs.Walk.{lowestOf, walk}
 use Rattle.judgements.specs.Faults.{boundSees, othersSee, operandUnfit, widthOf, boundBy, faultAt, unfit}
 use Rattle.nodes.specs.declared.node.Operand.{Operand}
 use Rattle.nodes.specs.declared.node.Operand.the-variants.{Of, Fixed}

@@ -197,3 +197,11 @@ pub fn decode(words: &[u32], i: usize) -> Node
         c: 0,
     }
 }
+
+pub fn form_at(words: &[u32], i: usize) -> Form
+    requires { ⌜ i * questionNodeWords + questionNodeWords ≤ length (now words) ⌝ }
+    ensures { λ r. ⌜ r ≡ nodeAt (now (words .entry)) i .form ⌝ }
+{
+    let node = decode(words, i);
+    node.form
+}

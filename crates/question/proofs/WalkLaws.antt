@@ -19,24 +19,14 @@ use Rattle.nodes.specs.declared.node.Form.{Form}
 use Rattle.nodes.specs.declared.node.Form.the-variants.{Table, Alpha, Target, Binds, Combines, Compares, Connects, IllFormed}
 use Rattle.question.specs.Trees.{Tree, nothing, branch}
 use Rattle.question.specs.Judgement.{isAlpha}
-use Rattle.question.specs.Walk.{noWidths, addWidths, boundWidth, bind, boundBy, entered, Found, Step, stepOf, placeOf, foundAt, walk, lowered, PlacesSoFar, JudgedAt, judgedAt, BindingsWalked, bindingsWalked, Walked, walked}
-
--- a width that is counted is small
-pub addWidths-small : (a b : ℕ) → addWidths a b ≤ suc columnLimit
-unfolding addWidths
-addWidths-small a b = omega arith
+use Rattle.node_judging.specs.Steps.{noWidths, addWidths, boundWidth, bind, boundBy, entered, Found, Step, stepOf, placeOf, lowered, PlacesSoFar, JudgedAt, judgedAt}
+use Rattle.question.specs.Walk.{foundAt, walk, BindingsWalked, bindingsWalked, Walked, walked}
 
 as-two : (l : List ℕ) → length l ≡ 2 → l ≡ getD l 0 0 ∷ getD l 1 0 ∷ []
 as-two [] h = absurd (omega arith)
 as-two (a ∷ []) h = absurd (omega arith)
 as-two (a ∷ b ∷ []) h = refl
 as-two (a ∷ b ∷ c ∷ l) h = absurd (omega arith)
-
-pub both-set : (l : List ℕ) (a b : ℕ) → length l ≡ 2 → set (set l 0 a) 1 b ≡ a ∷ b ∷ []
-both-set [] a b h = absurd (omega arith)
-both-set (x ∷ []) a b h = absurd (omega arith)
-both-set (x ∷ y ∷ []) a b h = refl
-both-set (x ∷ y ∷ z ∷ l) a b h = absurd (omega arith)
 
 -- a tree with nothing in it leaves the places as they are
 none-lowered : (l : List ℕ) → PlacesSoFar l → lowered l questionNodeLimit questionNodeLimit ≡ l

@@ -9,10 +9,10 @@ ghost use Rattle.nodes.specs.Nodes.{nodeCount, nodeAt, isIllFormed};
 ghost use Rattle.nodes.specs.References.{lowest};
 ghost use Rattle.question.specs.Judgement.{countOk, judgeCount, isAlpha, isUnknown};
 ghost use Rattle.question.specs.Walk.{judgeTree, judgeNodes, judgedByWalk};
-use crate::walking::SCOPE;
 use crate::walking::walk;
+use node_judging::scope::SCOPE;
 use nodes::node::Form;
-use nodes::node::decode;
+use nodes::node::form_at;
 use nodes::references::lowest_not_once;
 use relations::limits::QUESTION_NODE_WORDS;
 use relations::limits::QUESTION_NODES;
@@ -43,14 +43,6 @@ pub fn judge_count(words: &[u32]) -> Judgement
         return Judgement::Accepted;
     }
     refused(1, 0)
-}
-
-pub fn form_at(words: &[u32], i: usize) -> Form
-    requires { ⌜ i * questionNodeWords + questionNodeWords ≤ length (now words) ⌝ }
-    ensures { λ r. ⌜ r ≡ nodeAt (now (words .entry)) i .form ⌝ }
-{
-    let node = decode(words, i);
-    node.form
 }
 
 fn is_ill_formed(form: Form) -> bool

@@ -1,7 +1,7 @@
 -- `question::judgement::judge_tree` meets its contract. Each return is the case of `judgeTree` that the tests before it decide; the lowest places are those that the walk found. Assumes nothing.
 use Rattle.question.proofs.WalkLaws.{lowest-found}
 use Rattle.question.proofs.Judgements.{unknown-refused, unbound-refused, unfit-refused, all-accepted}
-use Rattle.question.specs.Walk.{noWidths}
+use Rattle.node_judging.specs.Steps.{noWidths}
 use Rattle.question.specs.Trees.{questionTree}
 use Rattle.catalogue.specs.Stored.{columnsOf}
 use mathlib.Core.Path.{_∙_}

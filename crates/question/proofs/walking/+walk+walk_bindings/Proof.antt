@@ -9,7 +9,7 @@ use Rattle.nodes.specs.declared.node.Node.{Node}
 use Rattle.nodes.proofs.Forms.{node-fits, node-lower, node-variables}
 use Rattle.question.specs.Trees.{treeOf}
 use Rattle.question.specs.Judgement.{isAlpha}
-use Rattle.question.specs.Walk.{noWidths, boundBy}
+use Rattle.node_judging.specs.Steps.{noWidths, boundBy}
 use Rattle.relations.specs.Limits.{variableCount}
 use Rattle.question.proofs.TreeLaws.{tree-of-reference, tree-of-none}
 use Rattle.question.proofs.WalkLaws.{is-alpha-form, bound-within, IsBinder, is-binder, no-a, other-bound, none-walked, none-bound, alpha-walked, node-walked, binding-walked, other-walked, so-far-walked, so-far-bound, so-far-judged, back-again}
@@ -26,10 +26,10 @@ use Rattle.question.proofs.walking.walk_bindings.Kinds as walk-bindings
 use Rattle.question.proofs.walking.+walk+walk_bindings.Lts-walk_bindings as walk-bindings-lts
 use Rattle.nodes.proofs.node.decode.Reads as decode-reads
 use Rattle.question.proofs.judgement.is_alpha.Reads as is-alpha-reads
-use Rattle.question.proofs.walking.bind.Reads as bind-reads
-use Rattle.question.proofs.walking.bound_by.Reads as bound-by-reads
-use Rattle.question.proofs.walking.enter.Reads as enter-reads
-use Rattle.question.proofs.walking.judge_at.Reads as judge-at-reads
+use Rattle.node_judging.proofs.scope.bind.Reads as bind-reads
+use Rattle.node_judging.proofs.scope.bound_by.Reads as bound-by-reads
+use Rattle.node_judging.proofs.scope.enter.Reads as enter-reads
+use Rattle.node_judging.proofs.judging.judge_at.Reads as judge-at-reads
 use Rattle.question.proofs.walking.+walk+walk_bindings.{statement}
 use Rattle.question.proofs.walking.+walk+walk_bindings.Tie.{close}
 

@@ -1,7 +1,7 @@
--- `question::judgement::form_at` meets its contract. The node's form is read off it. Assumes nothing.
+-- `nodes::node::form_at` meets its contract. The node's form is read off it. Assumes nothing.
 use borrow.Author.Needs.{needs}
-use Rattle.question.proofs.judgement.form_at.Statement.{statement}
-use Rattle.question.proofs.judgement.form_at.Tie as tie
+use Rattle.nodes.proofs.node.form_at.Statement.{statement}
+use Rattle.nodes.proofs.node.form_at.Tie as tie
 
 decode-requires : tie.Need-decode-requires
 decode-requires c κs = search needs

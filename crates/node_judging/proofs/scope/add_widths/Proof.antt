@@ -1,9 +1,9 @@
--- `question::walking::add_widths` meets its contract. Either part, or their sum, over the limit makes the sum one more than it. Assumes nothing.
-use Rattle.question.specs.Walk.{addWidths}
+-- `node_judging::scope::add_widths` meets its contract. Either part, or their sum, over the limit makes the sum one more than it. Assumes nothing.
+use Rattle.node_judging.specs.Steps.{addWidths}
 use native.Mathlib.Omega.{arith}
 use borrow.Author.Needs.{needs}
-use Rattle.question.proofs.walking.add_widths.Statement.{statement}
-use Rattle.question.proofs.walking.add_widths.Tie as tie
+use Rattle.node_judging.proofs.scope.add_widths.Statement.{statement}
+use Rattle.node_judging.proofs.scope.add_widths.Tie as tie
 
 add-result : tie.Need-add-result
 add-result c = search needs

@@ -1,9 +1,9 @@
--- `question::walking::bind` meets its contract. One width is set, and the columns are added; both fit a byte, as they are counted to one over the limit. Assumes nothing.
-use Rattle.question.proofs.WalkLaws.{addWidths-small}
+-- `node_judging::scope::bind` meets its contract. One width is set, and the columns are added; both fit a byte, as they are counted to one over the limit. Assumes nothing.
+use Rattle.node_judging.proofs.StepLaws.{addWidths-small}
 use native.Mathlib.Omega.{arith}
 use borrow.Author.Needs.{needs}
-use Rattle.question.proofs.walking.bind.Statement.{statement}
-use Rattle.question.proofs.walking.bind.Tie as tie
+use Rattle.node_judging.proofs.scope.bind.Statement.{statement}
+use Rattle.node_judging.proofs.scope.bind.Tie as tie
 
 columns-in-requires : tie.Need-columns-in-requires
 columns-in-requires c κs = search needs

@@ -1,7 +1,7 @@
--- `question::walking::unbound_at` meets its contract. In each arm the form is the one that the arm names, and its variables are looked up. Assumes nothing.
+-- `node_judging::judging::unbound_at` meets its contract. In each arm the form is the one that the arm names, and its variables are looked up. Assumes nothing.
 use borrow.Author.Needs.{needs}
-use Rattle.question.proofs.walking.unbound_at.Statement.{statement}
-use Rattle.question.proofs.walking.unbound_at.Tie as tie
+use Rattle.node_judging.proofs.judging.unbound_at.Statement.{statement}
+use Rattle.node_judging.proofs.judging.unbound_at.Tie as tie
 
 enum-told : tie.Need-enum-told
 enum-told c = search needs

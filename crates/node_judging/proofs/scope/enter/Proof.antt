@@ -1,8 +1,8 @@
--- `question::walking::enter` meets its contract. A variable is bound; one past the last is none. Assumes nothing.
+-- `node_judging::scope::enter` meets its contract. A variable is bound; one past the last is none. Assumes nothing.
 use borrow.Author.Tests.{lt-ltb, le-ltb}
 use borrow.Author.Needs.{needs}
-use Rattle.question.proofs.walking.enter.Statement.{statement}
-use Rattle.question.proofs.walking.enter.Tie as tie
+use Rattle.node_judging.proofs.scope.enter.Statement.{statement}
+use Rattle.node_judging.proofs.scope.enter.Tie as tie
 
 bind-requires : tie.Need-bind-requires
 bind-requires c κs = search needs

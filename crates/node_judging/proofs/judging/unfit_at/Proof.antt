@@ -1,7 +1,7 @@
--- `question::walking::unfit_at` meets its contract. In each arm the form is the one that the arm names, and the widths are compared. Assumes nothing.
+-- `node_judging::judging::unfit_at` meets its contract. In each arm the form is the one that the arm names, and the widths are compared. Assumes nothing.
 use borrow.Author.Needs.{needs}
-use Rattle.question.proofs.walking.unfit_at.Statement.{statement}
-use Rattle.question.proofs.walking.unfit_at.Tie as tie
+use Rattle.node_judging.proofs.judging.unfit_at.Statement.{statement}
+use Rattle.node_judging.proofs.judging.unfit_at.Tie as tie
 
 enum-told : tie.Need-enum-told
 enum-told c = search needs

@@ -1,7 +1,7 @@
--- `question::walking::width_of` meets its contract. In each arm the form is the one that the arm names. Assumes nothing.
+-- `node_judging::judging::width_of` meets its contract. In each arm the form is the one that the arm names. Assumes nothing.
 use borrow.Author.Needs.{needs}
-use Rattle.question.proofs.walking.width_of.Statement.{statement}
-use Rattle.question.proofs.walking.width_of.Tie as tie
+use Rattle.node_judging.proofs.judging.width_of.Statement.{statement}
+use Rattle.node_judging.proofs.judging.width_of.Tie as tie
 
 enum-known-form : tie.Need-enum-known-form
 enum-known-form c = search needs

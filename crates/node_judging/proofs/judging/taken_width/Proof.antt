@@ -1,8 +1,8 @@
--- `question::walking::taken_width` meets its contract. Attribute 0 is the whole row. Assumes nothing.
+-- `node_judging::judging::taken_width` meets its contract. Attribute 0 is the whole row. Assumes nothing.
 use borrow.Author.Tests.{eq-eqb, ne-eqb}
 use borrow.Author.Needs.{needs}
-use Rattle.question.proofs.walking.taken_width.Statement.{statement}
-use Rattle.question.proofs.walking.taken_width.Tie as tie
+use Rattle.node_judging.proofs.judging.taken_width.Statement.{statement}
+use Rattle.node_judging.proofs.judging.taken_width.Tie as tie
 
 width-in-requires : tie.Need-width-in-requires
 width-in-requires c κs = search needs

@@ -1,9 +1,9 @@
--- `question::walking::judge_at` meets its contract. The node's form is judged; the two places are set, each the lower of two. Assumes nothing.
-use Rattle.question.proofs.WalkLaws.{both-set}
+-- `node_judging::judging::judge_at` meets its contract. The node's form is judged; the two places are set, each the lower of two. Assumes nothing.
+use Rattle.node_judging.proofs.StepLaws.{both-set}
 use Rattle.nodes.proofs.Forms.{node-variables}
 use borrow.Author.Needs.{needs}
-use Rattle.question.proofs.walking.judge_at.Statement.{statement}
-use Rattle.question.proofs.walking.judge_at.Tie as tie
+use Rattle.node_judging.proofs.judging.judge_at.Statement.{statement}
+use Rattle.node_judging.proofs.judging.judge_at.Tie as tie
 
 form-at-requires : tie.Need-form-at-requires
 form-at-requires c κs = search needs

@@ -1,0 +1,3 @@
+// What refusals 5 and 6 ask of one node in its scope.
+pub mod judging;
+pub mod scope;
