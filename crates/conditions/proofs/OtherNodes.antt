@@ -7,11 +7,10 @@ use native.Mathlib.Omega.{arith}
 use denote.Enum.Declared.{tagOf}
 use types.Run.{OneOf, miss}
 use Rattle.calculus.specs.Question as calculus
-use Rattle.calculus.specs.Question.{table, noMore, onCondition}
+use Rattle.calculus.specs.Question.{table, onCondition}
 use Rattle.calculus.specs.Scope as scopes
 use Rattle.calculus.specs.Form.{GoodCondition}
 use Rattle.question.specs.Trees.{Tree, nothing, branch, treeOf, Reading, reading, readingOf}
-use Rattle.nodes.specs.declared.node.Connective.the-variants.{And, Or, Not}
 use Rattle.nodes.specs.declared.node.Quantifier.the-variants.{Some, Every}
 use Rattle.nodes.specs.declared.node.Binder.the-variants.{Binding, Quantifies}
 use Rattle.nodes.specs.declared.node.Form.{Form}
@@ -31,17 +30,6 @@ no-range (Combines combination) a b c h = absurd (miss (2 ∷ 3 ∷ 5 ∷ 6 ∷ 
 no-range (Compares atom) a b c h = refl
 no-range (Connects connective) a b c h = refl
 no-range IllFormed a b c h = refl
-
--- a node that is no binder reads as no bindings
-pub no-bindings : (form : Form) (a b c : Reading) → OneOf (0 ∷ 1 ∷ 2 ∷ 4 ∷ 5 ∷ 6 ∷ 7 ∷ []) (tagOf the-type form) → readingOf form a b c .bindings ≡ noMore
-no-bindings (Table relation) a b c h = refl
-no-bindings Alpha a b c h = refl
-no-bindings (Target variable attribute) a b c h = refl
-no-bindings (Binds variable binder) a b c h = absurd (miss (0 ∷ 1 ∷ 2 ∷ 4 ∷ 5 ∷ 6 ∷ 7 ∷ []) 3 tt h)
-no-bindings (Combines combination) a b c h = refl
-no-bindings (Compares atom) a b c h = refl
-no-bindings (Connects connective) a b c h = refl
-no-bindings IllFormed a b c h = refl
 
 -- a node that is no target reads as none
 pub no-targets : (form : Form) (a b c : Reading) → OneOf (0 ∷ 1 ∷ 3 ∷ 4 ∷ 5 ∷ 6 ∷ 7 ∷ []) (tagOf the-type form) → readingOf form a b c .targets ≡ []

@@ -3,13 +3,13 @@ use mathlib.Core.Path.{_≡_, refl, sym, _∙_, ap, ap₂}
 use mathlib.Core.Bool.{true, false, true≢false, false≢true}
 use mathlib.Core.Logic.{_⊎_, inl, inr}
 use mathlib.Core.List.{List, [], _∷_}
-use Prim.Native.Nat.{ℕ, suc, _≤_, _<_, min}
+use Prim.Native.Nat.{ℕ, _≤_, _<_, min}
 use native.Mathlib.Omega.{arith}
 use lib.Dec.{ltb}
 use lib.ListN.{length, getD, set}
 use lib.Seq.{set-getD, set-set, set-comm}
 use borrow.Author.Tests.{lt-ltb, ltb-true, eqb-true}
-use Rattle.relations.specs.Limits.{columnLimit, questionNodeLimit, variableCount}
+use Rattle.relations.specs.Limits.{questionNodeLimit, variableCount}
 use Rattle.relations.proofs.BoolLaws.{true-or-false}
 use Rattle.nodes.specs.Nodes.{VariablesFit}
 use Rattle.nodes.proofs.Forms.{partsOf, partFits}

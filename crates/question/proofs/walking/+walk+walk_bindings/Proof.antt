@@ -1,18 +1,15 @@
 -- `question::walking::walk` and `walk_bindings` meet their contracts. The measure is twice the reference, and one more for bindings: each call is of a lower node,
 -- or of the same by `walk`. What each call leaves is the step of proofs/WalkLaws that takes what its calls left. Assumes nothing.
-use mathlib.Core.Path.{_≡_, sym, _∙_, ap}
-use mathlib.Core.Bool.{false}
+use mathlib.Core.Path.{sym, _∙_, ap}
 use Rattle.catalogue.specs.Stored.{columnsOf}
 use Rattle.nodes.specs.Nodes.{kindNamed, nodeAt}
-use Rattle.nodes.specs.declared.node.Form.{Form}
 use Rattle.nodes.specs.declared.node.Node.{Node}
 use Rattle.nodes.proofs.Forms.{node-fits, node-lower, node-variables}
 use Rattle.question.specs.Trees.{treeOf}
-use Rattle.question.specs.Judgement.{isAlpha}
 use Rattle.node_judging.specs.Steps.{noWidths, boundBy}
 use Rattle.relations.specs.Limits.{variableCount}
 use Rattle.question.proofs.TreeLaws.{tree-of-reference, tree-of-none}
-use Rattle.question.proofs.WalkLaws.{is-alpha-form, bound-within, IsBinder, is-binder, no-a, other-bound, none-walked, none-bound, alpha-walked, node-walked, binding-walked, other-walked, so-far-walked, so-far-bound, so-far-judged, back-again}
+use Rattle.question.proofs.WalkLaws.{is-alpha-form, bound-within, is-binder, no-a, other-bound, none-walked, none-bound, alpha-walked, node-walked, binding-walked, other-walked, so-far-walked, so-far-bound, so-far-judged, back-again}
 use borrow.Author.Needs.{needs}
 use native.Mathlib.Omega.{arith}
 use Prim.Native.Nat.{ℕ, _+_, _*_, _-_, _<_}
