@@ -24,9 +24,11 @@ use Rattle.nodes.specs.declared.node.Form.the-variants.{Binds}
 use Rattle.conditions.proofs.Readings.{made}
 use Rattle.conditions.specs.Readings.{Inside, Names, rangeAt, targetsAt, bindingsAt, restrictionAt}
 use Rattle.conditions.specs.Scopes.{noVariables, scopeOf, ScopeFits, Extended}
-use Rattle.plan_writing.specs.Translating.{translateWanted, RangeReady, RangeDone, BindingsReady, BindingsDone, ConditionReady, TargetsReady, TargetsDone}
+use Rattle.plan_steps.specs.Ranges.{RangeDone}
+use Rattle.plan_steps.specs.Targets.{TargetsReady, TargetsDone}
+use Rattle.plan_writing.specs.Translating.{translateWanted, RangeReady, BindingsReady, BindingsDone, ConditionReady}
 use Rattle.emission.specs.Written.{Room, Written}
-use Rattle.plan_writing.specs.declared.translate.MadeRange.{MadeRange}
+use Rattle.plan_steps.specs.declared.ranges.MadeRange.{MadeRange}
 use Rattle.plan_writing.proofs.BindingSteps.{Chain, chain}
 use Rattle.plan_writing.proofs.RangeSteps.{lower-call, range-wide}
 use Rattle.plan_writing.proofs.ConditionSteps.{wanted-maybe}

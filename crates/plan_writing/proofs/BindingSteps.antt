@@ -23,9 +23,10 @@ use Rattle.question.specs.Trees.{Reading, readingOf}
 use Rattle.nodes.proofs.Forms.{lower, lower-if-any, node-variables}
 use Rattle.conditions.specs.Readings.{Inside, Names, readingAt, rangeAt, bindingsAt}
 use Rattle.conditions.specs.Scopes.{withVariable, scopeOf, ScopeFits, Extended}
-use Rattle.plan_writing.specs.Translating.{bindingVariable, withBindings, RangeReady, RangeDone, BindingsReady, BindingsDone}
+use Rattle.plan_steps.specs.Ranges.{bindingVariable, RangeDone}
+use Rattle.plan_writing.specs.Translating.{withBindings, RangeReady, BindingsReady, BindingsDone}
 use Rattle.emission.specs.Written.{Room, Written}
-use Rattle.plan_writing.specs.declared.translate.MadeRange.{MadeRange}
+use Rattle.plan_steps.specs.declared.ranges.MadeRange.{MadeRange}
 use Rattle.conditions.proofs.Readings.{made, made-is, Below, fits-in, bindings-is}
 use Rattle.plan_writing.proofs.RangeSteps.{lower-call, range-wide}
 use Rattle.emission.proofs.WrittenLaws.{written-nothing, written-then, room-after, room-less, written-as, going-on}

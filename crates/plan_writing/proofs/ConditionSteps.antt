@@ -27,10 +27,10 @@ use Rattle.conditions.specs.Scopes.{scopeOf}
 use Rattle.conditions.specs.Atoms.{AtomNarrow}
 use Rattle.rule_writing.specs.Rules.{atomNodes}
 use Rattle.emission.specs.Written.{Room, Written}
-use Rattle.plan_writing.specs.Quantifying.{wantedIn, oppositeWanted, oppositeIf}
+use Rattle.plan_steps.specs.Quantifying.{wantedIn, oppositeWanted, oppositeIf}
 use Rattle.plan_writing.specs.Translating.{translateWanted, ConditionReady}
-use Rattle.plan_writing.specs.declared.quantifying.Wanted as code
-use Rattle.plan_writing.specs.declared.quantifying.Wanted.the-variants.{Itself, Opposite, Division}
+use Rattle.plan_steps.specs.declared.quantifying.Wanted as code
+use Rattle.plan_steps.specs.declared.quantifying.Wanted.the-variants.{Itself, Opposite, Division}
 use Rattle.conditions.proofs.Readings.{made, Part, and-parts, or-parts, not-part, binder-variable, quantifier-parts, restriction-is}
 use Rattle.conditions.proofs.OtherNodes.{restriction-good}
 use Rattle.conditions.proofs.LeafLaws.{found-narrow}

@@ -1,5 +1,3 @@
--- Targets
-pub mod TargetLaws
 -- The steps of translating
 pub mod RangeSteps
 pub mod BindingSteps

@@ -5,8 +5,9 @@ use mathlib.Core.Bool.{Bool}
 use mathlib.Core.List.{List}
 use Rattle.calculus.specs.Question.{Range, Bindings}
 use Rattle.emission.proofs.WrittenLaws.{written-unique}
-use Rattle.plan_writing.specs.Translating.{RangeDone, BindingsDone}
-use Rattle.plan_writing.specs.declared.translate.MadeRange.{MadeRange}
+use Rattle.plan_steps.specs.Ranges.{RangeDone}
+use Rattle.plan_writing.specs.Translating.{BindingsDone}
+use Rattle.plan_steps.specs.declared.ranges.MadeRange.{MadeRange}
 
 module _ {catalogue : List ℕ} {short : Bool} {before after other : List ℕ} {n : ℕ} where
   pub range-unique : {range : Range} {made as-well : MadeRange} → RangeDone catalogue short before range n after made → RangeDone catalogue short before range n other as-well → (after ≡ other) × (made ≡ as-well)

@@ -27,15 +27,16 @@ use Rattle.short_rules.specs.declared.fits.ShortRule.the-variants.{S2, S3, S4, 
 use Rattle.rule_writing.proofs.RuleLaws.{behind-range, rule-behind}
 use Rattle.emission.specs.Written.{Room, Written}
 use Rattle.question.specs.Trees.{quantified}
-use Rattle.plan_writing.specs.Quantifying.{wantedIn, wayOf, keptNodes}
-use Rattle.plan_writing.specs.Translating.{RangeReady, RangeDone, GoodAs, ConditionReady, translateWanted}
-use Rattle.plan_writing.specs.declared.translate.MadeRange.{MadeRange}
-use Rattle.plan_writing.specs.declared.quantifying.Wanted.{Wanted}
-use Rattle.plan_writing.specs.declared.quantifying.Wanted.the-variants.{Itself, Opposite, Division}
+use Rattle.plan_steps.specs.Quantifying.{wantedIn, wayOf, keptNodes}
+use Rattle.plan_steps.specs.Ranges.{RangeDone}
+use Rattle.plan_writing.specs.Translating.{RangeReady, GoodAs, ConditionReady, translateWanted}
+use Rattle.plan_steps.specs.declared.ranges.MadeRange.{MadeRange}
+use Rattle.plan_steps.specs.declared.quantifying.Wanted.{Wanted}
+use Rattle.plan_steps.specs.declared.quantifying.Wanted.the-variants.{Itself, Opposite, Division}
 use Rattle.nodes.specs.declared.node.Quantifier.{Quantifier}
 use Rattle.nodes.specs.declared.node.Quantifier.the-variants.{Some, Every}
-use Rattle.plan_writing.specs.declared.quantifying.Way.{Way}
-use Rattle.plan_writing.specs.declared.quantifying.Way.the-variants.{ByRule, AsDivisor, ByDivision, Plain}
+use Rattle.plan_steps.specs.declared.quantifying.Way.{Way}
+use Rattle.plan_steps.specs.declared.quantifying.Way.the-variants.{ByRule, AsDivisor, ByDivision, Plain}
 use Rattle.conditions.proofs.OtherNodes.{restriction-good}
 use Rattle.emission.proofs.WrittenLaws.{written-then, room-after, room-less, pred-is, written-as}
 use Rattle.plan_writing.proofs.RangeSteps.{range-wide}

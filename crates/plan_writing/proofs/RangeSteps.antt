@@ -22,12 +22,13 @@ use Rattle.question.specs.Trees.{alphaOf, combined}
 use Rattle.nodes.specs.declared.node.Form.the-variants.{Alpha, Combines}
 use Rattle.nodes.proofs.Forms.{lower, lower-if-any}
 use Rattle.conditions.specs.Readings.{Inside, Names, rangeAt, targetsAt, bindingsAt, restrictionAt}
-use Rattle.plan_writing.specs.Translating.{RangeReady, RangeDone}
+use Rattle.plan_steps.specs.Ranges.{RangeDone}
+use Rattle.plan_writing.specs.Translating.{RangeReady}
 use Rattle.emission.specs.Joins.{paired}
 use Rattle.emission.specs.Written.{Room, Written}
 use Rattle.nodes.specs.declared.node.Combination.{Combination}
 use Rattle.nodes.specs.declared.node.Combination.the-variants.{Or, And, AndNot}
-use Rattle.plan_writing.specs.declared.translate.MadeRange.{MadeRange}
+use Rattle.plan_steps.specs.declared.ranges.MadeRange.{MadeRange}
 use Rattle.conditions.proofs.Readings.{made, Below, fits-in, range-is}
 use Rattle.emission.proofs.WrittenLaws.{room-after, room-less, last-is, written-as, going-on}
 

@@ -1,38 +1,18 @@
 -- What the translating functions ask for and leave. Assumes nothing.
-use Prim.Native.Nat.{ℕ, _*_, _-_, _≤_, _<_}
+use Prim.Native.Nat.{ℕ, _*_, _≤_}
 use mathlib.Core.Path.{_≡_}
 use mathlib.Core.Bool.{Bool, true, _||_}
 use mathlib.Core.List.{List, []}
-use lib.ListN.{length}
-use Rattle.relations.specs.Limits.{listWords, variableCount}
-use Rattle.relations.specs.Lists.{All, flat}
 use Rattle.relations.specs.Nodes.{Node}
 use Rattle.calculus.specs.Question.{Range, Bindings, noMore, bind, MaybeCondition, noCondition, onCondition, rangeNodes, bindingNodes, maybeNodes}
-use Rattle.calculus.specs.Scope.{Scope, extend, columnsIn, targetColumns}
-use Rattle.calculus.specs.Form.{GoodTarget, widthOfRange, scopeOfBindings, GoodRange, GoodBindings, GoodMaybe}
-use Rattle.calculus.specs.ShortRules.{projectNodes, shortRule3Fits, shortRule5Fits, shortRule6Fits}
-use Rattle.calculus.specs.Translation.{Wanted, itself, itsOpposite, divisionBy, translateRange, translateBindings, translateCondition}
+use Rattle.calculus.specs.Scope.{Scope, extend}
+use Rattle.calculus.specs.Form.{widthOfRange, scopeOfBindings, GoodRange, GoodBindings, GoodMaybe}
+use Rattle.calculus.specs.ShortRules.{shortRule3Fits, shortRule5Fits, shortRule6Fits}
+use Rattle.calculus.specs.Translation.{Wanted, itself, itsOpposite, divisionBy, translateBindings, translateCondition}
 use Rattle.catalogue.specs.Stored.{relationsOf, columnsOf}
 use Rattle.judgements.specs.Accepted.{HasColumns}
-use Rattle.conditions.specs.Readings.{Inside, targetsAt}
 use Rattle.conditions.specs.Scopes.{scopeOf, ScopeFits, withVariable}
 use Rattle.emission.specs.Written.{Room, Written}
-use Rattle.nodes.specs.declared.node.Binder.the-variants.{Binding, Quantifies}
-use Rattle.nodes.specs.declared.node.Form.{Form}
-use Rattle.nodes.specs.declared.node.Form.the-variants.{Table, Alpha, Target, Binds, Combines, Compares, Connects, IllFormed}
-use Rattle.plan_writing.specs.declared.translate.MadeRange.{MadeRange}
-
--- the variable of a binding; none is one past the last
-abbrev pub bindingVariable : Form → ℕ
-bindingVariable (Table relation) = variableCount
-bindingVariable Alpha = variableCount
-bindingVariable (Target variable attribute) = variableCount
-bindingVariable (Binds variable Binding) = variable
-bindingVariable (Binds variable (Quantifies quantifier)) = variableCount
-bindingVariable (Combines combination) = variableCount
-bindingVariable (Compares atom) = variableCount
-bindingVariable (Connects connective) = variableCount
-bindingVariable IllFormed = variableCount
 
 -- T of a condition, for whatever is wanted of it; no nodes where there is none
 abbrev pub translateWanted : (columns : ℕ → ℕ) (short : Bool) → Wanted → MaybeCondition → Scope → (p n : ℕ) → List Node
@@ -54,11 +34,6 @@ module _ (catalogue : List ℕ) where
     pub good : GoodRange (columnsOf catalogue) (relationsOf catalogue) range
     pub stored : HasColumns catalogue
     pub room : Room plan n (4 * rangeNodes range)
-
-  pub record RangeDone (short : Bool) (before : List ℕ) (range : Range) (n : ℕ) (after : List ℕ) (made : MadeRange) : Type 0 where
-    pub written : Written before n (translateRange (columnsOf catalogue) short range n) after (made .count)
-    pub width : made .width ≡ widthOfRange (columnsOf catalogue) range
-    pub more : n < made .count
 
   pub record BindingsReady (plan : List ℕ) (bindings : Bindings) (scope : List ℕ) (n : ℕ) : Type 0 where
     pub good : GoodBindings (columnsOf catalogue) (relationsOf catalogue) bindings (scopeOf scope)
@@ -95,14 +70,3 @@ module _ (catalogue : List ℕ) where
     pub stored : HasColumns catalogue
     pub some-nodes : 1 ≤ n
     pub room : Room plan n (4 * maybeNodes restriction)
-
--- an alpha's targets: they are good, and no list is too short for their columns
-pub record TargetsReady (words : List ℕ) (reference : ℕ) (scope : List ℕ) : Type 0 where
-  pub inside : Inside words reference
-  pub fits : ScopeFits scope
-  pub good : All (GoodTarget (scopeOf scope)) (targetsAt words reference)
-  pub few : length (flat (targetColumns (scopeOf scope)) (targetsAt words reference)) ≤ listWords
-
-pub record TargetsDone (short : Bool) (words : List ℕ) (target : ℕ) (scope before : List ℕ) (n : ℕ) (after : List ℕ) (made : MadeRange) : Type 0 where
-  pub written : Written before n (projectNodes short (columnsIn (scopeOf scope)) (n - 1) (flat (targetColumns (scopeOf scope)) (targetsAt words target))) after (made .count)
-  pub width : made .width ≡ length (flat (targetColumns (scopeOf scope)) (targetsAt words target))

@@ -1,4 +1,2 @@
 // Planning: the plan of a question, range by range and condition by condition, as the rules name it.
-pub mod quantifying;
-pub mod targets;
 pub mod translate;

@@ -1,7 +1,6 @@
 // Translation: a range, the parts of an alpha and a condition call each other. Each function has a number of its own that falls at each call:
 // twice the reference of the node that it is handed, or one more than twice the greatest of the references of a node's parts. Nothing that is
 // long stands in these functions' frames but a scope that grows, so that the deepest question takes little stack.
-ghost use mathlib.Core.Path.{_≡_};
 ghost use Prim.Native.Nat.{_<_};
 ghost use Rattle.relations.specs.Limits.{variableCount};
 ghost use Rattle.calculus.specs.Question as calculus;
@@ -10,21 +9,13 @@ ghost use Rattle.catalogue.specs.Stored.{columnsOf};
 ghost use Rattle.question.specs.Trees.{alphaOf, combined, quantified};
 ghost use Rattle.conditions.specs.Readings.{Inside, Names, rangeAt, targetsAt, bindingsAt, restrictionAt, conditionAt};
 ghost use Rattle.conditions.specs.Scopes.{scopeOf};
-ghost use Rattle.emission.specs.Written.{Room, Written};
-ghost use Rattle.plan_writing.specs.Quantifying.{wantedIn};
-ghost use Rattle.plan_writing.specs.Translating.{bindingVariable, RangeReady, RangeDone, BindingsReady, BindingsDone, ConditionReady, translateWanted};
-use crate::quantifying::Wanted;
-use crate::quantifying::Way;
-use crate::quantifying::is_opposite;
-use crate::quantifying::opposite_if;
-use crate::quantifying::way_of;
-use crate::quantifying::write_kept;
-use crate::targets::write_targets;
-use catalogue::stored::columns_of;
+ghost use Rattle.emission.specs.Written.{Written};
+ghost use Rattle.plan_steps.specs.Quantifying.{wantedIn};
+ghost use Rattle.plan_steps.specs.Ranges.{RangeDone};
+ghost use Rattle.plan_writing.specs.Translating.{RangeReady, BindingsReady, BindingsDone, ConditionReady, translateWanted};
 use conditions::scope::SCOPE_BYTES;
 use conditions::scope::columns_in;
 use conditions::scope::extend;
-use emission::emit::load;
 use emission::emit::pair;
 use emission::emit::product;
 use nodes::node::Binder;
@@ -33,57 +24,21 @@ use nodes::node::Connective;
 use nodes::node::Form;
 use nodes::node::Quantifier;
 use nodes::node::decode;
+use plan_steps::quantifying::Wanted;
+use plan_steps::quantifying::Way;
+use plan_steps::quantifying::is_opposite;
+use plan_steps::quantifying::opposite_if;
+use plan_steps::quantifying::way_of;
+use plan_steps::quantifying::write_kept;
+use plan_steps::ranges::MadeRange;
+use plan_steps::ranges::binding_variable;
+use plan_steps::ranges::translate_table;
+use plan_steps::targets::write_targets;
 use relations::limits::VARIABLES;
 use rule_writing::rules::write_atom;
 use rule_writing::rules::write_rule;
 use short_rules::fits::ShortRule;
 use short_rules::fits::rule_fits;
-
-// How many nodes the plan has behind a range, and the range's width.
-pub struct MadeRange {
-    pub count: u32,
-    pub width: u32,
-}
-
-// Table: load.
-fn translate_table(
-    catalogue: &[u32],
-    short: bool,
-    relation: u32,
-    plan: &mut [u32],
-    n: u32,
-) -> MadeRange
-    requires { ⌜ Room (now plan) n 1 ⌝ }
-    ensures { λ r. ⌜ RangeDone (now (catalogue .entry)) short (now (plan .entry)) (calculus.table relation) n (now (plan .exit)) r ⌝ }
-{
-    let count = load(plan, n, relation);
-    MadeRange {
-        count,
-        width: columns_of(catalogue, relation as usize),
-    }
-}
-
-// The variable of a binding; none is one past the last.
-fn binding_variable(form: Form) -> u32
-    ensures { λ r. ⌜ r ≡ bindingVariable form ⌝ }
-{
-    match form {
-        Form::Table(_) => VARIABLES,
-        Form::Alpha => VARIABLES,
-        Form::Target {
-            variable: _,
-            attribute: _,
-        } => VARIABLES,
-        Form::Binds { variable, binder } => match binder {
-            Binder::Binding => variable,
-            Binder::Quantifies(_) => VARIABLES,
-        },
-        Form::Combines(_) => VARIABLES,
-        Form::Compares(_) => VARIABLES,
-        Form::Connects(_) => VARIABLES,
-        Form::IllFormed => VARIABLES,
-    }
-}
 
 // The nodes of the range that a reference names. A node of another sort, which refusal 2 shuts out, reads as relation 0.
 pub fn translate_range(

@@ -35,8 +35,9 @@ use Rattle.judgements.proofs.FaultsDecide.{faults-decide}
 use Rattle.question.proofs.Counts.{counted}
 use Rattle.translation.specs.TranslateCall.{TranslateOutcome, planOf, planBufferWords, unwritten, written, judgedOutcome, behindCatalogue, isShort, translateOutcome}
 use Rattle.emission.specs.HeavyCount.{heavyIn}
-use Rattle.plan_writing.specs.Translating.{RangeReady, RangeDone}
-use Rattle.plan_writing.specs.declared.translate.MadeRange.{MadeRange}
+use Rattle.plan_steps.specs.Ranges.{RangeDone}
+use Rattle.plan_writing.specs.Translating.{RangeReady}
+use Rattle.plan_steps.specs.declared.ranges.MadeRange.{MadeRange}
 use Rattle.emission.proofs.HeavyLaws.{heavy-written}
 
 module _ (catalogue question : List ℕ) (ok : catalogueOk catalogue ≡ true) (accepted : judgedByWalk catalogue question ≡ Accepted) where

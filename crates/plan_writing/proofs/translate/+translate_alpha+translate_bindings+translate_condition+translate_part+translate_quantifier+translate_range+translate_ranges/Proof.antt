@@ -10,7 +10,7 @@ use Rattle.conditions.specs.Scopes.{scopeOf}
 use Rattle.conditions.proofs.Readings.{made-is, named, range-is, bindings-none, restriction-is, restriction-none}
 use Rattle.conditions.proofs.OtherNodes.{no-range, no-restriction}
 use Rattle.short_rules.specs.declared.fits.ShortRule.the-variants.{S5}
-use Rattle.plan_writing.specs.Quantifying.{wantedIn}
+use Rattle.plan_steps.specs.Quantifying.{wantedIn}
 use Rattle.plan_writing.proofs.RangeSteps.{call-left, call-right, room-last, sides-done, call-sides, room-one, done-as, call-alpha}
 use Rattle.plan_writing.proofs.BindingSteps.{chain, binding-made, none-bound, call-bound, room-product, scope-grows, call-next, bindings-done, no-more-done}
 use Rattle.plan_writing.proofs.AlphaSteps.{alpha-asked, call-first, scope-starts, call-rest, some-joined, call-condition, call-targets, alpha-done, no-alpha}
@@ -49,13 +49,13 @@ use Rattle.conditions.proofs.scope.extend.Reads as extend-reads
 use Rattle.emission.proofs.emit.pair.Reads as pair-reads
 use Rattle.emission.proofs.emit.product.Reads as product-reads
 use Rattle.nodes.proofs.node.decode.Reads as decode-reads
-use Rattle.plan_writing.proofs.quantifying.is_opposite.Reads as is-opposite-reads
-use Rattle.plan_writing.proofs.quantifying.opposite_if.Reads as opposite-if-reads
-use Rattle.plan_writing.proofs.quantifying.way_of.Reads as way-of-reads
-use Rattle.plan_writing.proofs.quantifying.write_kept.Reads as write-kept-reads
-use Rattle.plan_writing.proofs.targets.write_targets.Reads as write-targets-reads
-use Rattle.plan_writing.proofs.translate.binding_variable.Reads as binding-variable-reads
-use Rattle.plan_writing.proofs.translate.translate_table.Reads as translate-table-reads
+use Rattle.plan_steps.proofs.quantifying.is_opposite.Reads as is-opposite-reads
+use Rattle.plan_steps.proofs.quantifying.opposite_if.Reads as opposite-if-reads
+use Rattle.plan_steps.proofs.quantifying.way_of.Reads as way-of-reads
+use Rattle.plan_steps.proofs.quantifying.write_kept.Reads as write-kept-reads
+use Rattle.plan_steps.proofs.targets.write_targets.Reads as write-targets-reads
+use Rattle.plan_steps.proofs.ranges.binding_variable.Reads as binding-variable-reads
+use Rattle.plan_steps.proofs.ranges.translate_table.Reads as translate-table-reads
 use Rattle.rule_writing.proofs.rules.write_atom.Reads as write-atom-reads
 use Rattle.rule_writing.proofs.rules.write_rule.Reads as write-rule-reads
 use Rattle.short_rules.proofs.fits.rule_fits.Reads as rule-fits-reads

@@ -1,8 +1,8 @@
 use Rattle.calculus.specs.Form.{widthOfRange}
 use Rattle.calculus.specs.Translation.{translateRange}
 use native.Mathlib.Omega.{arith}
-use Rattle.plan_writing.proofs.translate.translate_table.Statement.{statement}
-use Rattle.plan_writing.proofs.translate.translate_table.Tie as tie
+use Rattle.plan_steps.proofs.ranges.translate_table.Statement.{statement}
+use Rattle.plan_steps.proofs.ranges.translate_table.Tie as tie
 
 load-requires : tie.Need-load-requires
 load-requires c κs = c .before .before .before .pre

@@ -1,4 +1,4 @@
-use Rattle.plan_writing.proofs.TargetLaws.{whole-target, one-target}
+use Rattle.plan_steps.proofs.TargetLaws.{whole-target, one-target}
 use Rattle.calculus.proofs.LegalColumns.{widths-in-columns}
 use Rattle.emission.specs.NodeLists.{grownBy, numbersOf}
 use Rattle.conditions.specs.Scopes.{scopeOf}
@@ -12,8 +12,8 @@ use mathlib.Core.List.{[], _∷_}
 use mathlib.Core.Path.{sym, ap, ap₂, subst, _∙_}
 use Prim.Native.Nat.{ℕ, _≤_}
 use native.Mathlib.Omega.{arith}
-use Rattle.plan_writing.proofs.targets.with_target.Statement.{statement}
-use Rattle.plan_writing.proofs.targets.with_target.Tie as tie
+use Rattle.plan_steps.proofs.targets.with_target.Statement.{statement}
+use Rattle.plan_steps.proofs.targets.with_target.Tie as tie
 
 column-number-requires : tie.Need-column-number-requires
 column-number-requires c κs = (c .before .pre .0, omega arith)

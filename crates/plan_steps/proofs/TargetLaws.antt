@@ -21,7 +21,7 @@ use Rattle.conditions.proofs.Readings.{made, fits-in, targets-is, targets-none}
 use Rattle.emission.specs.NodeLists.{nodeList, grownBy, numbersOf}
 use Rattle.emission.specs.declared.node_list.NodeList.{NodeList}
 use Rattle.emission.proofs.NodeListLaws.{numbers-append, grown-used, grown-step, grown-none, grown-list}
-use Rattle.plan_writing.specs.Translating.{TargetsReady}
+use Rattle.plan_steps.specs.Targets.{TargetsReady}
 
 pub whole-target : (variable : ℕ) {number : ℕ} → number ≡ 0 → targetOf variable number ≡ wholeRow variable
 whole-target variable e = ap (targetOf variable) e

@@ -5,15 +5,15 @@ use Rattle.calculus.specs.Question.{Condition}
 use Rattle.calculus.specs.ShortRules.{shortRule2Fits, shortRule4Fits, shortRule5Fits}
 use Rattle.conditions.specs.Readings.{conditionAt}
 use Rattle.short_rules.specs.declared.fits.ShortRule.the-variants.{S2, S4}
-use Rattle.plan_writing.specs.Quantifying.{wayOf}
-use Rattle.plan_writing.specs.declared.quantifying.Wanted.{Wanted}
-use Rattle.plan_writing.specs.declared.quantifying.Wanted.the-variants.{Itself}
+use Rattle.plan_steps.specs.Quantifying.{wayOf}
+use Rattle.plan_steps.specs.declared.quantifying.Wanted.{Wanted}
+use Rattle.plan_steps.specs.declared.quantifying.Wanted.the-variants.{Itself}
 use Rattle.nodes.specs.declared.node.Quantifier.{Quantifier}
 use Rattle.nodes.specs.declared.node.Quantifier.the-variants.{Some, Every}
-use Rattle.plan_writing.specs.declared.quantifying.Way.the-variants.{ByRule, ByDivision, Plain}
+use Rattle.plan_steps.specs.declared.quantifying.Way.the-variants.{ByRule, ByDivision, Plain}
 use borrow.Author.Needs.{needs}
-use Rattle.plan_writing.proofs.quantifying.way_of.Statement.{statement}
-use Rattle.plan_writing.proofs.quantifying.way_of.Tie as tie
+use Rattle.plan_steps.proofs.quantifying.way_of.Statement.{statement}
+use Rattle.plan_steps.proofs.quantifying.way_of.Tie as tie
 
 -- a test by what the code has found
 tested : (short : Bool) {fits rule answer : Bool} → fits ≡ rule → (short && fits) ≡ answer → (short && rule) ≡ answer

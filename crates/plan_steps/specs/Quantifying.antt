@@ -8,12 +8,12 @@ use Rattle.calculus.specs.Scope.{allColumns}
 use Rattle.calculus.specs.ShortRules.{shortRule2Fits, shortRule4Fits, shortRule5Fits}
 use Rattle.calculus.specs.Translation as calculus
 use Rattle.short_rules.specs.declared.fits.ShortRule.the-variants.{S2, S3, S4}
-use Rattle.plan_writing.specs.declared.quantifying.Wanted.{Wanted}
-use Rattle.plan_writing.specs.declared.quantifying.Wanted.the-variants.{Itself, Opposite, Division}
+use Rattle.plan_steps.specs.declared.quantifying.Wanted.{Wanted}
+use Rattle.plan_steps.specs.declared.quantifying.Wanted.the-variants.{Itself, Opposite, Division}
 use Rattle.nodes.specs.declared.node.Quantifier.{Quantifier}
 use Rattle.nodes.specs.declared.node.Quantifier.the-variants.{Some, Every}
-use Rattle.plan_writing.specs.declared.quantifying.Way.{Way}
-use Rattle.plan_writing.specs.declared.quantifying.Way.the-variants.{ByRule, AsDivisor, ByDivision, Plain}
+use Rattle.plan_steps.specs.declared.quantifying.Way.{Way}
+use Rattle.plan_steps.specs.declared.quantifying.Way.the-variants.{ByRule, AsDivisor, ByDivision, Plain}
 
 abbrev pub wantedIn : Wanted → calculus.Wanted
 wantedIn Itself = calculus.itself

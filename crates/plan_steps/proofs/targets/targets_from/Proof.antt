@@ -3,10 +3,10 @@ use Prim.Native.Nat.{_-_}
 use Rattle.conditions.specs.Readings.{readingAt}
 use Rattle.conditions.proofs.Readings.{made-is, targets-is}
 use Rattle.conditions.proofs.OtherNodes.{no-targets}
-use Rattle.plan_writing.proofs.TargetLaws.{TargetsLeft, targets-start, next-lower, target-ready, targets-on, targets-end, targets-done}
+use Rattle.plan_steps.proofs.TargetLaws.{TargetsLeft, targets-start, next-lower, target-ready, targets-on, targets-end, targets-done}
 use native.Mathlib.Omega.{arith}
-use Rattle.plan_writing.proofs.targets.targets_from.Statement.{statement}
-use Rattle.plan_writing.proofs.targets.targets_from.Tie as tie
+use Rattle.plan_steps.proofs.targets.targets_from.Statement.{statement}
+use Rattle.plan_steps.proofs.targets.targets_from.Tie as tie
 
 abbrev Inv-loop : tie.InvT-loop
 Inv-loop words reference scope list₀ at₀ list at = TargetsLeft words scope reference at list

@@ -5,7 +5,7 @@ ghost use Rattle.relations.specs.Limits.{listWords, questionNodeLimit};
 ghost use Rattle.calculus.specs.Question.{conditionNodes};
 ghost use Rattle.conditions.specs.Readings.{Names, conditionAt};
 ghost use Rattle.emission.specs.Written.{Room, Written};
-ghost use Rattle.plan_writing.specs.Quantifying.{wayOf, keptNodes, oppositeWanted, oppositeIf};
+ghost use Rattle.plan_steps.specs.Quantifying.{wayOf, keptNodes, oppositeWanted, oppositeIf};
 use emission::emit::pair;
 use emission::emit::project_first;
 use nodes::node::Combination;

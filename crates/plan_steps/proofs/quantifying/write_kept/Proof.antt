@@ -3,11 +3,11 @@ use mathlib.Core.Path.{sym, ap}
 use mathlib.Core.List.{[], _∷_}
 use Rattle.relations.specs.Nodes.{subtract}
 use Rattle.emission.proofs.WrittenLaws.{written-then, written-as}
-use Rattle.plan_writing.specs.Quantifying.{keptNodes}
+use Rattle.plan_steps.specs.Quantifying.{keptNodes}
 use Rattle.nodes.specs.declared.node.Quantifier.{Quantifier}
 use borrow.Author.Needs.{needs}
-use Rattle.plan_writing.proofs.quantifying.write_kept.Statement.{statement}
-use Rattle.plan_writing.proofs.quantifying.write_kept.Tie as tie
+use Rattle.plan_steps.proofs.quantifying.write_kept.Statement.{statement}
+use Rattle.plan_steps.proofs.quantifying.write_kept.Tie as tie
 
 enum-told : tie.Need-enum-told
 enum-told c = search needs

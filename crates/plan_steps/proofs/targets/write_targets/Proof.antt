@@ -12,8 +12,8 @@ use Rattle.emission.specs.declared.node_list.NodeList.{NodeList}
 use Rattle.emission.proofs.NodeListLaws.{names-attributes, lists-attributes}
 use Rattle.emission.proofs.WrittenLaws.{written-as}
 use borrow.Author.Needs.{needs}
-use Rattle.plan_writing.proofs.targets.write_targets.Statement.{statement}
-use Rattle.plan_writing.proofs.targets.write_targets.Tie as tie
+use Rattle.plan_steps.proofs.targets.write_targets.Statement.{statement}
+use Rattle.plan_steps.proofs.targets.write_targets.Tie as tie
 
 targets-from-requires : tie.Need-targets-from-requires
 targets-from-requires c κs = search needs

@@ -1,0 +1,2 @@
+-- Targets
+pub mod TargetLaws
