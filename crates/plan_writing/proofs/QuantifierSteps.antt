@@ -1,5 +1,5 @@
 -- "Some" and "every": what their calls ask for, from what they are given, and what each way of making their nodes leaves. Assumes nothing.
-use Prim.Native.Nat.{ℕ, suc, pred, _+_, _*_, _-_, _≤_, _<_}
+use Prim.Native.Nat.{ℕ, suc, pred, _+_, _*_, _-_, _≤_, _<_, max}
 use mathlib.Core.Path.{_≡_, refl, sym, ap, subst, _∙_}
 use mathlib.Core.Bool.{Bool, true, false, cond, _&&_, _||_, false≢true}
 use mathlib.Core.List.{List, [], _∷_, _++_, map}
@@ -19,7 +19,7 @@ use Rattle.calculus.specs.Translation.{itself, divisionBy, translateRange, tran
 use Rattle.calculus.proofs.ScopeLaws.{columns-extend}
 use Rattle.calculus.proofs.SizeTheorem.{range-size, condition-size}
 use Rattle.catalogue.specs.Stored.{relationsOf, columnsOf}
-use Rattle.conditions.specs.Readings.{Names, conditionAt, restrictionAt}
+use Rattle.conditions.specs.Readings.{Names, rangeAt, conditionAt, restrictionAt}
 use Rattle.conditions.specs.Scopes.{scopeOf, ScopeFits, Extended}
 use Rattle.rule_writing.specs.Rules.{ruleAtoms, ruleNodes, dividendNodes, RuleReady}
 use Rattle.short_rules.specs.declared.fits.ShortRule.{ShortRule}
@@ -37,6 +37,14 @@ use Rattle.nodes.specs.declared.node.Quantifier.{Quantifier}
 use Rattle.nodes.specs.declared.node.Quantifier.the-variants.{Some, Every}
 use Rattle.plan_steps.specs.declared.quantifying.Way.{Way}
 use Rattle.plan_steps.specs.declared.quantifying.Way.the-variants.{ByRule, AsDivisor, ByDivision, Plain}
+use Rattle.nodes.specs.Nodes.{nodeAt}
+use Rattle.nodes.specs.declared.node.Node as question
+use Rattle.nodes.specs.declared.node.Binder.the-variants.{Quantifies}
+use Rattle.nodes.specs.declared.node.Form.the-variants.{Binds}
+use Rattle.short_rules.specs.Fits.{someVariable}
+use Rattle.short_rules.proofs.FitLaws.{some-decoded, divided-some}
+use Rattle.conditions.proofs.Readings.{made as decoded, condition-is, restriction-is, binder-variable, quantifier-parts}
+use Rattle.judgements.proofs.KindsAlike.{quantified-nodes, quantified-good}
 use Rattle.conditions.proofs.OtherNodes.{restriction-good}
 use Rattle.emission.proofs.WrittenLaws.{written-then, room-after, room-less, pred-is, written-as}
 use Rattle.plan_writing.proofs.RangeSteps.{range-wide}
@@ -64,14 +72,11 @@ module _ (catalogue : List ℕ) where
     narrow : columnsIn s + widthOfRange (columnsOf catalogue) range ≤ columnLimit
 
   parts : (quantifier : Quantifier) {x : ℕ} {range : Range} {f : Condition} {s : calculus.Scope} → Good (quantified quantifier x range f) s → Parts x range f s
-  unfolding GoodCondition
-  parts Some g = record { range-good = g .1; inside-good = g .2; narrow = g .3 }
-  parts Every g = record { range-good = g .1; inside-good = g .2; narrow = g .3 }
+  parts quantifier {x} {range} {f} {s} good = let g = rw (quantified-good (columnsOf catalogue) (relationsOf catalogue) quantifier x range f s) at good in record { range-good = g .1; inside-good = g .2; narrow = g .3 }
 
 quantified-size : (quantifier : Quantifier) (x : ℕ) (range : Range) (f : Condition) → maybeNodes (onCondition (quantified quantifier x range f)) ≡ rangeNodes range + conditionNodes f + 1
-unfolding conditionNodes
-quantified-size Some x range f = omega arith
-quantified-size Every x range f = omega arith
+unfolding maybeNodes
+quantified-size quantifier x range f = quantified-nodes quantifier x range f
 
 some-condition : (f : Condition) → 1 ≤ conditionNodes f
 unfolding conditionNodes
@@ -331,7 +336,7 @@ module _ (quantifier : Quantifier) (wanted : Wanted) (x : ℕ) (range : Range) (
     room-inside : Room after (made .count) (4 * conditionNodes inner + 4)
     room-inside = room-behind quantifier wanted x range inner known r done
 
-    pub divided-ready : (k : ℕ) → shortRule5Fits x inner ≡ true → ConditionReady catalogue after (divisionBy x k) (restrictionAt words condition) scope (made .count)
+    divided-ready : (k : ℕ) → shortRule5Fits x inner ≡ true → ConditionReady catalogue after (divisionBy x k) (restrictionAt words condition) scope (made .count)
     unfolding GoodMaybe maybeNodes
     divided-ready k fits =
         subst (λ (m : MaybeCondition). ConditionReady catalogue after (divisionBy x k) m scope (made .count)) (sym restricts) (record {
@@ -341,6 +346,33 @@ module _ (quantifier : Quantifier) (wanted : Wanted) (x : ℕ) (range : Range) (
           some-nodes = omega (arith, done .more);
           room = room-less _ room-inside (omega arith);
         })
+
+    -- the "some" below a division
+    module _ (names : Names words condition) {node : question.Node} {z : ℕ} (d : node ≡ nodeAt words (condition - 1)) (v : z ≡ someVariable (node .form)) (fits : shortRule5Fits x inner ≡ true) where
+      below : decoded (Binds z (Quantifies Some)) (node .a) (node .b) (node .c) ≡ nodeAt words (condition - 1)
+      below = rw v (some-decoded words names d (divided-some words names d x fits))
+
+      reads-below : inner ≡ quantified Some z (rangeAt words (node .b)) (conditionAt words (node .c))
+      reads-below = condition-is words condition (decoded (Binds z (Quantifies Some)) (node .a) (node .b) (node .c)) (names .0) below
+
+      pub call-below : {t : ℕ} (k other : ℕ) → 2 * max other condition + 1 ≡ t
+          → (2 * max (node .b) (node .c) + 1 < t) × ((z < variableCount) × Names words (node .b) × Names words (node .c) × ConditionReady catalogue after (divisionBy x k) (onCondition (quantified Some z (rangeAt words (node .b)) (conditionAt words (node .c)))) scope (made .count))
+      call-below k other m =
+          let parts = quantifier-parts words condition names below in
+          let b : node .b < condition = parts .0 .1 in
+          let c : node .c < condition = parts .1 .1 in (
+            omega arith,
+            (
+              binder-variable words condition names below,
+              parts .0 .0,
+              parts .1 .0,
+              subst (λ (f : MaybeCondition). ConditionReady catalogue after (divisionBy x k) f scope (made .count)) (restriction-is words condition (decoded (Binds z (Quantifies Some)) (node .a) (node .b) (node .c)) (names .0) below) (divided-ready k fits),
+            ),
+          )
+
+      pub written-below : (k p : ℕ) {end : List ℕ} {count : ℕ} → Written after (made .count) (translateCondition (columnsOf catalogue) short (quantified Some z (rangeAt words (node .b)) (conditionAt words (node .c))) (divisionBy x k) (scopeOf scope) p (made .count)) end count
+          → Written after (made .count) (translateCondition (columnsOf catalogue) short inner (divisionBy x k) (scopeOf scope) p (made .count)) end count
+      written-below k p w = written-as (ap (λ (f : Condition). translateCondition (columnsOf catalogue) short f (divisionBy x k) (scopeOf scope) p (made .count)) reads-below) w
 
     module _ {longer : List ℕ} (extended : Extended scope x (made .width) longer) {p : ℕ} {middle : List ℕ} {count : ℕ} (product : Written after (made .count) (join p (made .count - 1) [] ∷ []) middle count) where
       pub inside-ready : ConditionReady catalogue middle itself (restrictionAt words condition) longer count

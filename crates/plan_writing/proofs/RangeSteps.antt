@@ -15,6 +15,7 @@ use Rattle.calculus.proofs.RuleNodes.{plainSides}
 use Rattle.calculus.proofs.ScopeLaws.{targets-width}
 use Rattle.calculus.proofs.SizeTheorem.{range-size}
 use Rattle.judgements.specs.Accepted.{HasColumns}
+use Rattle.judgements.proofs.KindsAlike.{combined-nodes, combined-width, combined-good}
 use Rattle.catalogue.specs.Stored.{relationsOf, columnsOf}
 use Rattle.nodes.specs.Kinds.{isTarget, isBinding, isRange, isCondition}
 use Rattle.nodes.specs.Nodes.{nodeAt}
@@ -55,26 +56,8 @@ range-wide catalogue stored (rangeAndNot a b) good = range-wide catalogue stored
 pub lower-call : (words : List ℕ) {t reference lower : ℕ} {Ready : Type 0} → 2 * reference ≤ t → Names words reference → Below reference lower → Ready → (2 * lower < t) × (Names words lower × Ready)
 lower-call words h names below ready = (omega (arith, names .0, below .1), ((below .0, omega (arith, names .1, below .1)), ready))
 
--- a range of two ranges: its size, width, good form and nodes, by those of its sides
+-- a range of two ranges: its nodes, by those of its sides
 module _ (columns : ℕ → ℕ) where
-  sides-size : (how : Combination) (a b : Range) → rangeNodes (combined how a b) ≡ rangeNodes a + rangeNodes b + 1
-  unfolding rangeNodes
-  sides-size Or a b = refl
-  sides-size And a b = refl
-  sides-size AndNot a b = refl
-
-  sides-wide : (how : Combination) (a b : Range) → widthOfRange columns (combined how a b) ≡ widthOfRange columns a
-  unfolding widthOfRange
-  sides-wide Or a b = refl
-  sides-wide And a b = refl
-  sides-wide AndNot a b = refl
-
-  sides-good : (how : Combination) (relations : ℕ) (a b : Range) → GoodRange columns relations (combined how a b) → GoodRange columns relations a × GoodRange columns relations b
-  unfolding GoodRange
-  sides-good Or relations a b g = (g .0, g .1)
-  sides-good And relations a b g = (g .0, g .1)
-  sides-good AndNot relations a b g = (g .0, g .1)
-
   sides-nodes : (how : Combination) (short : Bool) (a b : Range) (n : ℕ) → translateRange columns short (combined how a b) n ≡ plainSides (paired how) (λ m. translateRange columns short a m) (λ m. translateRange columns short b m) n
   unfolding translateRange
   sides-nodes Or short a b n = refl
@@ -96,14 +79,14 @@ module _ (how : Combination) (words : List ℕ) (left right : ℕ) {catalogue pl
   ready = asked .1 .2
 
   good : GoodRange columns (relationsOf catalogue) a × GoodRange columns (relationsOf catalogue) b
-  good = sides-good columns how (relationsOf catalogue) a b (ready .good)
+  good = let g = rw (combined-good columns (relationsOf catalogue) how a b) at (ready .good) in (g .0, g .1)
 
   pub call-left : (2 * left < t) × (Names words left × RangeReady catalogue plan a n)
-  call-left = (omega (arith, asked .0), (asked .1 .0, record { good = good .0; stored = ready .stored; room = room-less _ (ready .room) (omega (arith, sides-size columns how a b)) }))
+  call-left = (omega (arith, asked .0), (asked .1 .0, record { good = good .0; stored = ready .stored; room = room-less _ (ready .room) (omega (arith, combined-nodes how a b)) }))
 
   module _ {short : Bool} {middle : List ℕ} {first : MadeRange} (l : RangeDone catalogue short plan a n middle first) where
     room-right : Room middle (first .count) (4 * rangeNodes b + 1)
-    room-right = room-after _ (ready .room) (l .written) (omega (arith, sides-size columns how a b, range-size columns short a n))
+    room-right = room-after _ (ready .room) (l .written) (omega (arith, combined-nodes how a b, range-size columns short a n))
 
     pub call-right : (2 * right < t) × (Names words right × RangeReady catalogue middle b (first .count))
     call-right = (omega (arith, asked .0), (asked .1 .1, record { good = good .1; stored = ready .stored; room = room-less _ room-right (omega arith) }))
@@ -119,7 +102,7 @@ module _ (how : Combination) (words : List ℕ) (left right : ℕ) {catalogue pl
           let both : Written plan n (T n ++ U (n + length (T n))) later (second .count) = going-on (λ p m. U m) (l .written) (r .written) in
           record {
             written = written-as (sides-nodes columns how short a b n ∙ ap (λ (p : ℕ). (T n ++ U (n + length (T n))) ++ (paired how p (lastNumber n (T n ++ U (n + length (T n)))) ∷ [])) (last-is (l .written))) (going-on (λ p m. paired how (first .count - 1) p ∷ []) both w);
-            width = l .width ∙ sym (sides-wide columns how a b);
+            width = l .width ∙ sym (combined-width columns how a b);
             more = omega (arith, l .more, r .more, w .counted);
           }
 

@@ -39,6 +39,7 @@ use rule_writing::rules::write_atom;
 use rule_writing::rules::write_rule;
 use short_rules::fits::ShortRule;
 use short_rules::fits::rule_fits;
+use short_rules::fits::some_variable;
 
 // The nodes of the range that a reference names. A node of another sort, which refusal 2 shuts out, reads as relation 0.
 pub fn translate_range(
@@ -280,7 +281,8 @@ fn translate_part(
     )
 }
 
-// Some, every: a short rule; the division of S5; else range, product Q with P, T(f, Q), and of Q's rows what the quantifier keeps of P.
+// Some, every: a short rule; the division of S5 by the "some" below; else range, product Q with P, T(f, Q), and of Q's rows what the quantifier keeps of P.
+// It calls itself there, so the compiler does not inline it: a "not" takes no room for what only a quantifier needs.
 fn translate_quantifier(
     catalogue: &[u32],
     words: &[u32],
@@ -328,17 +330,25 @@ fn translate_quantifier(
             plan,
             q,
         ),
-        Way::ByDivision => translate_condition(
-            catalogue,
-            words,
-            short,
-            condition,
-            Wanted::Division { y: x, k: q - 1 },
-            scope,
-            p,
-            plan,
-            q,
-        ),
+        Way::ByDivision => {
+            let node = decode(words, (condition - 1) as usize);
+            let form = node.form;
+            let z = some_variable(form);
+            translate_quantifier(
+                catalogue,
+                words,
+                short,
+                Quantifier::Some,
+                Wanted::Division { y: x, k: q - 1 },
+                z,
+                node.b,
+                node.c,
+                scope,
+                p,
+                plan,
+                q,
+            )
+        }
         Way::Plain => {
             let mut inner = *scope;
             extend(&mut inner, x, made.width);

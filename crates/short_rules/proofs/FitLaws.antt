@@ -1,9 +1,13 @@
 -- When the short rules fit a node's condition. Assumes nothing.
 use Prim.Native.Nat.{ℕ, _-_, _≤_, _<_}
 use mathlib.Core.Path.{_≡_, refl, sym, ap, _∙_}
-use mathlib.Core.Bool.{Bool, false, _||_, or-false}
+use mathlib.Core.Bool.{Bool, true, false, _||_, or-false, true≢false}
+use mathlib.Core.Logic.{_⊎_, inl, inr}
 use mathlib.Core.List.{List}
 use native.Mathlib.Omega.{arith}
+use lib.Dec.{ltb}
+use borrow.Author.Tests.{ltb-true, ltb-false}
+use Rattle.relations.proofs.BoolLaws.{true-or-false}
 use Rattle.relations.specs.Limits.{questionNodeLimit, variableCount}
 use Rattle.calculus.specs.Question.{Range, Condition, forSome, conditionNodes}
 use Rattle.calculus.specs.ShortRules.{shortRule2Fits, shortRule3Fits, shortRule5Fits, shortRule6Fits}
@@ -15,7 +19,8 @@ use Rattle.nodes.specs.declared.node.Form.{Form}
 use Rattle.nodes.specs.declared.node.Form.the-variants.{Table, Alpha, Target, Binds, Combines, Compares, Connects, IllFormed}
 use Rattle.nodes.specs.declared.node.Node.{Node}
 use Rattle.nodes.specs.Nodes.{nodeAt, VariablesFit}
-use Rattle.conditions.specs.Readings.{Names, rangeAt, conditionAt}
+use Rattle.conditions.specs.Readings.{Names, readingAt, rangeAt, conditionAt}
+use Rattle.nodes.proofs.Forms.{node-variables}
 use Rattle.conditions.proofs.Readings.{made, made-is, condition-is, quantifier-parts}
 use Rattle.short_rules.specs.Fits.{ruleFits, someVariable, isAtom}
 use Rattle.short_rules.specs.declared.fits.ShortRule.{ShortRule}
@@ -39,17 +44,17 @@ some-is IllFormed h = absurd (omega arith)
 
 -- the "some" that a reference names
 module _ (words : List ℕ) {reference : ℕ} (h : Names words reference) {node : Node} (e : node ≡ nodeAt words (reference - 1)) (s : someVariable (node .form) < variableCount) where
-  some-made : made (Binds (someVariable (node .form)) (Quantifies Some)) (node .a) (node .b) (node .c) ≡ nodeAt words (reference - 1)
-  some-made = made-is words (reference - 1) (some-is (node .form) s) e
+  pub some-decoded : made (Binds (someVariable (node .form)) (Quantifies Some)) (node .a) (node .b) (node .c) ≡ nodeAt words (reference - 1)
+  some-decoded = made-is words (reference - 1) (some-is (node .form) s) e
 
   pub some-reads : conditionAt words reference ≡ forSome (someVariable (node .form)) (rangeAt words (node .b)) (conditionAt words (node .c))
-  some-reads = condition-is words reference (made (Binds (someVariable (node .form)) (Quantifies Some)) (node .a) (node .b) (node .c)) (h .0) some-made
+  some-reads = condition-is words reference (made (Binds (someVariable (node .form)) (Quantifies Some)) (node .a) (node .b) (node .c)) (h .0) some-decoded
 
   pub some-below : node .c < reference
-  some-below = quantifier-parts words reference h some-made .1 .1
+  some-below = quantifier-parts words reference h some-decoded .1 .1
 
   pub some-ready : conditionNodes (conditionAt words reference) ≤ questionNodeLimit → Names words (node .c) × (conditionNodes (conditionAt words (node .c)) ≤ questionNodeLimit)
-  some-ready few = (quantifier-parts words reference h some-made .1 .0, some-nodes-below some-reads few)
+  some-ready few = (quantifier-parts words reference h some-decoded .1 .0, some-nodes-below some-reads few)
 
 -- the rule is known in each arm
 pub fits-told : (x : ℕ) (f : Condition) {rule known : ShortRule} {fits : Bool} → rule ≡ known → fits ≡ ruleFits known x f → fits ≡ ruleFits rule x f
@@ -91,3 +96,14 @@ atom-opposite (Connects And) a b c fits h = refl
 atom-opposite (Connects Or) a b c fits h = refl
 atom-opposite (Connects Not) a b c fits h = refl
 atom-opposite IllFormed a b c fits h = refl
+
+-- so what S5 fits is a "some"
+pub divided-some : (words : List ℕ) {reference : ℕ} → Names words reference → {node : Node} → node ≡ nodeAt words (reference - 1) → (y : ℕ) → shortRule5Fits y (conditionAt words reference) ≡ true → someVariable (node .form) < variableCount
+divided-some words {reference} h {node} e y fits = go (true-or-false (ltb (someVariable (node .form)) variableCount))
+  where
+    go : (ltb (someVariable (node .form)) variableCount ≡ true) ⊎ (ltb (someVariable (node .form)) variableCount ≡ false) → someVariable (node .form) < variableCount
+    go (inl t) = ltb-true (someVariable (node .form)) variableCount t
+    go (inr f) =
+        absurd (true≢false (sym fits
+        ∙ ap (shortRule5Fits y) (condition-is words reference node (h .0) e)
+        ∙ not-divided y (node .form) (readingAt words (node .a)) (readingAt words (node .b)) (readingAt words (node .c)) (rw e (node-variables words (reference - 1))) (ltb-false (someVariable (node .form)) variableCount f)))

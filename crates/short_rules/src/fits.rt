@@ -112,7 +112,7 @@ fn tree_fits(words: &[u32], disjoined: bool, x: u32, reference: u32) -> bool
 }
 
 // The variable of a "some"; none is one past the last.
-fn some_variable(form: Form) -> u32
+pub fn some_variable(form: Form) -> u32
     ensures { λ r. ⌜ r ≡ someVariable form ⌝ }
 {
     match form {

@@ -2,7 +2,6 @@
 use Prim.Native.Nat.{_+_, _*_, _-_, max}
 use mathlib.Core.Path.{refl, sym, ap, _∙_}
 use Rattle.catalogue.specs.Stored.{columnsOf}
-use Rattle.calculus.specs.Translation.{divisionBy}
 use Rattle.question.specs.Trees.{atomOf}
 use Rattle.nodes.specs.declared.node.Form.the-variants.{Binds, Connects}
 use Rattle.conditions.specs.Readings.{readingAt, conditionAt, rangeAt}
@@ -14,8 +13,8 @@ use Rattle.plan_steps.specs.Quantifying.{wantedIn}
 use Rattle.plan_writing.proofs.RangeSteps.{call-left, call-right, room-last, sides-done, call-sides, room-one, done-as, call-alpha}
 use Rattle.plan_writing.proofs.BindingSteps.{chain, binding-made, none-bound, call-bound, room-product, scope-grows, call-next, bindings-done, no-more-done}
 use Rattle.plan_writing.proofs.AlphaSteps.{alpha-asked, call-first, scope-starts, call-rest, some-joined, call-condition, call-targets, alpha-done, no-alpha}
-use Rattle.plan_writing.proofs.ConditionSteps.{ready-as, written-restriction, written-condition, written-none, and-written, or-written, atom-written, atom-step, and-step, or-step, not-step, quantifier-step, left-ready, left-written, right-ready, right-written, room-behind-both, inner-few, inner-ready, opposite-done, room-behind-inner, not-done}
-use Rattle.plan_writing.proofs.QuantifierSteps.{range-ready, few-nodes, inner-grows, room-inner, rule-ready, rule-way, divisor-way, division-way, plain-way, rule-done, division-done, plain-done, restricts, divided-ready, inside-ready, inside-written, some-met, room-kept}
+use Rattle.plan_writing.proofs.ConditionSteps.{ready-as, written-restriction, written-none, and-written, or-written, atom-written, atom-step, and-step, or-step, not-step, quantifier-step, left-ready, left-written, right-ready, right-written, room-behind-both, inner-few, inner-ready, opposite-done, room-behind-inner, not-done}
+use Rattle.plan_writing.proofs.QuantifierSteps.{range-ready, few-nodes, inner-grows, room-inner, rule-ready, rule-way, divisor-way, division-way, plain-way, rule-done, division-done, plain-done, call-below, written-below, inside-ready, inside-written, some-met, room-kept}
 use Rattle.plan_writing.proofs.translate.+translate_alpha+translate_bindings+translate_condition+translate_part+translate_quantifier+translate_range+translate_ranges.{statement}
 use Rattle.plan_writing.proofs.translate.+translate_alpha+translate_bindings+translate_condition+translate_part+translate_quantifier+translate_range+translate_ranges.Tie.{close}
 use borrow.Author.Needs.{needs}
@@ -59,6 +58,7 @@ use Rattle.plan_steps.proofs.ranges.translate_table.Reads as translate-table-re
 use Rattle.rule_writing.proofs.rules.write_atom.Reads as write-atom-reads
 use Rattle.rule_writing.proofs.rules.write_rule.Reads as write-rule-reads
 use Rattle.short_rules.proofs.fits.rule_fits.Reads as rule-fits-reads
+use Rattle.short_rules.proofs.fits.some_variable.Reads as some-variable-reads
 use Rattle.plan_writing.proofs.translate.+translate_alpha+translate_bindings+translate_condition+translate_part+translate_quantifier+translate_range+translate_ranges.{
   statement,
 }
@@ -142,7 +142,7 @@ abbrev translate-part-calls : ℕ → translate-part-lts.Claims
 translate-part-calls t = (translate-condition-below t, translate-condition.Post)
 
 abbrev translate-quantifier-calls : ℕ → translate-quantifier-lts.Claims
-translate-quantifier-calls t = (translate-range-below t, translate-range.Post, way-of-reads.Asked, way-of-reads.Learnt, write-rule-reads.Asked, write-rule-reads.Learnt, translate-condition-below t, translate-condition.Post, extend-reads.Asked, extend-reads.Learnt, product-reads.Asked, product-reads.Learnt, columns-in-reads.Asked, columns-in-reads.Learnt, write-kept-reads.Asked, write-kept-reads.Learnt)
+translate-quantifier-calls t = (translate-range-below t, translate-range.Post, way-of-reads.Asked, way-of-reads.Learnt, write-rule-reads.Asked, write-rule-reads.Learnt, decode-reads.Asked, decode-reads.Learnt, some-variable-reads.Asked, some-variable-reads.Learnt, translate-quantifier-below t, translate-quantifier.Post, extend-reads.Asked, extend-reads.Learnt, product-reads.Asked, product-reads.Learnt, translate-condition-below t, translate-condition.Post, columns-in-reads.Asked, columns-in-reads.Learnt, write-kept-reads.Asked, write-kept-reads.Learnt)
 
 abbrev translate-range-calls : ℕ → translate-range-lts.Claims
 translate-range-calls t = (decode-reads.Asked, decode-reads.Learnt, translate-table-reads.Asked, translate-table-reads.Learnt, translate-alpha-below t, translate-alpha.Post, translate-ranges-below t, translate-ranges.Post)
@@ -409,11 +409,23 @@ translate-quantifier-write-rule-requires-2 t c κs = rule-ready (c .before .befo
 translate-quantifier-enum-told : (t : ℕ) → translate-quantifier-lts.Need-enum-told (translate-quantifier-calls t) (translate-quantifier-at t) translate-quantifier.Post
 translate-quantifier-enum-told t c = c .match .keys3
 
-translate-quantifier-sub-t30 : (t : ℕ) → translate-quantifier-lts.Need-sub-t30 (translate-quantifier-calls t) (translate-quantifier-at t) translate-quantifier.Post
-translate-quantifier-sub-t30 t c = omega (arith, c .before .before .before .before .before .translate-range .ensures .more)
+translate-quantifier-sub-decode : (t : ℕ) → translate-quantifier-lts.Need-sub-decode (translate-quantifier-calls t) (translate-quantifier-at t) translate-quantifier.Post
+translate-quantifier-sub-decode t c = c .before .before .before .before .before .before .before .before .before .before .pre .1 .2 .0
 
-translate-quantifier-translate-condition-requires : (t : ℕ) → translate-quantifier-lts.Need-translate-condition-requires (translate-quantifier-calls t) (translate-quantifier-at t) translate-quantifier.Post
-translate-quantifier-translate-condition-requires t c κs = (omega (arith, c .before .before .before .before .before .before .before .before .before .before .before .pre .0), (c .before .before .before .before .before .before .before .before .before .before .before .pre .1 .2 .1, divided-ready (c .before .before .before .before .before .before .before .before .before .before .before .args .quantifier) (c .before .before .before .before .before .before .before .before .before .before .before .args .wanted) (c .before .before .before .before .before .before .before .before .before .before .before .args .x) (rangeAt (c .before .before .before .before .before .before .before .before .before .before .before .args .words .now) (c .before .before .before .before .before .before .before .before .before .before .before .args .range)) (c .before .before .before .before .before .before .before .before .before .before .before .args .words .now) (c .before .before .before .before .before .before .before .before .before .before .before .args .condition) (c .before .before .before .before .before .before .before .before .before .before .before .pre .1 .0) (c .before .before .before .before .before .before .before .before .before .before .before .pre .1 .3) (c .before .before .before .before .before .before .translate-range .ensures) (sym (c .before .before .before .way-of .ensures) ∙ c .before .enum-told .given .1) tt (c .before .before .before .before .before .before .translate-range .result .count - 1) ((division-way (columnsOf (c .before .before .before .before .before .before .before .before .before .before .before .args .catalogue .now)) (c .before .before .before .before .before .before .before .before .before .before .before .args .short) (c .before .before .before .before .before .before .before .before .before .before .before .args .x) (rangeAt (c .before .before .before .before .before .before .before .before .before .before .before .args .words .now) (c .before .before .before .before .before .before .before .before .before .before .before .args .range)) (conditionAt (c .before .before .before .before .before .before .before .before .before .before .before .args .words .now) (c .before .before .before .before .before .before .before .before .before .before .before .args .condition)) (c .before .before .before .before .before .before .before .before .before .before .before .args .quantifier) (c .before .before .before .before .before .before .before .before .before .before .before .args .wanted) (sym (c .before .before .before .way-of .ensures) ∙ c .before .enum-told .given .1)) .fits)))
+translate-quantifier-cast-decode : (t : ℕ) → translate-quantifier-lts.Need-cast-decode (translate-quantifier-calls t) (translate-quantifier-at t) translate-quantifier.Post
+translate-quantifier-cast-decode t c = omega arith
+
+translate-quantifier-decode-requires : (t : ℕ) → translate-quantifier-lts.Need-decode-requires (translate-quantifier-calls t) (translate-quantifier-at t) translate-quantifier.Post
+translate-quantifier-decode-requires t c κs = omega (arith, c .before .before .before .before .before .before .before .before .before .before .pre .1 .2 .0, c .before .before .before .before .before .before .before .before .before .before .pre .1 .2 .1)
+
+translate-quantifier-some-variable-requires : (t : ℕ) → translate-quantifier-lts.Need-some-variable-requires (translate-quantifier-calls t) (translate-quantifier-at t) translate-quantifier.Post
+translate-quantifier-some-variable-requires t c κs = tt
+
+translate-quantifier-sub-t33 : (t : ℕ) → translate-quantifier-lts.Need-sub-t33 (translate-quantifier-calls t) (translate-quantifier-at t) translate-quantifier.Post
+translate-quantifier-sub-t33 t c = omega (arith, c .before .before .before .before .before .before .before .translate-range .ensures .more)
+
+translate-quantifier-translate-quantifier-requires : (t : ℕ) → translate-quantifier-lts.Need-translate-quantifier-requires (translate-quantifier-calls t) (translate-quantifier-at t) translate-quantifier.Post
+translate-quantifier-translate-quantifier-requires t c κs = call-below (c .before .before .before .before .before .before .before .before .before .before .before .before .before .args .quantifier) (c .before .before .before .before .before .before .before .before .before .before .before .before .before .args .wanted) (c .before .before .before .before .before .before .before .before .before .before .before .before .before .args .x) (rangeAt (c .before .before .before .before .before .before .before .before .before .before .before .before .before .args .words .now) (c .before .before .before .before .before .before .before .before .before .before .before .before .before .args .range)) (c .before .before .before .before .before .before .before .before .before .before .before .before .before .args .words .now) (c .before .before .before .before .before .before .before .before .before .before .before .before .before .args .condition) (c .before .before .before .before .before .before .before .before .before .before .before .before .before .pre .1 .0) (c .before .before .before .before .before .before .before .before .before .before .before .before .before .pre .1 .3) (c .before .before .before .before .before .before .before .before .translate-range .ensures) (sym (c .before .before .before .before .before .way-of .ensures) ∙ c .before .before .before .enum-told .given .1) tt (c .before .before .before .before .before .before .before .before .before .before .before .before .before .pre .1 .2) (c .before .before .decode .ensures) (c .before .some-variable .ensures) ((division-way (columnsOf (c .before .before .before .before .before .before .before .before .before .before .before .before .before .args .catalogue .now)) (c .before .before .before .before .before .before .before .before .before .before .before .before .before .args .short) (c .before .before .before .before .before .before .before .before .before .before .before .before .before .args .x) (rangeAt (c .before .before .before .before .before .before .before .before .before .before .before .before .before .args .words .now) (c .before .before .before .before .before .before .before .before .before .before .before .before .before .args .range)) (conditionAt (c .before .before .before .before .before .before .before .before .before .before .before .before .before .args .words .now) (c .before .before .before .before .before .before .before .before .before .before .before .before .before .args .condition)) (c .before .before .before .before .before .before .before .before .before .before .before .before .before .args .quantifier) (c .before .before .before .before .before .before .before .before .before .before .before .before .before .args .wanted) (sym (c .before .before .before .before .before .way-of .ensures) ∙ c .before .before .before .enum-told .given .1)) .fits) (c .before .before .before .before .before .before .before .before .translate-range .result .count - 1) (c .before .before .before .before .before .before .before .before .before .before .before .before .before .args .range) (c .before .before .before .before .before .before .before .before .before .before .before .before .before .pre .0)
 
 translate-quantifier-enum-told-2 : (t : ℕ) → translate-quantifier-lts.Need-enum-told-2 (translate-quantifier-calls t) (translate-quantifier-at t) translate-quantifier.Post
 translate-quantifier-enum-told-2 t c = c .match .keys4
@@ -427,14 +439,14 @@ translate-quantifier-sub-product t c = omega (arith, c .before .before .before .
 translate-quantifier-product-requires : (t : ℕ) → translate-quantifier-lts.Need-product-requires (translate-quantifier-calls t) (translate-quantifier-at t) translate-quantifier.Post
 translate-quantifier-product-requires t c κs = room-inner (c .before .before .before .before .before .before .before .before .before .before .before .before .before .before .args .quantifier) (c .before .before .before .before .before .before .before .before .before .before .before .before .before .before .args .wanted) (c .before .before .before .before .before .before .before .before .before .before .before .before .before .before .args .x) (rangeAt (c .before .before .before .before .before .before .before .before .before .before .before .before .before .before .args .words .now) (c .before .before .before .before .before .before .before .before .before .before .before .before .before .before .args .range)) (conditionAt (c .before .before .before .before .before .before .before .before .before .before .before .before .before .before .args .words .now) (c .before .before .before .before .before .before .before .before .before .before .before .before .before .before .args .condition)) (c .before .before .before .before .before .before .before .before .before .before .before .before .before .before .pre .1 .0) (c .before .before .before .before .before .before .before .before .before .before .before .before .before .before .pre .1 .3) (c .before .before .before .before .before .before .before .before .before .translate-range .ensures)
 
-translate-quantifier-translate-condition-requires-2 : (t : ℕ) → translate-quantifier-lts.Need-translate-condition-requires-2 (translate-quantifier-calls t) (translate-quantifier-at t) translate-quantifier.Post
-translate-quantifier-translate-condition-requires-2 t c κs = (omega (arith, c .before .before .before .before .before .before .before .before .before .before .before .before .before .before .before .before .before .before .before .pre .0), (c .before .before .before .before .before .before .before .before .before .before .before .before .before .before .before .before .before .before .before .pre .1 .2 .1, inside-ready (c .before .before .before .before .before .before .before .before .before .before .before .before .before .before .before .before .before .before .before .args .quantifier) (c .before .before .before .before .before .before .before .before .before .before .before .before .before .before .before .before .before .before .before .args .wanted) (c .before .before .before .before .before .before .before .before .before .before .before .before .before .before .before .before .before .before .before .args .x) (rangeAt (c .before .before .before .before .before .before .before .before .before .before .before .before .before .before .before .before .before .before .before .args .words .now) (c .before .before .before .before .before .before .before .before .before .before .before .before .before .before .before .before .before .before .before .args .range)) (c .before .before .before .before .before .before .before .before .before .before .before .before .before .before .before .before .before .before .before .args .words .now) (c .before .before .before .before .before .before .before .before .before .before .before .before .before .before .before .before .before .before .before .args .condition) (c .before .before .before .before .before .before .before .before .before .before .before .before .before .before .before .before .before .before .before .pre .1 .0) (c .before .before .before .before .before .before .before .before .before .before .before .before .before .before .before .before .before .before .before .pre .1 .3) (c .before .before .before .before .before .before .before .before .before .before .before .before .before .before .translate-range .ensures) (sym (c .before .before .before .before .before .before .before .before .before .before .before .way-of .ensures) ∙ c .before .before .before .before .before .before .before .before .before .enum-told2 .given .1) tt (c .before .before .before .before .before .before .extend .ensures) (c .before .before .before .before .product .ensures)))
+translate-quantifier-translate-condition-requires : (t : ℕ) → translate-quantifier-lts.Need-translate-condition-requires (translate-quantifier-calls t) (translate-quantifier-at t) translate-quantifier.Post
+translate-quantifier-translate-condition-requires t c κs = (omega (arith, c .before .before .before .before .before .before .before .before .before .before .before .before .before .before .before .before .before .before .before .pre .0), (c .before .before .before .before .before .before .before .before .before .before .before .before .before .before .before .before .before .before .before .pre .1 .2 .1, inside-ready (c .before .before .before .before .before .before .before .before .before .before .before .before .before .before .before .before .before .before .before .args .quantifier) (c .before .before .before .before .before .before .before .before .before .before .before .before .before .before .before .before .before .before .before .args .wanted) (c .before .before .before .before .before .before .before .before .before .before .before .before .before .before .before .before .before .before .before .args .x) (rangeAt (c .before .before .before .before .before .before .before .before .before .before .before .before .before .before .before .before .before .before .before .args .words .now) (c .before .before .before .before .before .before .before .before .before .before .before .before .before .before .before .before .before .before .before .args .range)) (c .before .before .before .before .before .before .before .before .before .before .before .before .before .before .before .before .before .before .before .args .words .now) (c .before .before .before .before .before .before .before .before .before .before .before .before .before .before .before .before .before .before .before .args .condition) (c .before .before .before .before .before .before .before .before .before .before .before .before .before .before .before .before .before .before .before .pre .1 .0) (c .before .before .before .before .before .before .before .before .before .before .before .before .before .before .before .before .before .before .before .pre .1 .3) (c .before .before .before .before .before .before .before .before .before .before .before .before .before .before .translate-range .ensures) (sym (c .before .before .before .before .before .before .before .before .before .before .before .way-of .ensures) ∙ c .before .before .before .before .before .before .before .before .before .enum-told2 .given .1) tt (c .before .before .before .before .before .before .extend .ensures) (c .before .before .before .before .product .ensures)))
 
 translate-quantifier-columns-in-requires : (t : ℕ) → translate-quantifier-lts.Need-columns-in-requires (translate-quantifier-calls t) (translate-quantifier-at t) translate-quantifier.Post
 translate-quantifier-columns-in-requires t c κs = c .before .before .before .before .before .before .before .before .before .before .before .before .before .before .before .before .before .before .before .before .before .before .pre .1 .3 .fits
 
 translate-quantifier-write-kept-requires : (t : ℕ) → translate-quantifier-lts.Need-write-kept-requires (translate-quantifier-calls t) (translate-quantifier-at t) translate-quantifier.Post
-translate-quantifier-write-kept-requires t c κs = (omega (arith, c .before .columns-in .ensures, c .before .before .before .before .before .before .before .before .before .before .before .before .before .before .before .before .before .before .before .before .before .before .before .before .pre .1 .3 .fits .counted, c .before .before .before .before .before .before .before .before .before .before .before .before .before .before .before .before .before .before .before .before .before .before .before .before .pre .1 .3 .fits .narrow), some-met (c .before .before .before .before .before .before .before .before .before .before .before .before .before .before .before .before .before .before .before .before .before .before .before .before .args .quantifier) (c .before .before .before .before .before .before .before .before .before .before .before .before .before .before .before .before .before .before .before .before .before .before .before .before .args .wanted) (c .before .before .before .before .before .before .before .before .before .before .before .before .before .before .before .before .before .before .before .before .before .before .before .before .args .x) (rangeAt (c .before .before .before .before .before .before .before .before .before .before .before .before .before .before .before .before .before .before .before .before .before .before .before .before .args .words .now) (c .before .before .before .before .before .before .before .before .before .before .before .before .before .before .before .before .before .before .before .before .before .before .before .before .args .range)) (c .before .before .before .before .before .before .before .before .before .before .before .before .before .before .before .before .before .before .before .before .before .before .before .before .args .words .now) (c .before .before .before .before .before .before .before .before .before .before .before .before .before .before .before .before .before .before .before .before .before .before .before .before .args .condition) (c .before .before .before .before .before .before .before .before .before .before .before .before .before .before .before .before .before .before .before .before .before .before .before .before .pre .1 .0) (c .before .before .before .before .before .before .before .before .before .before .before .before .before .before .before .before .before .before .before .before .before .before .before .before .pre .1 .3) (c .before .before .before .before .before .before .before .before .before .before .before .before .before .before .before .before .before .before .before .translate-range .ensures) (sym (c .before .before .before .before .before .before .before .before .before .before .before .before .before .before .before .before .way-of .ensures) ∙ c .before .before .before .before .before .before .before .before .before .before .before .before .before .before .enum-told2 .given .1) tt (c .before .before .before .before .before .before .before .before .before .before .before .extend .ensures) (c .before .before .before .before .before .before .before .before .before .product .ensures) (c .before .before .before .before .translate-condition2 .ensures), room-kept (c .before .before .before .before .before .before .before .before .before .before .before .before .before .before .before .before .before .before .before .before .before .before .before .before .args .quantifier) (c .before .before .before .before .before .before .before .before .before .before .before .before .before .before .before .before .before .before .before .before .before .before .before .before .args .wanted) (c .before .before .before .before .before .before .before .before .before .before .before .before .before .before .before .before .before .before .before .before .before .before .before .before .args .x) (rangeAt (c .before .before .before .before .before .before .before .before .before .before .before .before .before .before .before .before .before .before .before .before .before .before .before .before .args .words .now) (c .before .before .before .before .before .before .before .before .before .before .before .before .before .before .before .before .before .before .before .before .before .before .before .before .args .range)) (c .before .before .before .before .before .before .before .before .before .before .before .before .before .before .before .before .before .before .before .before .before .before .before .before .args .words .now) (c .before .before .before .before .before .before .before .before .before .before .before .before .before .before .before .before .before .before .before .before .before .before .before .before .args .condition) (c .before .before .before .before .before .before .before .before .before .before .before .before .before .before .before .before .before .before .before .before .before .before .before .before .pre .1 .0) (c .before .before .before .before .before .before .before .before .before .before .before .before .before .before .before .before .before .before .before .before .before .before .before .before .pre .1 .3) (c .before .before .before .before .before .before .before .before .before .before .before .before .before .before .before .before .before .before .before .translate-range .ensures) (sym (c .before .before .before .before .before .before .before .before .before .before .before .before .before .before .before .before .way-of .ensures) ∙ c .before .before .before .before .before .before .before .before .before .before .before .before .before .before .enum-told2 .given .1) tt (c .before .before .before .before .before .before .before .before .before .before .before .extend .ensures) (c .before .before .before .before .before .before .before .before .before .product .ensures) (c .before .before .before .before .translate-condition2 .ensures))
+translate-quantifier-write-kept-requires t c κs = (omega (arith, c .before .columns-in .ensures, c .before .before .before .before .before .before .before .before .before .before .before .before .before .before .before .before .before .before .before .before .before .before .before .before .pre .1 .3 .fits .counted, c .before .before .before .before .before .before .before .before .before .before .before .before .before .before .before .before .before .before .before .before .before .before .before .before .pre .1 .3 .fits .narrow), some-met (c .before .before .before .before .before .before .before .before .before .before .before .before .before .before .before .before .before .before .before .before .before .before .before .before .args .quantifier) (c .before .before .before .before .before .before .before .before .before .before .before .before .before .before .before .before .before .before .before .before .before .before .before .before .args .wanted) (c .before .before .before .before .before .before .before .before .before .before .before .before .before .before .before .before .before .before .before .before .before .before .before .before .args .x) (rangeAt (c .before .before .before .before .before .before .before .before .before .before .before .before .before .before .before .before .before .before .before .before .before .before .before .before .args .words .now) (c .before .before .before .before .before .before .before .before .before .before .before .before .before .before .before .before .before .before .before .before .before .before .before .before .args .range)) (c .before .before .before .before .before .before .before .before .before .before .before .before .before .before .before .before .before .before .before .before .before .before .before .before .args .words .now) (c .before .before .before .before .before .before .before .before .before .before .before .before .before .before .before .before .before .before .before .before .before .before .before .before .args .condition) (c .before .before .before .before .before .before .before .before .before .before .before .before .before .before .before .before .before .before .before .before .before .before .before .before .pre .1 .0) (c .before .before .before .before .before .before .before .before .before .before .before .before .before .before .before .before .before .before .before .before .before .before .before .before .pre .1 .3) (c .before .before .before .before .before .before .before .before .before .before .before .before .before .before .before .before .before .before .before .translate-range .ensures) (sym (c .before .before .before .before .before .before .before .before .before .before .before .before .before .before .before .before .way-of .ensures) ∙ c .before .before .before .before .before .before .before .before .before .before .before .before .before .before .enum-told2 .given .1) tt (c .before .before .before .before .before .before .before .before .before .before .before .extend .ensures) (c .before .before .before .before .before .before .before .before .before .product .ensures) (c .before .before .before .before .translate-condition .ensures), room-kept (c .before .before .before .before .before .before .before .before .before .before .before .before .before .before .before .before .before .before .before .before .before .before .before .before .args .quantifier) (c .before .before .before .before .before .before .before .before .before .before .before .before .before .before .before .before .before .before .before .before .before .before .before .before .args .wanted) (c .before .before .before .before .before .before .before .before .before .before .before .before .before .before .before .before .before .before .before .before .before .before .before .before .args .x) (rangeAt (c .before .before .before .before .before .before .before .before .before .before .before .before .before .before .before .before .before .before .before .before .before .before .before .before .args .words .now) (c .before .before .before .before .before .before .before .before .before .before .before .before .before .before .before .before .before .before .before .before .before .before .before .before .args .range)) (c .before .before .before .before .before .before .before .before .before .before .before .before .before .before .before .before .before .before .before .before .before .before .before .before .args .words .now) (c .before .before .before .before .before .before .before .before .before .before .before .before .before .before .before .before .before .before .before .before .before .before .before .before .args .condition) (c .before .before .before .before .before .before .before .before .before .before .before .before .before .before .before .before .before .before .before .before .before .before .before .before .pre .1 .0) (c .before .before .before .before .before .before .before .before .before .before .before .before .before .before .before .before .before .before .before .before .before .before .before .before .pre .1 .3) (c .before .before .before .before .before .before .before .before .before .before .before .before .before .before .before .before .before .before .before .translate-range .ensures) (sym (c .before .before .before .before .before .before .before .before .before .before .before .before .before .before .before .before .way-of .ensures) ∙ c .before .before .before .before .before .before .before .before .before .before .before .before .before .before .enum-told2 .given .1) tt (c .before .before .before .before .before .before .before .before .before .before .before .extend .ensures) (c .before .before .before .before .before .before .before .before .before .product .ensures) (c .before .before .before .before .translate-condition .ensures))
 
 translate-quantifier-same-length : (t : ℕ) → translate-quantifier-lts.Need-same-length (translate-quantifier-calls t) (translate-quantifier-at t) translate-quantifier.Post
 translate-quantifier-same-length t c = search needs
@@ -452,13 +464,13 @@ translate-quantifier-same-length-3 : (t : ℕ) → translate-quantifier-lts.Need
 translate-quantifier-same-length-3 t c = search needs
 
 translate-quantifier-returns-3 : (t : ℕ) → translate-quantifier-lts.Need-returns-3 (translate-quantifier-calls t) (translate-quantifier-at t) translate-quantifier.Post
-translate-quantifier-returns-3 t c = division-done (c .before .before .before .before .before .before .before .before .before .translate-range .ensures) (c .before .before .before .before .before .before .before .before .before .before .before .before .before .before .args .quantifier) (c .before .before .before .before .before .before .before .before .before .before .before .before .before .before .args .wanted) (c .before .before .before .before .before .before .before .before .before .before .before .before .before .before .args .x) (conditionAt (c .before .before .before .before .before .before .before .before .before .before .before .before .before .before .args .words .now) (c .before .before .before .before .before .before .before .before .before .before .before .before .before .before .args .condition)) (scopeOf (c .before .before .before .before .before .before .before .before .before .before .before .before .before .before .args .scope .now)) (c .before .before .before .before .before .before .before .before .before .before .before .before .before .before .args .p) (division-way (columnsOf (c .before .before .before .before .before .before .before .before .before .before .before .before .before .before .args .catalogue .now)) (c .before .before .before .before .before .before .before .before .before .before .before .before .before .before .args .short) (c .before .before .before .before .before .before .before .before .before .before .before .before .before .before .args .x) (rangeAt (c .before .before .before .before .before .before .before .before .before .before .before .before .before .before .args .words .now) (c .before .before .before .before .before .before .before .before .before .before .before .before .before .before .args .range)) (conditionAt (c .before .before .before .before .before .before .before .before .before .before .before .before .before .before .args .words .now) (c .before .before .before .before .before .before .before .before .before .before .before .before .before .before .args .condition)) (c .before .before .before .before .before .before .before .before .before .before .before .before .before .before .args .quantifier) (c .before .before .before .before .before .before .before .before .before .before .before .before .before .before .args .wanted) (sym (c .before .before .before .before .before .before .way-of .ensures) ∙ c .before .before .before .before .enum-told .given .1)) (written-condition (columnsOf (c .before .before .before .before .before .before .before .before .before .before .before .before .before .before .args .catalogue .now)) (c .before .before .before .before .before .before .before .before .before .before .before .before .before .before .args .short) (divisionBy (c .before .before .before .before .before .before .before .before .before .before .before .before .before .before .args .x) (c .before .before .before .before .before .before .before .before .before .translate-range .result .count - 1)) (scopeOf (c .before .before .before .before .before .before .before .before .before .before .before .before .before .before .args .scope .now)) (c .before .before .before .before .before .before .before .before .before .before .before .before .before .before .args .p) (restricts (c .before .before .before .before .before .before .before .before .before .before .before .before .before .before .args .quantifier) (c .before .before .before .before .before .before .before .before .before .before .before .before .before .before .args .wanted) (c .before .before .before .before .before .before .before .before .before .before .before .before .before .before .args .x) (rangeAt (c .before .before .before .before .before .before .before .before .before .before .before .before .before .before .args .words .now) (c .before .before .before .before .before .before .before .before .before .before .before .before .before .before .args .range)) (c .before .before .before .before .before .before .before .before .before .before .before .before .before .before .args .words .now) (c .before .before .before .before .before .before .before .before .before .before .before .before .before .before .args .condition) (c .before .before .before .before .before .before .before .before .before .before .before .before .before .before .pre .1 .0) (c .before .before .before .before .before .before .before .before .before .before .before .before .before .before .pre .1 .3) (c .before .before .before .before .before .before .before .before .before .translate-range .ensures) (sym (c .before .before .before .before .before .before .way-of .ensures) ∙ c .before .before .before .before .enum-told .given .1) tt) (c .before .before .translate-condition .ensures))
+translate-quantifier-returns-3 t c = division-done (c .before .before .before .before .before .before .before .before .before .before .before .translate-range .ensures) (c .before .before .before .before .before .before .before .before .before .before .before .before .before .before .before .before .args .quantifier) (c .before .before .before .before .before .before .before .before .before .before .before .before .before .before .before .before .args .wanted) (c .before .before .before .before .before .before .before .before .before .before .before .before .before .before .before .before .args .x) (conditionAt (c .before .before .before .before .before .before .before .before .before .before .before .before .before .before .before .before .args .words .now) (c .before .before .before .before .before .before .before .before .before .before .before .before .before .before .before .before .args .condition)) (scopeOf (c .before .before .before .before .before .before .before .before .before .before .before .before .before .before .before .before .args .scope .now)) (c .before .before .before .before .before .before .before .before .before .before .before .before .before .before .before .before .args .p) (division-way (columnsOf (c .before .before .before .before .before .before .before .before .before .before .before .before .before .before .before .before .args .catalogue .now)) (c .before .before .before .before .before .before .before .before .before .before .before .before .before .before .before .before .args .short) (c .before .before .before .before .before .before .before .before .before .before .before .before .before .before .before .before .args .x) (rangeAt (c .before .before .before .before .before .before .before .before .before .before .before .before .before .before .before .before .args .words .now) (c .before .before .before .before .before .before .before .before .before .before .before .before .before .before .before .before .args .range)) (conditionAt (c .before .before .before .before .before .before .before .before .before .before .before .before .before .before .before .before .args .words .now) (c .before .before .before .before .before .before .before .before .before .before .before .before .before .before .before .before .args .condition)) (c .before .before .before .before .before .before .before .before .before .before .before .before .before .before .before .before .args .quantifier) (c .before .before .before .before .before .before .before .before .before .before .before .before .before .before .before .before .args .wanted) (sym (c .before .before .before .before .before .before .before .before .way-of .ensures) ∙ c .before .before .before .before .before .before .enum-told .given .1)) (written-below (c .before .before .before .before .before .before .before .before .before .before .before .before .before .before .before .before .args .quantifier) (c .before .before .before .before .before .before .before .before .before .before .before .before .before .before .before .before .args .wanted) (c .before .before .before .before .before .before .before .before .before .before .before .before .before .before .before .before .args .x) (rangeAt (c .before .before .before .before .before .before .before .before .before .before .before .before .before .before .before .before .args .words .now) (c .before .before .before .before .before .before .before .before .before .before .before .before .before .before .before .before .args .range)) (c .before .before .before .before .before .before .before .before .before .before .before .before .before .before .before .before .args .words .now) (c .before .before .before .before .before .before .before .before .before .before .before .before .before .before .before .before .args .condition) (c .before .before .before .before .before .before .before .before .before .before .before .before .before .before .before .before .pre .1 .0) (c .before .before .before .before .before .before .before .before .before .before .before .before .before .before .before .before .pre .1 .3) (c .before .before .before .before .before .before .before .before .before .before .before .translate-range .ensures) (sym (c .before .before .before .before .before .before .before .before .way-of .ensures) ∙ c .before .before .before .before .before .before .enum-told .given .1) tt (c .before .before .before .before .before .before .before .before .before .before .before .before .before .before .before .before .pre .1 .2) (c .before .before .before .before .before .decode .ensures) (c .before .before .before .before .some-variable .ensures) ((division-way (columnsOf (c .before .before .before .before .before .before .before .before .before .before .before .before .before .before .before .before .args .catalogue .now)) (c .before .before .before .before .before .before .before .before .before .before .before .before .before .before .before .before .args .short) (c .before .before .before .before .before .before .before .before .before .before .before .before .before .before .before .before .args .x) (rangeAt (c .before .before .before .before .before .before .before .before .before .before .before .before .before .before .before .before .args .words .now) (c .before .before .before .before .before .before .before .before .before .before .before .before .before .before .before .before .args .range)) (conditionAt (c .before .before .before .before .before .before .before .before .before .before .before .before .before .before .before .before .args .words .now) (c .before .before .before .before .before .before .before .before .before .before .before .before .before .before .before .before .args .condition)) (c .before .before .before .before .before .before .before .before .before .before .before .before .before .before .before .before .args .quantifier) (c .before .before .before .before .before .before .before .before .before .before .before .before .before .before .before .before .args .wanted) (sym (c .before .before .before .before .before .before .before .before .way-of .ensures) ∙ c .before .before .before .before .before .before .enum-told .given .1)) .fits) (c .before .before .before .before .before .before .before .before .before .before .before .translate-range .result .count - 1) (c .before .before .before .before .before .before .before .before .before .before .before .before .before .before .before .before .args .p) (c .before .before .translate-quantifier .ensures))
 
 translate-quantifier-same-length-4 : (t : ℕ) → translate-quantifier-lts.Need-same-length-4 (translate-quantifier-calls t) (translate-quantifier-at t) translate-quantifier.Post
 translate-quantifier-same-length-4 t c = search needs
 
 translate-quantifier-returns-4 : (t : ℕ) → translate-quantifier-lts.Need-returns-4 (translate-quantifier-calls t) (translate-quantifier-at t) translate-quantifier.Post
-translate-quantifier-returns-4 t c = plain-done (c .before .before .before .before .before .before .before .before .before .before .before .before .before .before .before .before .before .before .before .before .before .before .translate-range .ensures) (c .before .before .before .before .before .before .before .before .before .before .before .before .before .before .before .before .before .before .before .before .before .before .before .before .before .before .before .args .quantifier) (c .before .before .before .before .before .before .before .before .before .before .before .before .before .before .before .before .before .before .before .before .before .before .before .before .before .before .before .args .wanted) (c .before .before .before .before .before .before .before .before .before .before .before .before .before .before .before .before .before .before .before .before .before .before .before .before .before .before .before .args .x) (conditionAt (c .before .before .before .before .before .before .before .before .before .before .before .before .before .before .before .before .before .before .before .before .before .before .before .before .before .before .before .args .words .now) (c .before .before .before .before .before .before .before .before .before .before .before .before .before .before .before .before .before .before .before .before .before .before .before .before .before .before .before .args .condition)) (scopeOf (c .before .before .before .before .before .before .before .before .before .before .before .before .before .before .before .before .before .before .before .before .before .before .before .before .before .before .before .args .scope .now)) (c .before .before .before .before .before .before .before .before .before .before .before .before .before .before .before .before .before .before .before .before .before .before .before .before .before .before .before .args .p) (plain-way (columnsOf (c .before .before .before .before .before .before .before .before .before .before .before .before .before .before .before .before .before .before .before .before .before .before .before .before .before .before .before .args .catalogue .now)) (c .before .before .before .before .before .before .before .before .before .before .before .before .before .before .before .before .before .before .before .before .before .before .before .before .before .before .before .args .short) (c .before .before .before .before .before .before .before .before .before .before .before .before .before .before .before .before .before .before .before .before .before .before .before .before .before .before .before .args .x) (rangeAt (c .before .before .before .before .before .before .before .before .before .before .before .before .before .before .before .before .before .before .before .before .before .before .before .before .before .before .before .args .words .now) (c .before .before .before .before .before .before .before .before .before .before .before .before .before .before .before .before .before .before .before .before .before .before .before .before .before .before .before .args .range)) (conditionAt (c .before .before .before .before .before .before .before .before .before .before .before .before .before .before .before .before .before .before .before .before .before .before .before .before .before .before .before .args .words .now) (c .before .before .before .before .before .before .before .before .before .before .before .before .before .before .before .before .before .before .before .before .before .before .before .before .before .before .before .args .condition)) (c .before .before .before .before .before .before .before .before .before .before .before .before .before .before .before .before .before .before .before .before .before .before .before .before .before .before .before .args .quantifier) (c .before .before .before .before .before .before .before .before .before .before .before .before .before .before .before .before .before .before .before .before .before .before .before .before .before .before .before .args .wanted) (sym (c .before .before .before .before .before .before .before .before .before .before .before .before .before .before .before .before .before .before .before .way-of .ensures) ∙ c .before .before .before .before .before .before .before .before .before .before .before .before .before .before .before .before .before .enum-told2 .given .1)) (inside-written (c .before .before .before .before .before .before .before .before .before .before .before .before .before .before .before .before .before .before .before .before .before .before .before .before .before .before .before .args .quantifier) (c .before .before .before .before .before .before .before .before .before .before .before .before .before .before .before .before .before .before .before .before .before .before .before .before .before .before .before .args .wanted) (c .before .before .before .before .before .before .before .before .before .before .before .before .before .before .before .before .before .before .before .before .before .before .before .before .before .before .before .args .x) (rangeAt (c .before .before .before .before .before .before .before .before .before .before .before .before .before .before .before .before .before .before .before .before .before .before .before .before .before .before .before .args .words .now) (c .before .before .before .before .before .before .before .before .before .before .before .before .before .before .before .before .before .before .before .before .before .before .before .before .before .before .before .args .range)) (c .before .before .before .before .before .before .before .before .before .before .before .before .before .before .before .before .before .before .before .before .before .before .before .before .before .before .before .args .words .now) (c .before .before .before .before .before .before .before .before .before .before .before .before .before .before .before .before .before .before .before .before .before .before .before .before .before .before .before .args .condition) (c .before .before .before .before .before .before .before .before .before .before .before .before .before .before .before .before .before .before .before .before .before .before .before .before .before .before .before .pre .1 .0) (c .before .before .before .before .before .before .before .before .before .before .before .before .before .before .before .before .before .before .before .before .before .before .before .before .before .before .before .pre .1 .3) (c .before .before .before .before .before .before .before .before .before .before .before .before .before .before .before .before .before .before .before .before .before .before .translate-range .ensures) (sym (c .before .before .before .before .before .before .before .before .before .before .before .before .before .before .before .before .before .before .before .way-of .ensures) ∙ c .before .before .before .before .before .before .before .before .before .before .before .before .before .before .before .before .before .enum-told2 .given .1) tt (c .before .before .before .before .before .before .before .before .before .before .before .before .before .before .extend .ensures) (c .before .before .before .before .before .before .before .before .before .before .before .before .product .ensures) (c .before .before .before .before .before .before .before .translate-condition2 .ensures)) (c .before .before .before .before .columns-in .ensures) (c .before .before .write-kept .ensures)
+translate-quantifier-returns-4 t c = plain-done (c .before .before .before .before .before .before .before .before .before .before .before .before .before .before .before .before .before .before .before .before .before .before .translate-range .ensures) (c .before .before .before .before .before .before .before .before .before .before .before .before .before .before .before .before .before .before .before .before .before .before .before .before .before .before .before .args .quantifier) (c .before .before .before .before .before .before .before .before .before .before .before .before .before .before .before .before .before .before .before .before .before .before .before .before .before .before .before .args .wanted) (c .before .before .before .before .before .before .before .before .before .before .before .before .before .before .before .before .before .before .before .before .before .before .before .before .before .before .before .args .x) (conditionAt (c .before .before .before .before .before .before .before .before .before .before .before .before .before .before .before .before .before .before .before .before .before .before .before .before .before .before .before .args .words .now) (c .before .before .before .before .before .before .before .before .before .before .before .before .before .before .before .before .before .before .before .before .before .before .before .before .before .before .before .args .condition)) (scopeOf (c .before .before .before .before .before .before .before .before .before .before .before .before .before .before .before .before .before .before .before .before .before .before .before .before .before .before .before .args .scope .now)) (c .before .before .before .before .before .before .before .before .before .before .before .before .before .before .before .before .before .before .before .before .before .before .before .before .before .before .before .args .p) (plain-way (columnsOf (c .before .before .before .before .before .before .before .before .before .before .before .before .before .before .before .before .before .before .before .before .before .before .before .before .before .before .before .args .catalogue .now)) (c .before .before .before .before .before .before .before .before .before .before .before .before .before .before .before .before .before .before .before .before .before .before .before .before .before .before .before .args .short) (c .before .before .before .before .before .before .before .before .before .before .before .before .before .before .before .before .before .before .before .before .before .before .before .before .before .before .before .args .x) (rangeAt (c .before .before .before .before .before .before .before .before .before .before .before .before .before .before .before .before .before .before .before .before .before .before .before .before .before .before .before .args .words .now) (c .before .before .before .before .before .before .before .before .before .before .before .before .before .before .before .before .before .before .before .before .before .before .before .before .before .before .before .args .range)) (conditionAt (c .before .before .before .before .before .before .before .before .before .before .before .before .before .before .before .before .before .before .before .before .before .before .before .before .before .before .before .args .words .now) (c .before .before .before .before .before .before .before .before .before .before .before .before .before .before .before .before .before .before .before .before .before .before .before .before .before .before .before .args .condition)) (c .before .before .before .before .before .before .before .before .before .before .before .before .before .before .before .before .before .before .before .before .before .before .before .before .before .before .before .args .quantifier) (c .before .before .before .before .before .before .before .before .before .before .before .before .before .before .before .before .before .before .before .before .before .before .before .before .before .before .before .args .wanted) (sym (c .before .before .before .before .before .before .before .before .before .before .before .before .before .before .before .before .before .before .before .way-of .ensures) ∙ c .before .before .before .before .before .before .before .before .before .before .before .before .before .before .before .before .before .enum-told2 .given .1)) (inside-written (c .before .before .before .before .before .before .before .before .before .before .before .before .before .before .before .before .before .before .before .before .before .before .before .before .before .before .before .args .quantifier) (c .before .before .before .before .before .before .before .before .before .before .before .before .before .before .before .before .before .before .before .before .before .before .before .before .before .before .before .args .wanted) (c .before .before .before .before .before .before .before .before .before .before .before .before .before .before .before .before .before .before .before .before .before .before .before .before .before .before .before .args .x) (rangeAt (c .before .before .before .before .before .before .before .before .before .before .before .before .before .before .before .before .before .before .before .before .before .before .before .before .before .before .before .args .words .now) (c .before .before .before .before .before .before .before .before .before .before .before .before .before .before .before .before .before .before .before .before .before .before .before .before .before .before .before .args .range)) (c .before .before .before .before .before .before .before .before .before .before .before .before .before .before .before .before .before .before .before .before .before .before .before .before .before .before .before .args .words .now) (c .before .before .before .before .before .before .before .before .before .before .before .before .before .before .before .before .before .before .before .before .before .before .before .before .before .before .before .args .condition) (c .before .before .before .before .before .before .before .before .before .before .before .before .before .before .before .before .before .before .before .before .before .before .before .before .before .before .before .pre .1 .0) (c .before .before .before .before .before .before .before .before .before .before .before .before .before .before .before .before .before .before .before .before .before .before .before .before .before .before .before .pre .1 .3) (c .before .before .before .before .before .before .before .before .before .before .before .before .before .before .before .before .before .before .before .before .before .before .translate-range .ensures) (sym (c .before .before .before .before .before .before .before .before .before .before .before .before .before .before .before .before .before .before .before .way-of .ensures) ∙ c .before .before .before .before .before .before .before .before .before .before .before .before .before .before .before .before .before .enum-told2 .given .1) tt (c .before .before .before .before .before .before .before .before .before .before .before .before .before .before .extend .ensures) (c .before .before .before .before .before .before .before .before .before .before .before .before .product .ensures) (c .before .before .before .before .before .before .before .translate-condition .ensures)) (c .before .before .before .before .columns-in .ensures) (c .before .before .write-kept .ensures)
 
 translate-range-sub-decode : (t : ℕ) → translate-range-lts.Need-sub-decode (translate-range-calls t) (translate-range-at t) translate-range.Post
 translate-range-sub-decode t c = c .before .before .before .pre .1 .0 .0
@@ -643,13 +655,17 @@ pub +translate-alpha+translate-bindings+translate-condition+translate-part+trans
     (translate-quantifier-enum-known-way-2 t)
     (translate-quantifier-write-rule-requires-2 t)
     (translate-quantifier-enum-told t)
-    (translate-quantifier-sub-t30 t)
-    (translate-quantifier-translate-condition-requires t)
+    (translate-quantifier-sub-decode t)
+    (translate-quantifier-cast-decode t)
+    (translate-quantifier-decode-requires t)
+    (translate-quantifier-some-variable-requires t)
+    (translate-quantifier-sub-t33 t)
+    (translate-quantifier-translate-quantifier-requires t)
     (translate-quantifier-enum-told-2 t)
     (translate-quantifier-extend-requires t)
     (translate-quantifier-sub-product t)
     (translate-quantifier-product-requires t)
-    (translate-quantifier-translate-condition-requires-2 t)
+    (translate-quantifier-translate-condition-requires t)
     (translate-quantifier-columns-in-requires t)
     (translate-quantifier-write-kept-requires t)
     (translate-quantifier-same-length t)
