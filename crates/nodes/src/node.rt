@@ -29,18 +29,21 @@ pub struct Atom {
     pub operand: Operand,
 }
 
+// Of two ranges, 5, 6 and 7: the rows of either, of both, of the left one and not the right.
 pub enum Combination {
     Or,
     And,
     AndNot,
 }
 
+// Of conditions: 10, 11, 12.
 pub enum Connective {
     And,
     Or,
     Not,
 }
 
+// 13, 14.
 pub enum Quantifier {
     Some,
     Every,
