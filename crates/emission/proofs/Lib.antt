@@ -5,3 +5,4 @@ pub mod NodeListLaws
 pub mod WrittenLaws
 -- Heavy operations
 pub mod HeavyLaws
+pub mod ProjectLaws

@@ -2,3 +2,4 @@
 pub mod emit;
 pub mod heavy;
 pub mod node_list;
+pub mod projects;

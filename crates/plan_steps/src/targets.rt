@@ -21,9 +21,9 @@ use emission::node_list::NodeList;
 use emission::node_list::no_list;
 use emission::node_list::with_columns;
 use emission::node_list::with_word;
+use emission::projects::write_project;
 use nodes::node::Form;
 use nodes::node::decode;
-use rule_writing::rules::write_project;
 
 // A target's columns behind those of the list; attribute 0 is the whole row.
 fn with_target(scope: &[u8; SCOPE_BYTES], variable: u32, attribute: u32, list: NodeList) -> NodeList

@@ -1,2 +1,2 @@
-// The rules of the shortened mode, S1 to S6: the nodes that each writes.
+// The rules of the shortened mode, S2 to S6: the nodes that each writes.
 pub mod rules;

@@ -27,15 +27,14 @@ use emission::emit::Comparand;
 use emission::emit::Linking;
 use emission::emit::link;
 use emission::emit::pair;
-use emission::emit::project;
 use emission::emit::select;
 use emission::node_list::NodeList;
 use emission::node_list::no_list;
+use emission::projects::write_project;
 use nodes::node::Atom;
 use nodes::node::Combination;
 use nodes::node::Operand;
 use short_rules::fits::ShortRule;
-use short_rules::fits::short_rule_1_fits;
 use short_rules::lists::division_pairs;
 use short_rules::lists::outside_triples;
 use short_rules::lists::triples_of;
@@ -162,23 +161,6 @@ pub fn write_atom(
         return write_select(scope, opposite_atom(atom), p, plan, n);
     }
     write_select(scope, atom, p, plan, n)
-}
-
-pub fn write_project(
-    short: bool,
-    width: u32,
-    p: u32,
-    attributes: NodeList,
-    plan: &mut [u32],
-    n: u32,
-) -> u32
-    requires { ⌜ ListsAttributes attributes × Room (now plan) n 1 ⌝ }
-    ensures { λ r. ⌜ Written (now (plan .entry)) n (projectNodes short width p (attributesIn attributes)) (now (plan .exit)) r ⌝ }
-{
-    if short & short_rule_1_fits(width, attributes) {
-        return n;
-    }
-    project(plan, n, p, attributes)
 }
 
 // The selects of z's range, then z's attribute in each equation with a variable outside and in each with y.

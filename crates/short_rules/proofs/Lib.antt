@@ -1,5 +1,4 @@
 -- S1
-pub mod ProjectLaws
 -- A rule's leaves; when the rules fit, and what they list
 pub mod LeafSteps
 pub mod FitLaws

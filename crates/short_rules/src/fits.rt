@@ -2,13 +2,12 @@
 ghost use mathlib.Core.Path.{_≡_};
 ghost use mathlib.Core.Bool.{false, cond, _&&_};
 ghost use Prim.Native.Nat.{_≤_};
-ghost use Rattle.relations.specs.Limits.{listWords, questionNodeLimit};
+ghost use Rattle.relations.specs.Limits.{questionNodeLimit};
 ghost use Rattle.calculus.specs.Question as calculus;
 ghost use Rattle.calculus.specs.Leaves.{leaves};
-ghost use Rattle.calculus.specs.ShortRules.{shortRule1Fits, shortRule2Atoms, shortRule5Atoms, shortRule5Fits};
+ghost use Rattle.calculus.specs.ShortRules.{shortRule2Atoms, shortRule5Atoms, shortRule5Fits};
 ghost use Rattle.conditions.specs.Readings.{Names, conditionAt};
 ghost use Rattle.conditions.specs.Leaves.{isTree, atomsOf, LeavesFit};
-ghost use Rattle.emission.specs.NodeLists.{attributesIn};
 ghost use Rattle.short_rules.specs.Fits.{ruleFits, someVariable, isAtom};
 use conditions::atom::alone_on;
 use conditions::atom::compares_with_other;
@@ -17,7 +16,6 @@ use conditions::atom::equates_with;
 use conditions::leaves::LEAF_WORDS;
 use conditions::leaves::collect;
 use conditions::leaves::leaf;
-use emission::node_list::NodeList;
 use nodes::node::Binder;
 use nodes::node::Form;
 use nodes::node::Quantifier;
@@ -29,24 +27,6 @@ use relations::limits::VARIABLES;
 const MOST_TRIPLES: u32 = TRIPLES as u32;
 
 const MOST_PAIRS: u32 = PAIRS as u32;
-
-// S1: a project on all columns in order is not written.
-pub fn short_rule_1_fits(width: u32, attributes: NodeList) -> bool
-    requires { ⌜ attributes .used ≤ listWords ⌝ }
-    ensures { λ r. ⌜ r ≡ shortRule1Fits width (attributesIn attributes) ⌝ }
-{
-    if attributes.used != width {
-        return false;
-    }
-    let mut i: u32 = 0;
-    while i < width {
-        if attributes.words[i as usize] != i + 1 {
-            return false;
-        }
-        i += 1;
-    }
-    true
-}
 
 // 1 where the test holds, for counting.
 pub fn once(test: bool) -> u32

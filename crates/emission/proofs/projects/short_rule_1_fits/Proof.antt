@@ -1,15 +1,15 @@
 use Rattle.relations.specs.Limits.{listWords}
-use Rattle.short_rules.proofs.ProjectLaws.{other-number, same-on, same-stop, same-end}
+use Rattle.emission.proofs.ProjectLaws.{other-number, same-on, same-stop, same-end}
 use Prim.Native.Nat.{_+_, _-_, _≤_}
 use mathlib.Core.Path.{_≡_, sym, _∙_}
 use lib.ListN.{length, drop}
 use Rattle.calculus.specs.Scope.{columnsFrom}
 use Rattle.calculus.specs.ShortRules.{sameAttributes, shortRule1Fits}
 use Rattle.emission.specs.NodeLists.{attributesIn}
 use borrow.Author.Needs.{needs}
 use native.Mathlib.Omega.{arith}
-use Rattle.short_rules.proofs.fits.short_rule_1_fits.Statement.{statement}
-use Rattle.short_rules.proofs.fits.short_rule_1_fits.Tie as tie
+use Rattle.emission.proofs.projects.short_rule_1_fits.Statement.{statement}
+use Rattle.emission.proofs.projects.short_rule_1_fits.Tie as tie
 
 abbrev Inv-loop : tie.InvT-loop
 Inv-loop width attributes i₀ i = (i ≤ width)

@@ -1,15 +1,15 @@
 use Rattle.relations.specs.Limits.{listWords}
 use Rattle.emission.proofs.NodeListLaws.{listed-few}
 use Rattle.emission.proofs.WrittenLaws.{written-nothing, written-as}
 use Rattle.emission.specs.NodeLists.{numbersOf, attributesIn}
 use Rattle.relations.specs.Nodes.{project}
 use mathlib.Core.List.{[], _∷_}
 use mathlib.Core.Bool.{_&&_, cond}
 use mathlib.Core.Path.{_≡_, sym, ap, _∙_}
 use lib.ListN.{length}
 use borrow.Author.Needs.{needs}
-use Rattle.rule_writing.proofs.rules.write_project.Statement.{statement}
-use Rattle.rule_writing.proofs.rules.write_project.Tie as tie
+use Rattle.emission.proofs.projects.write_project.Statement.{statement}
+use Rattle.emission.proofs.projects.write_project.Tie as tie
 
 short-rule-1-fits-requires : tie.Need-short-rule-1-fits-requires
 short-rule-1-fits-requires c κs =
