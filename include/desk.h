@@ -22,10 +22,11 @@
  *               up (tests/c/stack.c), not proved. It uses no heap, file or signal, and never waits.
  *   time        Every call ends: that is proved, how soon is read from the code. Count it in comparisons of two rows: a
  *               node on values of L and R rows costs at most 4 x L x R + 40 x (L + R) of them, a division 14 x L x R + 40
- *               x (L + R); placing N rows moves a row at most N x N / 2 times. All values together have at most 16,384
- *               words, and a question loads each of its ranges anew: so in desk_answer at most DESK_MOST_PAIRS pairs L x R
- *               meet in all. In desk_run a plan may set a value against itself: at most 4 x DESK_MOST_PAIRS for each of
- *               its nodes. docs/PERFORMANCE.md, "A watchdog's figure", has the figure of each operation.
+ *               x (L + R), a tally 2 x L + R; placing N rows moves a row at most N x N / 2 times. All values together
+ *               have at most 16,384 words, and a question loads each of its ranges anew: so in desk_answer at most
+ *               DESK_MOST_PAIRS pairs L x R meet in all. In desk_run a plan may set a value against itself: at most 4 x
+ *               DESK_MOST_PAIRS for each of its nodes. docs/PERFORMANCE.md, "A watchdog's figure", has the figure of each
+ *               operation.
  *   processor   The library is for x86-64 Linux (System V calling convention, position-independent): it links into C and C++
  *               programs for that processor only.
  *
@@ -62,9 +63,9 @@
 /* The version of this interface. Its first number is raised by whatever changes what a right caller of the version before
  * gets: a function's parameters, a refusal, a plan, a number. The second by additions that no such caller notices, the third
  * by everything else. */
-#define DESK_VERSION "4.0.0"
+#define DESK_VERSION "4.1.0"
 #define DESK_VERSION_MAJOR 4
-#define DESK_VERSION_MINOR 0
+#define DESK_VERSION_MINOR 1
 #define DESK_VERSION_PATCH 0
 
 /* Limits. */
@@ -102,7 +103,7 @@
 
 /* Kinds of question node, with their words a to e. A reference is the node's number plus one and names a lower node; 0 means
  * none, and may stand only where ? is. Words that a kind doesn't use are 0. A range is a node of kind 1, 2, 5, 6 or 7, a
- * condition one of 8 to 14. */
+ * condition one of 8 to 14 or 16. */
 #define DESK_TABLE 1u                 /* a relation, from 0 */
 #define DESK_ALPHA 2u                 /* a target, b binding, c? condition */
 #define DESK_TARGET 3u                /* a variable, b attribute (0: the whole row), c? next target */
@@ -117,6 +118,7 @@
 #define DESK_NOT 12u                  /* a condition */
 #define DESK_SOME 13u                 /* a variable, b range, c condition */
 #define DESK_EVERY 14u                /* a variable, b range, c condition */
+#define DESK_AT_LEAST 16u             /* a variable, b range, c condition, d how many rows at least, 1 or more */
 
 /* Operators of atoms, selects and triples. */
 #define DESK_EQUAL 1u
@@ -134,7 +136,7 @@
 #define DESK_AT_COUNT 3u
 #define DESK_AT_LIST 4u
 
-/* Operations of a plan, with the units of their lists. 5, 8, 9, 10 and 11 are heavy. */
+/* Operations of a plan, with the units of their lists. 5, 8, 9, 10, 11 and 13 are heavy. */
 #define DESK_LOAD 1u                  /* count 0 */
 #define DESK_PROJECT 2u               /* count 1 to 32: attribute */
 #define DESK_SELECT_CONSTANT 3u       /* count 1: attribute, operator, constant */
@@ -146,6 +148,7 @@
 #define DESK_UNION 9u                 /* count 0 */
 #define DESK_INTERSECTION 10u         /* count 0 */
 #define DESK_DIFFERENCE 11u           /* count 0 */
+#define DESK_TALLY 13u                /* count 1: k, 1 or more; the left rows that begin at least k right ones, which are wider */
 
 #ifdef __cplusplus
 extern "C" {

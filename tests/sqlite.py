@@ -1,5 +1,5 @@
 #!/usr/bin/env python3
-"""SQLite as a judge that nobody here wrote: random accepted questions as EXISTS / NOT EXISTS queries.
+"""SQLite as a judge that nobody here wrote: random accepted questions as EXISTS, NOT EXISTS and COUNT queries.
 
     sqlite.py [--seed N] [--cases N] [--caller PROGRAM]
 
@@ -17,7 +17,7 @@ sys.path.insert(0, str(pathlib.Path(__file__).parent / "judge"))
 
 from accepted import accepted_question  # noqa: E402
 from calls import Call  # noqa: E402
-from question import cut_into_nodes  # noqa: E402
+from question import SO_MANY, cut_into_nodes  # noqa: E402
 from random_questions import Database, make_question  # noqa: E402
 from refusals import MOST_WORDS, PLAN_BUFFER_WORDS  # noqa: E402
 from sql import Query, open_database  # noqa: E402
@@ -68,7 +68,8 @@ def main():
     if options.caller:
         outcomes += [words == [word for row in case.rows for word in row]
                      for case, _, words in ask_desk(options.caller, cases)]
-    print(f"{len(cases)} questions, {sum(bool(case.rows) for case in cases)} with an answer of one row or more")
+    print(f"{len(cases)} questions, {sum(bool(case.rows) for case in cases)} with an answer of one row or more, "
+          f"{sum(SO_MANY in case.words[0::6] for case in cases)} with \"at least so many\"")
     print(f"{sum(outcomes)} passed, {len(outcomes) - sum(outcomes)} failed")
     return 0 if outcomes and all(outcomes) else 1
 

@@ -10,7 +10,7 @@ from limit_calls import DATA, EQUAL, LESS, Nodes, catalogue_of, node, tables_of
 from refusals import MOST_WORDS, PLAN_BUFFER_WORDS
 
 NODES, VARIABLES, PLAN_NODES = 64, 26, 256
-NOT, AND, OR, SOME, EVERY = 12, 10, 11, 13, 14
+NOT, AND, OR, SOME, EVERY, SO_MANY = 12, 10, 11, 13, 14, 16
 X = 25  # the alpha's own variable; the deep ones count from 0
 UNBOUND = 24
 
@@ -21,6 +21,11 @@ def atom(nodes, variable, operator=EQUAL, attribute=1):
 
 def compared(nodes, variable, operator=EQUAL):
     return nodes.add(9, variable, 1, operator, X, 1)
+
+
+def quantified(nodes, kind, variable, condition):
+    """Over relation 1; "at least so many" asks for one."""
+    return nodes.add(kind, variable, nodes.table(1), condition, int(kind == SO_MANY))
 
 
 def question(condition_of, bottom):
@@ -50,7 +55,7 @@ def nested(kinds):
             kind = kinds[variable % len(kinds)]
             if room_left(nodes) < 3:
                 break
-            reference = nodes.add(abs(kind), variable, nodes.table(1), reference)
+            reference = quantified(nodes, abs(kind), variable, reference)
             if kind < 0:
                 reference = nodes.add(NOT, reference)
         while room_left(nodes):
@@ -70,7 +75,7 @@ def wide_tree(kind, quantifier, left_deep):
             reference = leaves[-1]
             for leaf in reversed(leaves[:-1]):
                 reference = nodes.add(kind, leaf, reference)
-        return nodes.add(quantifier, 0, nodes.table(1), reference) if quantifier else reference
+        return quantified(nodes, quantifier, 0, reference) if quantifier else reference
     return build
 
 
@@ -115,19 +120,20 @@ def chain_of_targets(count):
 
 
 def questions():
-    for bottom, quantified in ((X, 0), (UNBOUND, UNBOUND)):
+    for bottom, innermost in ((X, 0), (UNBOUND, UNBOUND)):
         yield question(nested_not, bottom)
-        for kinds in ((SOME,), (EVERY,), (SOME, EVERY), (-SOME,), (-EVERY,), (SOME, -EVERY)):
-            yield question(nested(kinds), quantified)
+        for kinds in ((SOME,), (EVERY,), (SOME, EVERY), (-SOME,), (-EVERY,), (SOME, -EVERY),
+                      (SO_MANY,), (-SO_MANY,), (SO_MANY, SOME), (SO_MANY, -EVERY), (EVERY, -SO_MANY)):
+            yield question(nested(kinds), innermost)
         for left_deep in (False, True):
             for kind in (AND, OR):
                 yield question(wide_tree(kind, None, left_deep), bottom)
-                for quantifier in (SOME, EVERY):
-                    yield question(wide_tree(kind, quantifier, left_deep), quantified)
+                for quantifier in (SOME, EVERY, SO_MANY):
+                    yield question(wide_tree(kind, quantifier, left_deep), innermost)
             yield range_operations(left_deep, bottom)
-        yield question(every_some_tree, quantified)
+        yield question(every_some_tree, innermost)
         yield alphas_as_ranges(bottom)
-        yield chain_of_bindings(quantified)
+        yield chain_of_bindings(innermost)
     yield chain_of_targets(32)
     yield chain_of_targets(NODES - 3)
 
@@ -137,7 +143,7 @@ def plans():
     load = [node(1, 0), node(1, 1)]
     for words in ((2, 0, 0, 2, 2, 1), (3, 0, 0, 1, 1, LESS, 9), (4, 0, 0, 1, 1, LESS, 2), (5, 0, 1, 1, 2, EQUAL, 1),
                  (6, 0, 1, 1, 2, EQUAL, 1), (7, 0, 1, 2, 1, LESS, 1, 2, EQUAL, 1), (8, 0, 1, 1, 2, 1),
-                 (9, 0, 0, 0), (10, 0, 0, 0), (11, 0, 0, 0)):
+                 (9, 0, 0, 0), (10, 0, 0, 0), (11, 0, 0, 0), (13, 1, 0, 1, 1)):
         yield [word for each in load + [node(*words)] * (PLAN_NODES - 2) for word in each]
 
 

@@ -10,7 +10,7 @@ import sys
 
 from calls import Call
 from limit_calls import catalogue_of, node, tables_of
-from refusals import MOST_WORDS
+from refusals import GREATEST, MOST_WORDS
 
 ORDERS = ("random", "ascending", "descending", "nearly ascending")
 OPERATORS = range(1, 7)
@@ -35,8 +35,20 @@ def triples(chosen, left, right, count):
     return made
 
 
-def operation(chosen, op, left, right):
-    """A node on the values of nodes 0 and 1, which have so many columns."""
+def tally(chosen, data):
+    """Of a number that some left row just reaches, or just misses; or that none reaches."""
+    (width, left), (_, right) = data
+    begin = chosen.choice(left)
+    begun = len({row for row in right if row[:width] == begin})
+    reached = max(begun, 1)
+    return node(13, 0, 1, 1, chosen.choice((reached, reached, reached, begun + 1, GREATEST)))
+
+
+def operation(chosen, op, data):
+    """A node on the values of nodes 0 and 1."""
+    left, right = data[0][0], data[1][0]
+    if op == 13:
+        return tally(chosen, data)
     if op == 2:
         columns = [chosen.randint(1, left) for _ in range(chosen.randint(1, 3))]
         return node(2, 0, 0, len(columns), *columns)
@@ -49,22 +61,27 @@ def operation(chosen, op, left, right):
 
 
 def database(chosen, op):
-    """Two tables, of one width where the operation wants it; a division's left side has a column to spare."""
+    """Two tables, of one width where the operation wants it; a division's left side has a column to spare, a tally's right
+    side one or two more, and its left rows begin many right rows, some or hardly any."""
     left = chosen.randint(2 if op == 8 else 1, 3)
     right = left if op in (9, 10, 11) else chosen.randint(1, 3)
+    if op == 13:
+        right = left + chosen.randint(1, 2)
     rows = 12 if op == 8 else chosen.randint(260, 700)
     spread = chosen.choice((6, 60, 2000, 1 << 32)) if op != 5 else 1 << 20
+    if op == 13:
+        spread = chosen.choice({1: (6, 60, 400), 2: (6, 20), 3: (4, 6)}[left])
     return [table(chosen, width, count, spread, chosen.choice(ORDERS)) for width, count in ((left, chosen.randint(260, 700)), (right, rows))]
 
 
 def lines(seed):
     chosen = random.Random(seed)
-    for op in (1, 2, 5, 6, 7, 8, 9, 10, 11):
-        for _ in range(6):
+    for op in (1, 2, 5, 6, 7, 8, 9, 10, 11, 13):
+        for _ in range(18 if op == 13 else 6):
             data = database(chosen, op)
             words = node(1, 0) + node(1, 1)
             if op != 1:
-                words += operation(chosen, op, data[0][0], data[1][0])
+                words += operation(chosen, op, data)
             given = catalogue_of(data), tables_of(data), words
             call = Call("run", (MOST_WORDS, MOST_WORDS), given)
             performed = call.perform()

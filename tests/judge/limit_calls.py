@@ -1,5 +1,5 @@
 #!/usr/bin/env python3
-"""Calls at the limits that document 01 names, just inside and just outside, each with what document 01 says of it.
+"""Calls at the limits that documents 01 and 02 name, just inside and just outside, each with what they say of it.
 
     limit_calls.py > LINES
 
@@ -10,7 +10,7 @@ judge must agree and works out the rest of the outcome.
 import sys
 
 from calls import Call
-from refusals import MOST_WORDS, PLAN_BUFFER_WORDS
+from refusals import GREATEST, MOST_WORDS, PLAN_BUFFER_WORDS
 
 SHORT, PLAIN = 1, 0
 DATA = ((2, [(4, 11), (4, 12), (7, 11)]), (1, [(11,), (12,)]), (2, [(4, 1), (7, 1), (9, 2)]))
@@ -68,7 +68,7 @@ CASES = []
 def expect(call, *wanted):
     results, buffers = performed = call.perform()
     if results[:len(wanted)] != wanted:
-        sys.exit(f"{call.text()}: the judge says {results[:len(wanted)]}, document 01 {wanted}")
+        sys.exit(f"{call.text()}: the judge says {results[:len(wanted)]}, the documents {wanted}")
     CASES.append(call.line(performed))
     return results
 
@@ -275,7 +275,130 @@ def short_rules():
         answer(nodes.flat(), 0, 0, nodes_written)
 
 
+def tallies():
+    """Operation 13 on a left value of which 4 begins two right rows, 7 (stored twice) and 9 one, 5 none."""
+    data = ((1, [(9,), (4,), (5,), (7,)]), (2, [(7, 1), (4, 2), (7, 1), (9, 9), (4, 1)]))
+    loads = [node(1, 0), node(1, 1)]
+    for least, rows in ((1, 3), (2, 1), (3, 0), (GREATEST, 0)):
+        tally = loads + [node(13, 0, 1, 1, least)]
+        run(tally, 0, 0, 3, 1, 12 + rows, 1, rows, data=data, work=12 + rows, output=rows, name="xrun")
+        run(tally, *((10, 2) if rows else (10, 1)), data=data, work=11 + rows, name="xrun")
+        if rows:
+            run(tally, 11, 2, data=data, output=rows - 1, name="xrun")
+    for empty in (0, 1):
+        emptied = [(columns, [] if number == empty else rows) for number, (columns, rows) in enumerate(data)]
+        run(loads + [node(13, 0, 1, 1, 1)], 0, 0, 3, 1, 8 if empty == 0 else 4, 1, 0, data=emptied)
+    # no wider right value, a wrong count or number, words behind the used ones, nodes that aren't lower
+    for bad in (node(13, 0, 0, 1, 1), node(13, 1, 1, 1, 1), node(13, 1, 0, 1, 1), node(13, 0, 1, 0), node(13, 0, 1, 0, 1), node(13, 0, 1, 1, 0),
+                node(13, 0, 1, 2, 1, 1), node(13, 0, 1, 2, 1), node(13, 0, 1, 33, 1), node(13, 0, 1, GREATEST, 1), node(13, 0, 1, 1, 1, 1),
+                node(13, 0, 1, 1, *[1] + [0] * 30 + [1]), node(13, 2, 1, 1, 1), node(13, 0, 2, 1, 1), node(12, 0, 1, 1, 1), node(14, 0, 1, 1, 1)):
+        run(loads + [bad, node(99)], 9, 2, data=data)
+    # its width is the left's: 31 columns against 32, and 32 against 32; another 32 on top
+    wide = [node(1), node(5, 0, 0), node(5, 1, 1), node(5, 2, 2), node(5, 3, 3), node(2, 4, 0, 31, *range(1, 32))]
+    run(wide + [node(13, 5, 4, 1, 1)], 0, 0, 7, 5, 2 + 4 + 8 + 16 + 32 + 31 + 31, 31, 1, data=((2, [(1, 2)]),))
+    run(wide + [node(13, 4, 4, 1, 1)], 9, 6, data=((2, [(1, 2)]),))
+    run(wide + [node(13, 5, 4, 1, 1), node(13, 6, 5, 1, 1)], 9, 7, data=((2, [(1, 2)]),))
+
+
+def so_many(variable, relation, condition, least):
+    return lambda n: n.add(16, variable, n.table(relation), condition(n), least)
+
+
+def so_many_answers():
+    """Days u of relation 1 with at least so many rows of relation 0: 11 has two, 12 one, and all three are below 9."""
+    on_day = lambda n: n.add(9, 21, 2, EQUAL, 20, 1)
+    below = lambda n: n.add(8, 21, 1, LESS, 9)
+    for condition, found, least, rows in ((on_day, 3, 1, 2), (on_day, 3, 2, 1), (on_day, 3, 3, 0), (on_day, 3, GREATEST, 0),
+                                          (below, 6, 1, 2), (below, 6, 3, 2), (below, 6, 4, 0), (below, 6, GREATEST, 0)):
+        words = with_condition(so_many(21, 0, condition, least), 1)
+        for mode, nodes, room in ((SHORT, 5, 26 + 3 * found + rows), (PLAIN, 6, 26 + 3 * found + 2 * rows)):
+            answer(words, 0, 0, nodes, 2, room, 1, rows, mode=mode, work=room, output=rows, name="xanswer")
+            answer(words, 10, nodes - 1 if rows else 3, mode=mode, work=room - 1, name="xanswer")
+            if rows:
+                answer(words, 11, nodes - 1, mode=mode, output=rows - 1, name="xanswer")
+    # a repeated stored row is one row of the range
+    twice = ((1, [(5,)]), (1, [(3,), (3,)]))
+    for least, rows in ((1, 1), (2, 0)):
+        answer(with_condition(so_many(21, 1, lambda n: n.add(8, 21, 1, EQUAL, 3), least)), 0, 0, 5, 2, 1 + 1 + 2 + 2 + rows, 1, rows, data=twice)
+
+
+def so_many_refusals():
+    link = lambda n: n.add(9, 21, 1, EQUAL, 20, 1)
+    good = with_condition(so_many(21, 1, link, 2))
+    at = lambda words, place, field, value: words[:6 * place + field] + [value] + words[6 * place + field + 1:]
+    # nodes: 0 table, 1 atom, 2 so many, 3 table, 4 binding, 5 target, 6 alpha
+    translate(good, 0, 0)
+    translate(at(at(good, 2, 1, 25), 1, 1, 25), 0, 0)
+    for field, value in ((0, 13), (0, 14), (0, 15), (0, 17), (1, 26), (2, 0), (2, 2), (2, 3), (2, 4), (3, 0), (3, 1), (3, 3), (3, 4), (4, 0), (5, 1)):
+        translate(at(good, 2, field, value), 2, 2)
+        answer(at(good, 2, field, value), 2, 2, mode=PLAIN)
+    translate(at(at(good, 2, 4, 0), 1, 3, 7), 2, 1)
+    translate(at(at(good, 2, 4, 0), 6, 4, 1), 2, 2)
+    translate(at(good, 6, 3, 0), 3, 2)
+    translate(at(good, 0, 1, 3), 4, 0)
+    translate(at(good, 1, 2, 2), 6, 1)
+    translate(at(good, 5, 1, 21), 5, 5)
+
+
+def so_many_scopes():
+    """Its name: bound outside, bound again inside, gone behind it, side by side, free in its range; its columns."""
+    link = lambda n: n.add(9, 21, 1, EQUAL, 20, 1)
+    own = lambda n: n.add(8, 21, 1, EQUAL, 11)
+    inside = so_many(21, 1, own, 2)
+    translate(with_condition(so_many(20, 1, lambda n: n.add(8, 20, 1, EQUAL, 11), 2)), 5, 2)
+    for kind, least in ((13, 0), (14, 0), (16, 1)):
+        translate(with_condition(lambda n: n.add(kind, 21, n.table(1), inside(n), least)), 5, 3)
+    translate(with_condition(so_many(21, 1, lambda n: n.add(13, 21, n.table(1), own(n)), 1)), 5, 3)
+    translate(with_condition(lambda n: n.add(10, inside(n), own(n))), 5, 3)
+    translate(with_condition(lambda n: n.add(10, own(n), inside(n))), 5, 0)
+    for kind in (10, 11):
+        translate(with_condition(lambda n: n.add(kind, inside(n), inside(n))), 0, 0)
+        translate(with_condition(lambda n: n.add(kind, inside(n), n.add(13, 21, n.table(1), own(n)))), 0, 0)
+    for variable, status, place in ((20, 0, 0), (21, 5, 1), (22, 5, 1)):
+        in_range = lambda n: n.alpha([(20, 1)], [(20, n.table(2))], n.add(8, variable, 2, EQUAL, 1))
+        translate(with_condition(lambda n: n.add(16, 21, in_range(n), link(n), 2)), status, place)
+    # 32 columns in scope and 33, in itself and in one inside it
+    for bound, ranges, status, place in (([0] * 3, [0], 0, 0), ([0] * 4, [1], 6, 6), ([0] * 3, [1, 0], 6, 6),
+                                         ([0] * 2, [0, 0], 0, 0), ([0] * 2, [0, 0, 1], 6, 6)):
+        nodes = Nodes()
+        tables = [nodes.table(relation) for relation in bound + ranges]
+        condition = nodes.add(8, 0, 1, EQUAL, 1)
+        for variable in range(len(bound) + len(ranges) - 1, len(bound) - 1, -1):
+            condition = nodes.add(16, variable, tables[variable], condition, 1)
+        nodes.alpha([(0, 1)], list(enumerate(tables[:len(bound)])), condition)
+        for mode in (PLAIN, SHORT):
+            translate(nodes.flat(), status, place, mode=mode, data=((8, []), (1, [])))
+
+
+def so_many_and_short_rules():
+    """No short rule looks at kind 16, and all are tried below it: the heavy count tells."""
+    link = lambda n: n.add(9, 21, 1, EQUAL, 20, 1)
+    own = lambda n: n.add(8, 21, 1, EQUAL, 4)
+    leaf = so_many(23, 1, lambda n: n.add(9, 23, 1, LESS, 21, 2), 1)
+    some = lambda make, variable=21: lambda n: n.add(13, variable, n.table(2), make(n))
+    every = lambda make: lambda n: n.add(14, 21, n.table(2), make(n))
+    many = lambda make: so_many(21, 2, make, 1)
+    negated = lambda make: lambda n: n.add(12, make(n))
+    tree = lambda kind, *makes: lambda n: n.tree(kind, [make(n) for make in makes])
+    z_y, z_u = (lambda n: n.add(9, 22, 2, EQUAL, 21, 1)), (lambda n: n.add(9, 22, 1, EQUAL, 20, 1))
+    filtered = lambda n: n.alpha([(25, 0)], [(25, n.table(2))], n.add(13, 24, n.table(0), n.add(9, 24, 1, EQUAL, 25, 1)))
+    for make, heavy in (
+            (many(link), 2), (many(own), 2), (negated(many(link)), 3), (negated(negated(many(link))), 4), (many(negated(link)), 2),
+            (some(leaf), 3), (some(tree(10, link, leaf)), 3), (some(tree(10, leaf, link, own)), 3), (negated(some(tree(10, link, leaf))), 4),
+            (every(leaf), 3 + 2), (every(tree(11, link, leaf)), 3 + 3), (every(tree(11, leaf, own, link)), 3 + 4),
+            (every(some(tree(10, z_y, z_u), 22)), 2), (every(some(tree(10, z_y, z_u, leaf), 22)), 3 + 3),
+            (every(so_many(22, 2, tree(10, z_y, z_u), 1)), 3 + 2), (many(some(tree(10, z_y, z_u), 22)), 2), (many(negated(some(tree(10, z_y, z_u), 22))), 2),
+            (many(so_many(22, 2, tree(10, z_y, z_u), 2)), 4), (tree(10, many(link), many(own)), 4), (tree(11, many(link), many(own)), 5),
+            (lambda n: n.add(16, 21, filtered(n), link(n), 1), 2)):
+        results = translate(with_condition(make), 0, 0)
+        if results[3] != heavy:
+            sys.exit(f"{with_condition(make)}: heavy {results[3]}, by the rules {heavy}")
+        for mode in (PLAIN, SHORT):
+            answer(with_condition(make), 0, 0, mode=mode)
+
+
 if __name__ == "__main__":
-    for part in (plans, bounds, forms, scopes, short_rules):
+    for part in (plans, bounds, forms, scopes, short_rules, tallies, so_many_answers, so_many_refusals, so_many_scopes,
+                 so_many_and_short_rules):
         part()
     sys.stdout.write("".join(line + "\n" for line in CASES))

@@ -3,7 +3,7 @@
 from itertools import product
 
 from comparing import TESTS
-from question import ALPHA, AND, NOT, OR, RANGE_AND, RANGE_OR, SOME, TABLE, WITH_ATTRIBUTE, WITH_CONSTANT
+from question import ALPHA, AND, NOT, OR, RANGE_AND, RANGE_OR, SO_MANY, SOME, TABLE, WITH_ATTRIBUTE, WITH_CONSTANT
 from question import bindings, targets
 
 
@@ -63,4 +63,6 @@ class Meaning:
         if kind == NOT:
             return not self.holds(a - 1, chosen)
         tries = (self.holds(c - 1, {**chosen, a: row}) for row in self.range(b - 1))
+        if kind == SO_MANY:
+            return sum(tries) >= d
         return any(tries) if kind == SOME else all(tries)

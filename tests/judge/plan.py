@@ -5,12 +5,13 @@ from refusals import MOST_COLUMNS, Refusal
 LOAD, PROJECT, SELECT_CONSTANT, SELECT_ATTRIBUTE = 1, 2, 3, 4
 JOIN, SEMIJOIN, ANTIJOIN, DIVISION = 5, 6, 7, 8
 UNION, INTERSECTION, DIFFERENCE = 9, 10, 11
+TALLY = 13
 
-HEAVY = {JOIN, DIVISION, UNION, INTERSECTION, DIFFERENCE}
+HEAVY = {JOIN, DIVISION, UNION, INTERSECTION, DIFFERENCE, TALLY}
 NODE_WORDS = 36
 MOST_NODES = 256
 # Words of a list for each unit of its count.
-UNIT = {PROJECT: 1, SELECT_CONSTANT: 3, SELECT_ATTRIBUTE: 3, JOIN: 3, SEMIJOIN: 3, ANTIJOIN: 3, DIVISION: 2}
+UNIT = {PROJECT: 1, SELECT_CONSTANT: 3, SELECT_ATTRIBUTE: 3, JOIN: 3, SEMIJOIN: 3, ANTIJOIN: 3, DIVISION: 2, TALLY: 1}
 
 
 class Node:
@@ -95,5 +96,8 @@ def width_of_two_sided(node, left, right):
         distinct = len({a for a, _ in pairs}) == len(pairs)
         good = pairs and distinct and all(1 <= a <= left and 1 <= b <= right for a, b in pairs)
         return left - len(pairs) if good else 0
+    if node.op == TALLY:
+        good = node.count == 1 and node.items[0] >= 1 and right > left
+        return left if good else 0
     good = node.op in (UNION, INTERSECTION, DIFFERENCE) and node.count == 0 and left == right
     return left if good else 0

@@ -1,6 +1,6 @@
 """A question's node table and its judgement: refusals 1 to 6 with their places, and readers of its tree.
 
-Written from document 01 and the rulings alone; it shares nothing with the proved crates.
+Written from documents 01 and 02 and the rulings alone; it shares nothing with the proved crates.
 """
 
 from refusals import MOST_COLUMNS, Refusal
@@ -9,10 +9,12 @@ TABLE, ALPHA, TARGET, BINDING = 1, 2, 3, 4
 RANGE_OR, RANGE_AND, RANGE_AND_NOT = 5, 6, 7
 WITH_CONSTANT, WITH_ATTRIBUTE = 8, 9
 AND, OR, NOT, SOME, EVERY = 10, 11, 12, 13, 14
+SO_MANY = 16
 
 RANGES = {TABLE, ALPHA, RANGE_OR, RANGE_AND, RANGE_AND_NOT}
-CONDITIONS = {WITH_CONSTANT, WITH_ATTRIBUTE, AND, OR, NOT, SOME, EVERY}
+CONDITIONS = {WITH_CONSTANT, WITH_ATTRIBUTE, AND, OR, NOT, SOME, EVERY, SO_MANY}
 ATOMS = {WITH_CONSTANT, WITH_ATTRIBUTE}
+QUANTIFIERS = {SOME, EVERY, SO_MANY}
 MOST_NODES = 64
 
 
@@ -39,6 +41,10 @@ def attribute_or_row(word, node, kinds):
 
 def operator(word, node, kinds):
     return 1 <= word <= 6
+
+
+def at_least_one(word, node, kinds):
+    return word >= 1
 
 
 def reference(sort):
@@ -70,12 +76,13 @@ FORMS = {
     NOT: (to_condition, unused, unused, unused, unused),
     SOME: quantifier,
     EVERY: quantifier,
+    SO_MANY: (variable, to_range, to_condition, at_least_one, unused),
 }
 
 # Which words of a node, counted from its kind at 0, are references.
 REFERENCES = {
     ALPHA: (1, 2, 3), TARGET: (3,), BINDING: (2, 3), RANGE_OR: (1, 2), RANGE_AND: (1, 2), RANGE_AND_NOT: (1, 2),
-    AND: (1, 2), OR: (1, 2), NOT: (1,), SOME: (2, 3), EVERY: (2, 3),
+    AND: (1, 2), OR: (1, 2), NOT: (1,), SOME: (2, 3), EVERY: (2, 3), SO_MANY: (2, 3),
 }
 
 
@@ -205,7 +212,7 @@ class Scopes:
             self.use(number, a, b, scope)
             if kind == WITH_ATTRIBUTE:
                 self.use(number, d, e, scope)
-        elif kind in (SOME, EVERY):
+        elif kind in QUANTIFIERS:
             self.condition(c - 1, self.bind(number, a, b - 1, scope))
         else:
             self.condition(a - 1, scope)

@@ -16,8 +16,8 @@ from itertools import islice
 from accepted import accepted_question, size_of_run
 from calls import Call
 from comparing import EQUAL
-from plan import JOIN, LOAD, SELECT_CONSTANT, Node, plan_words
-from question import ALPHA, MOST_NODES
+from plan import JOIN, LOAD, NODE_WORDS, SELECT_CONSTANT, TALLY, Node, plan_words
+from question import ALPHA, MOST_NODES, SO_MANY
 from random_plans import damaged_plan, make_plan_words
 from random_questions import SLIPS, Database, lengthened, make_question, part_of
 from refusals import GREATEST, MOST_COLUMNS, MOST_WORDS, PLAN_BUFFER_WORDS
@@ -45,8 +45,7 @@ class Cases:
             if self.random.random() < 0.2:
                 words = self.damaged_question(words)
             accepted = accepted_question(database, words)
-            # An empty answer tells little: most of these questions are let go.
-            if accepted and not accepted.rows and self.random.random() < 0.7:
+            if accepted and self.random.random() < accepted.share_to_let_go():
                 continue
             if accepted:
                 yield from self.calls_for_accepted(database, words, accepted)
@@ -86,7 +85,7 @@ class Cases:
 
     def wrong_word(self, words):
         at = self.random.randrange(len(words))
-        wrong = self.random.choice((0, 1, 7, 15, 26, 33, 25, 32, at // 6, at // 6 + 1, at // 6 + 2, GREATEST))
+        wrong = self.random.choice((0, 1, 7, 15, 16, 26, 33, 25, 32, at // 6, at // 6 + 1, at // 6 + 2, GREATEST))
         return words[:at] + [wrong] + words[at + 1:]
 
     def other_reference(self, words):
@@ -108,6 +107,8 @@ class Cases:
         self.counts["32 columns"] += max(accepted.widths) == MOST_COLUMNS
         self.counts["64 nodes"] += len(words) == 6 * MOST_NODES
         self.counts.update(accepted.rules.keys())
+        self.counts["kind 16"] += SO_MANY in words[0::6]
+        self.counts.update(("tallies of questions", kept) for kept in accepted.tallies)
         mode = self.random.choice(MODES)
         yield self.translate(database, words, mode)
         room, answer_words = accepted.room[mode != 0], accepted.answer_words
@@ -147,7 +148,10 @@ class Cases:
         plan = make_plan_words(self.random, database)
         if self.random.random() < 0.4:
             plan = damaged_plan(self.random, plan)
-        room, answer_words = size_of_run(database, plan)
+        room, answer_words, kept = size_of_run(database, plan)
+        self.counts["random plans"] += 1
+        self.counts["operation 13"] += TALLY in plan[0::NODE_WORDS]
+        self.counts.update(("tallies of plans", each) for each in kept)
         return self.run(database, plan, *self.sizes(room, answer_words))
 
     def run_at_the_limit(self):
@@ -186,7 +190,8 @@ class Cases:
 
 
 PARTS = {"table": (1,), "alpha": (2,), "target": (3,), "binding": (4,), "range op": (5, 6, 7), "atom": (8, 9),
-         "and/or/not": (10, 11, 12), "quantifier": (13, 14)}
+         "and/or/not": (10, 11, 12), "quantifier": (13, 14), "so many": (16,)}
+KEPT = ("have no left row", "keep none", "keep a part", "keep all")
 RULES = ("S1", "S2", "S3", "S4", "S5", "S6")
 
 
@@ -198,6 +203,10 @@ def table(counts):
         lines.append(f"{status:<12}" + "".join(f"{count:>11}" for count in each) + f"{sum(each):>11}")
     lines.append(f"accepted questions {counts['accepted']}: {counts['rows']} with an answer of one row or more, "
                  f"{counts['32 columns']} with a value of 32 columns, {counts['64 nodes']} of 64 nodes")
+    of_questions, of_plans = (kept_rows(counts, tallies) for tallies in ("tallies of questions", "tallies of plans"))
+    lines.append(f"{counts['kind 16']} of them with kind 16; their tallies {of_questions}")
+    lines.append(f"random plans {counts['random plans']}, {counts['operation 13']} of them with operation 13; "
+                 f"the tallies of legal ones {of_plans}")
     lines.append(f"refusal 10 with a work area of more than 16,384 words {counts['long work area']}")
     lines.append("rule    fits  with 8 atoms  missed by a 9th  missed otherwise   (accepted questions)")
     for rule in RULES:
@@ -205,6 +214,10 @@ def table(counts):
         lines.append(f"{rule:<5}{counts[rule] + with_8:>7}{with_8:>14}{counts[rule + ' missed by a 9th']:>17}"
                      f"{counts[rule + ' missed']:>18}")
     return "\n".join(lines)
+
+
+def kept_rows(counts, of):
+    return ", ".join(f"{kept} in {counts[of, kept]}" for kept in KEPT)
 
 
 def parts_at_fault(counts):

@@ -1,9 +1,9 @@
 """Random plans for the run call: every operation, unread nodes, 256 and 257 nodes, and damaged words."""
 
 from plan import (ANTIJOIN, DIFFERENCE, DIVISION, JOIN, LOAD, MOST_NODES, NODE_WORDS, PROJECT, SELECT_CONSTANT,
-                  SEMIJOIN, UNION, Node, plan_words)
+                  SEMIJOIN, TALLY, UNION, Node, plan_words)
 from refusals import GREATEST, MOST_COLUMNS
-from random_questions import VALUES
+from random_questions import LEAST, VALUES
 
 # No product is made of values that could give more rows than this.
 MOST_ROWS = 200
@@ -17,7 +17,8 @@ class PlanMaker:
     def plan(self, count):
         self.load()
         while len(self.nodes) < count:
-            makers = (self.load, self.project, self.select, self.match, self.match, self.division, self.set_operation)
+            makers = (self.load, self.project, self.select, self.match, self.match, self.division, self.set_operation,
+                      self.tally)
             (self.widest_join if self.random.random() < 0.02 else self.random.choice(makers))()
         return self.nodes
 
@@ -32,8 +33,9 @@ class PlanMaker:
     def column(self, value):
         return self.random.randint(1, self.widths[value])
 
-    def load(self):
-        relation = self.random.randrange(len(self.database.columns))
+    def load(self, relation=None):
+        if relation is None:
+            relation = self.random.randrange(len(self.database.columns))
         self.write(LOAD, relation, 0, self.database.columns[relation], self.database.rows[relation])
 
     def project(self):
@@ -86,6 +88,35 @@ class PlanMaker:
         if rows <= MOST_ROWS:
             self.write(self.random.randint(UNION, DIFFERENCE), left, right, self.widths[left], rows)
 
+    def tally(self):
+        """Mostly of rows that begin others: a table and its join, or a table's first columns and the table."""
+        how, least = self.random.random(), self.random.choice(LEAST)
+        if self.random.random() < 0.6:
+            return
+        if how < 0.35:
+            left, right = self.load_largest(1), self.load_largest(1)
+            triple = [self.column(left), self.random.randint(1, 6), self.column(right)]
+            width, rows = self.widths[left] + self.widths[right], self.most_rows[left] * self.most_rows[right]
+            self.write(JOIN, left, right, width, rows, [triple])
+            right = len(self.nodes) - 1
+        elif how < 0.8:
+            right = self.load_largest(2)
+            first = range(1, self.random.randint(1, max(self.widths[right] - 1, 1)) + 1)
+            self.write(PROJECT, right, 0, len(first), self.most_rows[right], [[column] for column in first])
+            left = len(self.nodes) - 1
+        else:
+            left, right = self.any_value(), self.any_value()
+        groups = self.random.choice(([], [[0]], [[least], [1]])) if how >= 0.95 else [[least]]
+        self.write(TALLY, left, right, self.widths[left], self.most_rows[left], groups)
+
+    def load_largest(self, columns):
+        """The table of most rows among those of so many columns or more, or else any value."""
+        wide = [r for r, width in enumerate(self.database.columns) if width >= columns]
+        if not wide:
+            return self.any_value()
+        self.load(max(wide, key=self.database.rows.__getitem__))
+        return len(self.nodes) - 1
+
 
 def make_plan_words(random, database):
     count = random.choice((1, 2, 4, 6, 8, 10, 12))
@@ -105,5 +136,5 @@ def damaged_plan(random, words):
             node = random.randrange((len(words) + NODE_WORDS - 1) // NODE_WORDS)
             field = random.choice((0, 1, 2, 3, 4, 5, 6, 7, 8, random.randrange(NODE_WORDS)))
             at = min(node * NODE_WORDS + field, len(words) - 1)
-            words[at] = random.choice((0, 1, 2, 3, 5, 8, 9, 12, 33, node, words[at] + 1, GREATEST)) % (GREATEST + 1)
+            words[at] = random.choice((0, 1, 2, 3, 5, 8, 9, 12, 13, 33, node, words[at] + 1, GREATEST)) % (GREATEST + 1)
     return words

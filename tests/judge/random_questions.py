@@ -1,17 +1,19 @@
 """Random databases and questions, good ones and ones with slips, small enough to be judged by brute force."""
 
-from question import (ALPHA, AND, BINDING, EVERY, MOST_NODES, NOT, OR, RANGE_AND_NOT, RANGE_OR, REFERENCES, SOME,
-                      TABLE, TARGET, WITH_ATTRIBUTE, WITH_CONSTANT)
+from question import (ALPHA, AND, BINDING, EVERY, MOST_NODES, NOT, OR, RANGE_AND_NOT, RANGE_OR, REFERENCES, SO_MANY,
+                      SOME, TABLE, TARGET, WITH_ATTRIBUTE, WITH_CONSTANT)
 from refusals import GREATEST, MOST_COLUMNS
 
 VALUES = (0, 0, 1, 1, 1, 2, 2, GREATEST, GREATEST - 1)
 # Counts of comparing atoms: 8 just fits the short rules, 9 just doesn't.
 COMPARING = (0, 1, 1, 1, 2, 2, 3, 8, 8, 9, 9)
+# Least numbers of "at least so many": within reach of the small tables, and far beyond.
+LEAST = (1, 1, 1, 2, 2, 2, 2, 3, 4, GREATEST)
 # More choices of rows than this for the variables in scope, and no further variable is bound.
 MOST_CHOICES = 40
 
 SLIPS = ("unknown relation", "out of scope", "bound twice", "unequal widths", "attribute beyond",
-         "too many columns", "wide alpha")
+         "too many columns", "wide alpha", "at least none")
 
 
 class Database:
@@ -19,7 +21,7 @@ class Database:
         self.random = random
         count = random.choice((1, 2, 2, 3, 3, 4, 16 if wide else 5))
         self.columns = [random.choice((8, 8, 8, 4, 1)) if wide else random.choice((1, 1, 2, 2, 3)) for _ in range(count)]
-        self.rows = [random.choice((0, 1, 2, 2) if wide else (0, 1, 2, 3, 3, 4, 4)) for _ in range(count)]
+        self.rows = [random.choice((0, 1, 2, 2, 5) if wide else (0, 1, 2, 3, 3, 4, 4, 6, 8)) for _ in range(count)]
         self.catalogue = [word for pair in zip(self.columns, self.rows) for word in pair]
         # With few values many rows agree, so that conditions of many atoms still hold for some.
         self.values = random.choice((VALUES, VALUES, random.sample(VALUES, 2)))
@@ -137,7 +139,17 @@ class QuestionMaker:
         width = self.random.choice(self.database.columns) if table_only else MOST_COLUMNS + 1
         if width > free:
             width = self.any_width(free)
-        reference, width, rows = self.range(depth, width)
+        return self.named(scope, *self.range(depth, width))
+
+    def bind_largest(self, scope):
+        """The table of most rows, so that a row may have several partners in it."""
+        fitting = [r for r, columns in enumerate(self.database.columns) if columns <= scope.free_columns()]
+        if not fitting:
+            return self.bind(scope, 0)
+        relation = max(fitting, key=self.database.rows.__getitem__)
+        return self.named(scope, self.add(TABLE, relation), self.database.columns[relation], self.database.rows[relation])
+
+    def named(self, scope, reference, width, rows):
         var = self.random.choice([v for v in range(26) if v not in scope.widths])
         if scope.widths and self.slip("bound twice"):
             var = self.random.choice(list(scope.widths))
@@ -162,7 +174,7 @@ class QuestionMaker:
             makers += [self.both, self.either, self.negated]
         if depth and self.may_bind(scope):
             makers += [self.quantified, self.some_match, self.no_match, self.every_match, self.every_some,
-                       self.every_some]
+                       self.every_some, self.so_many_match, self.so_many_match]
         return self.random.choice(makers)(scope, depth - 1)
 
     def atom(self, scope, depth=0):
@@ -194,23 +206,40 @@ class QuestionMaker:
 
     def quantified(self, scope, depth):
         var, reference, inner = self.bind(scope, max(depth, 0))
-        kind = self.random.choice((SOME, EVERY))
-        return self.add(kind, var, reference, self.condition(inner, max(depth, 0)))
+        kind = self.random.choice((SOME, EVERY, SO_MANY))
+        return self.quantifier(kind, var, reference, self.condition(inner, max(depth, 0)))
+
+    def quantifier(self, kind, var, reference, condition):
+        least = (self.least(),) if kind == SO_MANY else ()
+        return self.add(kind, var, reference, condition, *least)
+
+    def least(self):
+        return 0 if self.slip("at least none") else self.random.choice(LEAST)
 
     # Shapes that the short rules look for, fitting and just not fitting
     def some_match(self, scope, depth):
         return self.match(scope, depth, SOME, AND)
 
     def no_match(self, scope, depth):
-        return self.add(NOT, self.match(scope, depth, SOME, AND))
+        return self.add(NOT, self.match(scope, depth, self.mostly(SOME), AND))
 
     def every_match(self, scope, depth):
         return self.match(scope, depth, EVERY, OR)
 
+    def so_many_match(self, scope, depth):
+        return self.match(scope, depth, SO_MANY, self.random.choice((AND, OR)))
+
+    def mostly(self, kind):
+        """A quantifier that a short rule looks for, or now and then the one that none looks at."""
+        return SO_MANY if self.chance(0.1) else kind
+
     def match(self, scope, depth, quantifier, joiner):
-        var, reference, inner = self.bind(scope, max(depth, 0))
+        largest = quantifier == SO_MANY and self.chance(0.8)
+        var, reference, inner = self.bind_largest(scope) if largest else self.bind(scope, max(depth, 0))
         comparing = self.random.choice(COMPARING)
         alone = self.random.choice((0, 0, 1, 2)) if comparing else self.random.choice((1, 2, 10))
+        if quantifier == SO_MANY and self.chance(0.8):
+            comparing, alone = 1, 0  # with more hardly a row has several partners
         outer = list(scope.widths)
         # Many random comparisons never hold at once; these do on equal values.
         operators = (1, 4, 6) if comparing > 2 and joiner == AND else (1, 1, 2, 3, 4, 5, 6)
@@ -219,16 +248,22 @@ class QuestionMaker:
         atoms += [self.alone(inner, var) for _ in range(alone)]
         if self.chance(0.15):
             atoms.append(self.misfit(scope, inner))
-        return self.add(quantifier, var, reference, self.tree(joiner, atoms))
+        return self.quantifier(quantifier, var, reference, self.tree(joiner, atoms))
 
     def alone(self, scope, var):
         return self.with_constant(scope, var) if self.chance(0.6) else self.with_attribute(scope, var, var)
 
     def misfit(self, outer, inner):
         """A leaf with which no match rule fits."""
+        if self.chance(0.4) and self.may_bind(inner):
+            return self.so_many(inner)
         if self.chance(0.5):
             return self.atom(outer)
         return self.add(NOT, self.atom(inner))
+
+    def so_many(self, scope):
+        var, reference, inner = self.bind_largest(scope)
+        return self.quantifier(SO_MANY, var, reference, self.atom(inner))
 
     def every_some(self, scope, depth):
         y, y_range, with_y = self.bind(scope, max(depth, 0))
@@ -240,7 +275,8 @@ class QuestionMaker:
             condition = self.all_columns_in_order(inner, y, z, outer)
         else:
             condition = self.tree(AND, self.division_atoms(inner, with_y, y, z, outer))
-        return self.add(EVERY, y, y_range, self.add(SOME, z, z_range, condition))
+        some = self.quantifier(self.mostly(SOME), z, z_range, condition)
+        return self.quantifier(self.mostly(EVERY), y, y_range, some)
 
     def division_atoms(self, inner, with_y, y, z, outer):
         outside, inside = self.random.choice(COMPARING), self.random.choice(COMPARING)
@@ -255,6 +291,8 @@ class QuestionMaker:
         elif self.chance(0.15):
             # z compared by another operator than =
             atoms.append(self.with_attribute(inner, z, self.random.choice((y, *outer)), self.random.randint(2, 6)))
+        elif self.chance(0.1) and self.may_bind(inner):
+            atoms.append(self.so_many(inner))
         return atoms
 
     def all_columns_in_order(self, inner, y, z, outer):

@@ -1,8 +1,8 @@
-"""The eleven operations on sets of rows, and running a plan within a capacity (refusal 10)."""
+"""The twelve operations on sets of rows, and running a plan within a capacity (refusal 10)."""
 
 from comparing import TESTS
 from plan import (ANTIJOIN, DIFFERENCE, DIVISION, INTERSECTION, JOIN, LOAD, PROJECT, SELECT_ATTRIBUTE,
-                  SELECT_CONSTANT, SEMIJOIN, UNION)
+                  SELECT_CONSTANT, SEMIJOIN, TALLY, UNION)
 from refusals import Refusal
 
 
@@ -46,6 +46,11 @@ def division(left, right, pairs):
     return {rest for rest, found in had.items() if needed <= found}
 
 
+def tally(left, right, least):
+    """The left rows that begin at least so many right rows."""
+    return {t for t in left if sum(s[:len(t)] == t for s in right) >= least}
+
+
 def value_of(node, values, tables):
     if node.op == LOAD:
         return tables[node.left]
@@ -65,11 +70,19 @@ def value_of(node, values, tables):
         return left - semijoin(left, right, node.groups())
     if node.op == DIVISION:
         return division(left, right, node.groups())
+    if node.op == TALLY:
+        return tally(left, right, *node.items)
     return {UNION: left | right, INTERSECTION: left & right, DIFFERENCE: left - right}[node.op]
 
 
 def run_plan(nodes, widths, tables, capacity):
     """The answer's rows in ascending order, and the room used."""
+    values, room = values_of_plan(nodes, widths, tables, capacity)
+    return sorted(values[-1]), room
+
+
+def values_of_plan(nodes, widths, tables, capacity):
+    """The value of each node, and the room used."""
     values, room = [], 0
     for number, (node, width) in enumerate(zip(nodes, widths)):
         # A product's size is known before it is made: none is made only to be refused.
@@ -81,4 +94,4 @@ def run_plan(nodes, widths, tables, capacity):
         if room > capacity:
             raise Refusal(10, number)
         values.append(value)
-    return sorted(values[-1]), room
+    return values, room

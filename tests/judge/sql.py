@@ -1,9 +1,9 @@
-"""A question as one SQL query with EXISTS and NOT EXISTS, and a database as SQLite tables."""
+"""A question as one SQL query with EXISTS, NOT EXISTS and COUNT, and a database as SQLite tables."""
 
 import sqlite3
 
-from question import (ALPHA, AND, NOT, OR, RANGE_AND, RANGE_AND_NOT, RANGE_OR, SOME, TABLE, WITH_ATTRIBUTE,
-                      WITH_CONSTANT, bindings, targets)
+from question import (ALPHA, AND, NOT, OR, RANGE_AND, RANGE_AND_NOT, RANGE_OR, SO_MANY, SOME, TABLE,
+                      WITH_ATTRIBUTE, WITH_CONSTANT, bindings, targets)
 
 OPERATOR = {1: "=", 2: "<>", 3: "<", 4: "<=", 5: ">", 6: ">="}
 SET_OPERATION = {RANGE_OR: "UNION", RANGE_AND: "INTERSECT", RANGE_AND_NOT: "EXCEPT"}
@@ -55,6 +55,9 @@ class Query:
             return f"({self.condition(a - 1)} {word} {self.condition(b - 1)})"
         if kind == NOT:
             return f"NOT ({self.condition(a - 1)})"
+        if kind == SO_MANY:
+            rows = f"SELECT DISTINCT * FROM ({self.range(b - 1)[0]})"
+            return f"(SELECT COUNT(*) FROM ({rows}) AS v{a} WHERE {self.condition(c - 1)}) >= {d}"
         source = f"SELECT 1 FROM ({self.range(b - 1)[0]}) AS v{a} WHERE"
         if kind == SOME:
             return f"EXISTS ({source} {self.condition(c - 1)})"

@@ -8,9 +8,9 @@ from collections import Counter
 
 from comparing import EQUAL, OPPOSITE, TURNED
 from plan import (ANTIJOIN, DIFFERENCE, DIVISION, INTERSECTION, JOIN, LOAD, PROJECT, SELECT_ATTRIBUTE,
-                  SELECT_CONSTANT, SEMIJOIN, UNION, Node)
-from question import (ALPHA, AND, ATOMS, EVERY, NOT, OR, RANGE_AND, RANGE_AND_NOT, RANGE_OR, SOME, TABLE,
-                      WITH_CONSTANT, bindings, leaves, targets)
+                  SELECT_CONSTANT, SEMIJOIN, TALLY, UNION, Node)
+from question import (ALPHA, AND, ATOMS, EVERY, NOT, OR, RANGE_AND, RANGE_AND_NOT, RANGE_OR, SO_MANY, SOME,
+                      TABLE, WITH_CONSTANT, bindings, leaves, targets)
 
 SET_OPERATION = {RANGE_OR: UNION, RANGE_AND: INTERSECTION, RANGE_AND_NOT: DIFFERENCE}
 MOST_TRIPLES = 8
@@ -58,9 +58,9 @@ class Translation:
     def product(self, left, right):
         return self.write(JOIN, left, right, self.widths[left] + self.widths[right])
 
-    def filtered(self, op, left, right, triples=()):
-        """Semijoin, antijoin, union, difference: the value has the left side's width."""
-        return self.write(op, left, right, self.widths[left], triples)
+    def filtered(self, op, left, right, groups=()):
+        """Semijoin, antijoin, union, difference, tally: the value has the left side's width."""
+        return self.write(op, left, right, self.widths[left], groups)
 
     def select(self, value, atom, columns, negated=False):
         kind, a, b, c, d, e = self.nodes[atom]
@@ -114,10 +114,12 @@ class Translation:
         return self.plain_quantifier(number, value, columns)
 
     def plain_quantifier(self, number, value, columns):
-        kind, var, range_reference, condition = self.nodes[number][:4]
+        kind, var, range_reference, condition, least = self.nodes[number][:5]
         over = self.range(range_reference - 1)
         wider = self.product(value, over)
         found = self.condition(condition - 1, wider, columns.joined(var, self.widths[over]))
+        if kind == SO_MANY:
+            return self.filtered(TALLY, value, found, [[least]])
         own_columns = list(range(1, self.widths[value] + 1))
         if kind == SOME:
             return self.project(found, own_columns)

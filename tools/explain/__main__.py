@@ -28,7 +28,7 @@ CURES = {
     2: "docs/BUNDLE.md lists the fields of each kind.",
     3: "A table that is needed twice is written twice; the alpha that prints comes last.",
     4: "Relations count from 0, in the order of the relation= lines.",
-    5: "A letter is bound by a binding, a \"some\" or an \"every\", and holds inside it only.",
+    5: "A letter is bound by a binding, a \"some\", an \"every\" or an \"at least\", and holds inside it only.",
     6: "Look up how many numbers the relation= line gives its rows.",
     10: "Let a range pick the rows first (an alpha in a table's place), or leave out tables and rows that the question doesn't need.",
     11: "Print fewer columns, or ask for fewer rows.",

@@ -4,7 +4,7 @@ import subprocess
 
 NODE_WORDS = 36
 MOST_ROOM = 16384
-HEAVY = {5, 8, 9, 10, 11}
+HEAVY = {5, 8, 9, 10, 11, 13}
 SIGN = {1: "=", 2: "<>", 3: "<", 4: "<=", 5: ">", 6: ">="}
 
 
@@ -40,6 +40,7 @@ class Node:
             9: f"union       rows of {a}, and of {b}",
             10: f"intersect   rows of {a} that are rows of {b}",
             11: f"difference  rows of {a} that are no rows of {b}",
+            13: f"tally       rows of {a} that begin at least {self.list[0]:,} row{'s' * (self.list[0] != 1)} of {b}",
         }[self.op]
 
 

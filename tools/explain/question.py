@@ -1,6 +1,8 @@
-"""A question's nodes: in document 000's notation (section 2.1), in words, and what refusals 2 to 6 found at one of them."""
+"""A question's nodes: in document 000's notation (section 2.1; ∃≥3 is "at least 3"), in words, and what refusals 2 to 6 found at one of them."""
 
-RANGES, CONDITIONS = {1, 2, 5, 6, 7}, set(range(8, 15))
+RANGES, CONDITIONS = {1, 2, 5, 6, 7}, {*range(8, 15), 16}
+QUANTIFIERS = {13, 14, 16}
+BINDERS = {4} | QUANTIFIERS
 SIGN = {1: "=", 2: "<>", 3: "<", 4: "<=", 5: ">", 6: ">="}
 
 # Each kind: its name, and what its words a to e are; ? marks a reference that may be 0.
@@ -19,9 +21,10 @@ KINDS = {
     12: ('"not"', ["condition"]),
     13: ('"some"', ["variable", "range", "condition"]),
     14: ('"every"', ["variable", "range", "condition"]),
+    16: ('"at least"', ["variable", "range", "condition", "least number"]),
 }
 SORTS = {"target": {3}, "binding": {4}, "range": RANGES, "condition": CONDITIONS}
-LEAST_AND_MOST = {"variable": (0, 25), "attribute": (1, 32), "attribute or 0": (0, 32), "operator": (1, 6)}
+LEAST_AND_MOST = {"variable": (0, 25), "attribute": (1, 32), "attribute or 0": (0, 32), "operator": (1, 6), "least number": (1, 2 ** 32 - 1)}
 
 
 def letter(variable):
@@ -87,7 +90,8 @@ class Question:
             return f"{self.condition(a - 1)} ∨ {self.condition(b - 1)}"
         if kind == 12:
             return f"~{self.inner(a - 1, {8, 9, 10, 11})}"
-        return f"{'∃' if kind == 13 else '∀'}{self.range(b - 1)}({letter(a)}) {self.inner(c - 1, {8, 9, 10, 11, 12})}"
+        sign = {13: "∃", 14: "∀", 16: f"∃≥{d} "}[kind]
+        return f"{sign}{self.range(b - 1)}({letter(a)}) {self.inner(c - 1, {8, 9, 10, 11, 12})}"
 
     def inner(self, number, bracketed):
         text = self.condition(number)
@@ -99,7 +103,7 @@ class Question:
         """Refusal 2: the first word that doesn't fit its field."""
         node = self.nodes[number]
         if node[0] not in KINDS:
-            return f"There is no kind {node[0]}: kinds are 1 to 14."
+            return f"There is no kind {node[0]}: kinds are 1 to 14 and 16."
         sorts = KINDS[node[0]][1]
         for field, word in zip("abcde", node[1:]):
             sort = sorts["abcde".index(field)] if "abcde".index(field) < len(sorts) else "unused"
@@ -113,7 +117,7 @@ class Question:
             return word and "this kind doesn't use it, so it must be 0"
         if sort in LEAST_AND_MOST:
             least, most = LEAST_AND_MOST[sort]
-            return not least <= word <= most and f"{with_article(sort)} is {least} to {most}"
+            return not least <= word <= most and f"{with_article(sort)} is {least} to {most:,}"
         name = sort.rstrip("?")
         if name not in SORTS or (word == 0 and sort.endswith("?")):
             return ""
@@ -177,7 +181,7 @@ class Question:
         node = self.nodes[number]
         if node[0] in (8, 9):
             found[number] = scope
-        elif node[0] in (13, 14):
+        elif node[0] in QUANTIFIERS:
             self.scope_of_condition(node[3] - 1, self.bound(number, scope, found), found)
         else:
             for part in references(node):
@@ -191,11 +195,11 @@ class Question:
     def out_of_scope(self, number):
         """Refusal 5."""
         scope = self.scopes()[number]
-        if self.nodes[number][0] in (4, 13, 14):
+        if self.nodes[number][0] in BINDERS:
             return f"It binds {letter(self.nodes[number][1])}, which is bound already where it stands: take another variable."
         lost = [letter(variable) for variable, _ in self.uses(number) if variable not in scope]
         there = ", ".join(map(letter, sorted(scope))) or "none"
-        return f"It uses {' and '.join(lost)}; in scope there: {there}. A range sees no variable from outside it, a target no \"some\" or \"every\"."
+        return f"It uses {' and '.join(lost)}; in scope there: {there}. A range sees no variable from outside it, a target only the variables of bindings."
 
     def too_wide(self, number):
         """Refusal 6."""
@@ -204,7 +208,7 @@ class Question:
             left, right = (self.width(part, {}) for part in references(self.nodes[number]))
             return f"Its sides have {left} and {right} columns; they must have the same number."
         scope = self.scopes().get(number, {})
-        if kind in (4, 13, 14):
+        if kind in BINDERS:
             columns = sum({**scope, variable: self.width(named - 1, {})}.values())
             return f"With {letter(variable)} there are {columns} columns in scope; 32 is the most."
         if kind == 2:

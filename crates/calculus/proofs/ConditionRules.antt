@@ -7,12 +7,13 @@ use lib.Dec.{leb}
 use lib.ListN.{length}
 use Rattle.relations.specs.Legality.{between}
 use Rattle.relations.specs.Limits.{tripleLimit, pairLimit}
-use Rattle.relations.specs.Lists.{any, all, filter, All}
+use Rattle.relations.specs.Lists.{any, all, filter, All, howMany}
 use Rattle.relations.specs.Nodes.{Node}
 use Rattle.relations.specs.Plan.{valueAt}
 use Rattle.relations.specs.Rows.{Row}
 use Rattle.relations.specs.Values.{Rows, Tables, Ascending, Wide}
 use Rattle.relations.proofs.BoolLaws.{and-left, and-right}
+use Rattle.relations.proofs.CountLaws.{howMany-cong}
 use Rattle.relations.proofs.ListLaws.{all-mono, all-every, filter-cong, any-cong, any-same, filter-same, all-not-any, all-cong, all-test-map}
 use Rattle.calculus.specs.Form.{NotInScope, GoodAtom, GoodCondition}
 use Rattle.calculus.specs.Leaves.{isAndTree, isOrTree, leaves, oppositeAtom, aloneOn, comparesWithOther, equatesWith, equatesOutside}
@@ -23,8 +24,8 @@ use Rattle.calculus.specs.ShortRules.{shortRule2Atoms, shortRule2Fits, s
 use Rattle.calculus.proofs.AtomRules.{allAtomsHold, short-rule-2, short-rule-3}
 use Rattle.calculus.proofs.DivisionRule.{SoundOver, over-rule, short-rule-5}
 use Rattle.calculus.proofs.LeafLaws.{good-leaves, and-tree-holds, or-tree-fails, atoms-opposite, good-opposites}
-use Rattle.calculus.proofs.PlainRules.{Sound, Makes, some-rule, every-rule}
-use Rattle.calculus.proofs.RuleNodes.{plainSome, plainEvery, afterRange}
+use Rattle.calculus.proofs.PlainRules.{Sound, Makes, some-rule, every-rule, at-least-rule}
+use Rattle.calculus.proofs.RuleNodes.{plainSome, plainEvery, afterRange, plainAtLeast}
 use Rattle.calculus.proofs.ScopeLaws.{environment-extend}
 
 module _ (tables : Tables) where
@@ -84,6 +85,10 @@ module _ (tables : Tables) (columns : ℕ → ℕ) (relations : ℕ) (short : Bo
     where
       plain : (short && shortRule5Fits v f) ≡ false → Sound tables s (plainEvery s T U) (λ p. all (meetsBoth p) R)
       plain i = sound-cong tables s (plainEvery s T U) (λ p. all (λ r. conditionHolds tables f (environmentOf (extend s v w) (p ++ r))) R) (λ p. all (meetsBoth p) R) (λ p e. all-cong (λ r. conditionHolds tables f (environmentOf (extend s v w) (p ++ r))) (meetsBoth p) R (product-row p e)) (every-rule tables s v w T R U (λ r. conditionHolds tables f (environmentOf (extend s v w) r)) makes (value .1) sound)
+
+  -- At least so many: no short rule looks at it
+  pub at-least-case : (least : ℕ) (U : ℕ → ℕ → List Node) → Sound tables (extend s v w) U (λ r. conditionHolds tables f (environmentOf (extend s v w) r)) → Sound tables s (plainAtLeast least T U) (λ p. leb least (howMany (meetsBoth p) R))
+  at-least-case least U sound = sound-cong tables s (plainAtLeast least T U) (λ p. leb least (howMany (λ r. conditionHolds tables f (environmentOf (extend s v w) (p ++ r))) R)) (λ p. leb least (howMany (meetsBoth p) R)) (λ p e. ap (leb least) (howMany-cong (λ r. conditionHolds tables f (environmentOf (extend s v w) (p ++ r))) (meetsBoth p) R (product-row p e))) (at-least-rule tables least s v w T R U (λ r. conditionHolds tables f (environmentOf (extend s v w) r)) makes (value .0) (value .1) sound)
 
 -- "Every y" above "some z", by S5
 pub division-case : (tables : Tables) (columns : ℕ → ℕ) (relations : ℕ) (s : Scope) (y k z w : ℕ) (T : ℕ → List Node) (R : Rows) (f : Condition) → NotInScope z (extend s y k) → Makes tables T R → Ascending R × Wide w R → GoodCondition columns relations f (extend (extend s y k) z w) → So (isAndTree f && shortRule5Atoms z y (leaves f))

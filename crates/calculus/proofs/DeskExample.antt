@@ -5,7 +5,7 @@ use mathlib.Core.List.{[], _∷_}
 use native.Mathlib.Omega.{arith}
 use Rattle.relations.specs.Machine.{run}
 use Rattle.calculus.specs.Claims.{TranslationRight}
-use Rattle.calculus.specs.DeskExample.{deskColumns, banDays, deskTables, deskQuestion, outcome}
+use Rattle.calculus.specs.DeskExample.{deskColumns, banDays, deskTables, deskQuestion, outcome, countQuestion, countOutcome}
 use Rattle.calculus.specs.Form.{widthOfRange, GoodRange}
 use Rattle.calculus.specs.Meaning.{rangeRows}
 use Rattle.calculus.specs.Translation.{translateRange}
@@ -34,3 +34,12 @@ question-good = (omega arith, tt, ((refl, tt), omega arith, ((refl, (refl, tt)),
 
 pub question-right : TranslationRight deskColumns 3 deskQuestion
 question-right = translation-right deskColumns 3 deskQuestion question-good
+
+-- who was there on two days: 4 and 9; on three: no one. A load, a load, a product, a select, operation 13, a project, in both modes
+pub there-twice : (countOutcome true 2 ≡ record { nodes = 6; heavyOnes = 2; words = 124; rows = (4 ∷ []) ∷ (9 ∷ []) ∷ [] }) × (countOutcome false 2 ≡ countOutcome true 2) × (countOutcome true 3 .rows ≡ [])
+unfolding translateRange widthOfRange run
+there-twice = (refl, refl, refl)
+
+pub there-twice-meaning : rangeRows (deskTables banDays) (countQuestion 2) ≡ (4 ∷ []) ∷ (9 ∷ []) ∷ []
+unfolding rangeRows
+there-twice-meaning = refl

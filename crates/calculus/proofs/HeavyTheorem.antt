@@ -7,12 +7,12 @@ use native.Mathlib.Omega.{arith}
 use lib.ListN.{length, length-append}
 use Rattle.relations.specs.Columns.{Attribute}
 use Rattle.relations.specs.Lists.{filter, flat}
-use Rattle.relations.specs.Nodes.{Node, project, join, semijoin, antijoin, divide, unite, intersect, subtract}
+use Rattle.relations.specs.Nodes.{Node, project, join, semijoin, antijoin, divide, unite, intersect, subtract, tally}
 use Rattle.relations.specs.Plan.{heavyNode, heavy}
 use Rattle.relations.proofs.ListLaws.{filter-append}
 use Rattle.calculus.specs.Form.{widthOfRange, alphaScope}
 use Rattle.calculus.specs.Leaves.{leaves, oppositeAtom, aloneOn, comparesWithOther, equatesWith, equatesOutside, ownAttribute}
-use Rattle.calculus.specs.Question.{fixed, ofVariable, Atom, compare, Range, table, alpha, rangeOr, rangeAnd, rangeAndNot, Bindings, noMore, bind, MaybeCondition, noCondition, onCondition, Condition, atom, conditionAnd, conditionOr, conditionNot, forSome, forEvery}
+use Rattle.calculus.specs.Question.{fixed, ofVariable, Atom, compare, Range, table, alpha, rangeOr, rangeAnd, rangeAndNot, Bindings, noMore, bind, MaybeCondition, noCondition, onCondition, Condition, atom, conditionAnd, conditionOr, conditionNot, forSome, forEvery, forAtLeast}
 use Rattle.calculus.specs.Scope.{entry, Scope, extend, columnsIn, allColumns, targetColumns}
 use Rattle.calculus.specs.ShortRules.{lastNumber, selectNode, selectNodes, shortRule1Fits, projectNodes, shortRule2Fits, tripleOf, shortRule3Fits, shortRule4Fits, shortRule5Fits, outsideTriples, divisionPairs, shortRule6Fits}
 use Rattle.calculus.specs.Translation.{Wanted, itself, itsOpposite, divisionBy, translateRange, translateBindings, translateMaybe, translateCondition}
@@ -62,6 +62,7 @@ unfoldable mutual
   heavyOfCondition (conditionNot f) = heavyOfCondition f + 1
   heavyOfCondition (forSome v R f) = heavyOfRange R + 1 + heavyOfCondition f
   heavyOfCondition (forEvery v R f) = heavyOfRange R + heavyOfCondition f + 3
+  heavyOfCondition (forAtLeast v R f least) = heavyOfRange R + heavyOfCondition f + 2
 
 abbrev extra : Wanted → ℕ
 extra itself = 0
@@ -163,6 +164,11 @@ module _ (columns : ℕ → ℕ) (short : Bool) where
         let o : List Node = translateCondition columns short f (divisionBy v (pred l)) s p l in
         let u : List Node = subtract l i ∷ project (suc i) (allColumns (columnsIn s)) ∷ subtract p (suc (suc i)) ∷ [] in
         choose-at-most (short && shortRule4Fits v f) ((x ++ y) ++ (t ∷ [])) (elim (short && shortRule5Fits v f) [ true ↦ x ++ o | false ↦ (x ++ (join p (pred l) [] ∷ z)) ++ u ]) (heavyOfRange R + heavyOfCondition f + 3 + extra k) (omega (arith, heavy-three x y (t ∷ []), selects-light (entry v (widthOfRange columns R) ∷ []) (filter (aloneOn v) cs) (pred l) l, range-at-most R n)) (choose-at-most (short && shortRule5Fits v f) (x ++ o) ((x ++ (join p (pred l) [] ∷ z)) ++ u) (heavyOfRange R + heavyOfCondition f + 3 + extra k) (omega (arith, heavy-append x o, range-at-most R n, condition-at-most f (divisionBy v (pred l)) s p l)) (omega (arith, heavy-three x (join p (pred l) [] ∷ z) u, range-at-most R n, condition-at-most f itself (extend s v (widthOfRange columns R)) l (suc l))))
+    condition-at-most (forAtLeast v R f least) k s p n =
+        let x : List Node = translateRange columns short R n in
+        let l : ℕ = n + length x in
+        let z : List Node = translateCondition columns short f itself (extend s v (widthOfRange columns R)) l (suc l) in
+        omega (arith, heavy-three x (join p (pred l) [] ∷ z) (tally p (lastNumber (suc l) z) least ∷ []), range-at-most R n, condition-at-most f itself (extend s v (widthOfRange columns R)) l (suc l))
 
 module _ (columns : ℕ → ℕ) where
   mutual
@@ -223,6 +229,11 @@ module _ (columns : ℕ → ℕ) where
         let z : List Node = translateCondition columns false f itself (extend s v (widthOfRange columns R)) l (suc l) in
         let i : ℕ = lastNumber (suc l) z in
         omega (arith, heavy-three x (join p (pred l) [] ∷ z) (subtract l i ∷ project (suc i) (allColumns (columnsIn s)) ∷ subtract p (suc (suc i)) ∷ []), range-plain R n, condition-plain f (extend s v (widthOfRange columns R)) l (suc l))
+    condition-plain (forAtLeast v R f least) s p n =
+        let x : List Node = translateRange columns false R n in
+        let l : ℕ = n + length x in
+        let z : List Node = translateCondition columns false f itself (extend s v (widthOfRange columns R)) l (suc l) in
+        omega (arith, heavy-three x (join p (pred l) [] ∷ z) (tally p (lastNumber (suc l) z) least ∷ []), range-plain R n, condition-plain f (extend s v (widthOfRange columns R)) l (suc l))
 
   pub lighter : (R : Range) → heavy (translateRange columns true R 0) ≤ heavy (translateRange columns false R 0)
   lighter R = omega (arith, range-at-most columns true R 0, range-plain R 0)

@@ -10,7 +10,7 @@ use Rattle.relations.proofs.ListLaws.{all-every, all-append, all-cong, all-test
 use Rattle.calculus.specs.Form.{GoodAtom, GoodCondition}
 use Rattle.calculus.specs.Leaves.{isAndTree, isOrTree, leaves, oppositeAtom, aloneOn, comparesWithOther}
 use Rattle.calculus.specs.Meaning.{Environment, atomHolds, conditionHolds}
-use Rattle.calculus.specs.Question.{fixed, ofVariable, Atom, compare, Condition, atom, conditionAnd, conditionOr, conditionNot, forSome, forEvery}
+use Rattle.calculus.specs.Question.{fixed, ofVariable, Atom, compare, Condition, atom, conditionAnd, conditionOr, conditionNot, forSome, forEvery, forAtLeast}
 use Rattle.calculus.specs.Scope.{Scope}
 use Rattle.calculus.proofs.AtomLaws.{oppositeAtom-holds}
 
@@ -22,6 +22,7 @@ good-leaves columns relations (conditionOr f g) s o = all-append (GoodAtom s) (l
 good-leaves columns relations (conditionNot f) s o = tt
 good-leaves columns relations (forSome v R f) s o = tt
 good-leaves columns relations (forEvery v R f) s o = tt
+good-leaves columns relations (forAtLeast v R f least) s o = tt
 
 pub and-tree-holds : (tables : Tables) (f : Condition) → So (isAndTree f) → (e : Environment) → conditionHolds tables f e ≡ all (λ a. atomHolds a e) (leaves f)
 unfolding conditionHolds
@@ -31,6 +32,7 @@ and-tree-holds tables (conditionOr f g) h e = absurd (false≢true h)
 and-tree-holds tables (conditionNot f) h e = absurd (false≢true h)
 and-tree-holds tables (forSome v R f) h e = absurd (false≢true h)
 and-tree-holds tables (forEvery v R f) h e = absurd (false≢true h)
+and-tree-holds tables (forAtLeast v R f least) h e = absurd (false≢true h)
 
 not-or : (a b : Bool) → not (a || b) ≡ (not a && not b)
 not-or true b = refl
@@ -45,6 +47,7 @@ or-tree-fails tables (conditionOr f g) h e = not-or (conditionHolds tables f e) 
 or-tree-fails tables (conditionNot f) h e = absurd (false≢true h)
 or-tree-fails tables (forSome v R f) h e = absurd (false≢true h)
 or-tree-fails tables (forEvery v R f) h e = absurd (false≢true h)
+or-tree-fails tables (forAtLeast v R f least) h e = absurd (false≢true h)
 
 alone-opposite : (v : ℕ) (a : Atom) → aloneOn v (oppositeAtom a) ≡ aloneOn v a
 alone-opposite v (compare u a o (fixed c)) = refl

@@ -10,7 +10,7 @@ use Rattle.relations.specs.Columns.{Attribute}
 use Rattle.relations.specs.Limits.{columnLimit}
 use Rattle.relations.specs.Lists.{All}
 use Rattle.relations.specs.Machine.{run}
-use Rattle.relations.specs.Nodes.{Node, project, join, unite, subtract}
+use Rattle.relations.specs.Nodes.{Node, project, join, unite, subtract, tally}
 use Rattle.relations.specs.Plan.{widthAt, widthOfNode}
 use Rattle.relations.proofs.LegalityLaws.{Inside, LegalFacts}
 use Rattle.calculus.specs.Scope.{Scope, extend, columnsIn, allColumns}
@@ -18,7 +18,7 @@ use Rattle.calculus.specs.ShortRules.{lastNumber}
 use Rattle.calculus.proofs.LegalColumns.{columns-inside}
 use Rattle.calculus.proofs.LegalPlans.{widthsAfter, Legal, widths-append, widths-grow, width-kept-at, legal-then, Fits, RangeFits, LastFits, DivisionFits, one-then-other, end-fits, first-below, last-below, kept-below}
 use Rattle.calculus.proofs.PlanValues.{lastNumber-is}
-use Rattle.calculus.proofs.RuleNodes.{plainAnd, plainOr, plainNot, plainProduct, plainSome, plainEvery, afterRange, plainSides, plainBinding}
+use Rattle.calculus.proofs.RuleNodes.{plainAnd, plainOr, plainNot, plainProduct, plainSome, plainEvery, afterRange, plainSides, plainBinding, plainAtLeast}
 use Rattle.calculus.proofs.ScopeLaws.{columns-extend, columns-length}
 
 module _ (columns : ℕ → ℕ) (relations : ℕ) where
@@ -130,6 +130,21 @@ module _ (columns : ℕ → ℕ) (relations : ℕ) where
     where
       pred-suc : (i : ℕ) → pred (suc i) ≡ i
       pred-suc i = omega arith
+
+  -- the product is wider than P, because the range has a column
+  pub at-least-fits : (least : ℕ) (s : Scope) (v w : ℕ) (T : ℕ → List Node) (U : ℕ → ℕ → List Node) → 1 ≤ w → 1 ≤ least → columnsIn s + w ≤ columnLimit → RangeFits columns relations T w → Fits columns relations (extend s v w) U
+      → Fits columns relations s (plainAtLeast least T U)
+  at-least-fits least s v w T U wide some-rows lim hT hU made n p e l h =
+      let x : List Node = T n in
+      let k : ℕ = n + length x in
+      let z : List Node = U k (suc k) in
+      let xs : List Node = x ++ (join p (pred k) [] ∷ z) in
+      let lens : suc k + length z ≡ n + length xs = omega (arith, length-append x (join p (pred k) [] ∷ z)) in
+      let tops : lastNumber (suc k) z ≡ lastNumber n xs = ap pred lens in
+      let a : Legal columns relations made xs × (widthAt (widthsAfter columns made xs) k ≡ columnsIn s + w) × (widthAt (widthsAfter columns made xs) (lastNumber n xs) ≡ columnsIn s + w) = product-fits s v w T U lim hT hU made n p e l h in
+      let right : widthAt (widthsAfter columns made xs) (lastNumber (suc k) z) ≡ columnsIn s + w = ap (widthAt (widthsAfter columns made xs)) tops ∙ a .2 in
+      let left : widthAt (widthsAfter columns made xs) p ≡ columnsIn s = width-kept-at columns relations made n e xs p l ∙ h in
+      end-fits columns relations made n e xs (tally p (lastNumber (suc k) z) least) (columnsIn s) (a .0) (kept-below columns relations made n e xs p l, subst (λ i. i < length (widthsAfter columns made xs)) (sym tops) (last-below columns relations made n e xs (omega arith)), omega (arith, left, right), some-rows) left
 
   pub over-fits : (s : Scope) (k : ℕ) (T : ℕ → List Node) (O : ℕ → ℕ → ℕ → List Node) → RangeFits columns relations T k → DivisionFits columns relations s k O → Fits columns relations s (afterRange T O)
   over-fits s k T O hT hO made n p e l h =

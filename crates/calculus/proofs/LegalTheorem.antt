@@ -17,7 +17,7 @@ use Rattle.relations.proofs.LegalityLaws.{Inside, LegalFacts}
 use Rattle.relations.proofs.ListLaws.{all-mono, all-flat}
 use Rattle.calculus.specs.Form.{NotInScope, GoodAtom, widthOfRange, scopeOfBindings, alphaScope, GoodRange, GoodBindings, GoodMaybe, GoodCondition}
 use Rattle.calculus.specs.Leaves.{isAndTree, isOrTree, leaves, oppositeAtom, aloneOn, equatesWith, equatesOutside}
-use Rattle.calculus.specs.Question.{Atom, Range, table, alpha, rangeOr, rangeAnd, rangeAndNot, Bindings, noMore, bind, MaybeCondition, noCondition, onCondition, Condition, atom, conditionAnd, conditionOr, conditionNot, forSome, forEvery}
+use Rattle.calculus.specs.Question.{Atom, Range, table, alpha, rangeOr, rangeAnd, rangeAndNot, Bindings, noMore, bind, MaybeCondition, noCondition, onCondition, Condition, atom, conditionAnd, conditionOr, conditionNot, forSome, forEvery, forAtLeast}
 use Rattle.calculus.specs.Scope.{entry, Scope, extend, columnsIn, targetColumns}
 use Rattle.calculus.specs.ShortRules.{shortRule2Fits, shortRule2Nodes, shortRule3Fits, shortRule3Nodes, shortRule4Fits, shortRule4Nodes, shortRule5Fits, shortRule6Fits}
 use Rattle.calculus.specs.Translation.{itself, itsOpposite, divisionBy, translateRange, translateBindings, translateMaybe, translateCondition, translate}
@@ -26,7 +26,7 @@ use Rattle.calculus.proofs.LeafLaws.{good-leaves, good-opposite, good-o
 use Rattle.calculus.proofs.LegalColumns.{target-inside, targets-columns, few-opposite, few}
 use Rattle.calculus.proofs.LegalDivision.{division-fits}
 use Rattle.calculus.proofs.LegalPlans.{Legal, legal-nodes, Fits, RangeFits, LastFits, DivisionFits, end-fits}
-use Rattle.calculus.proofs.LegalRules.{choose-fits, and-fits, or-fits, not-fits, some-fits, every-fits, over-fits, two-fits, bind-fits}
+use Rattle.calculus.proofs.LegalRules.{choose-fits, and-fits, or-fits, not-fits, some-fits, every-fits, over-fits, two-fits, bind-fits, at-least-fits}
 use Rattle.calculus.proofs.LegalShort.{atom-fits, selects-fits, semijoin-legal, antijoin-legal, halves-fit, alpha-fits}
 use Rattle.calculus.proofs.RuleNodes.{plainNot, plainSome, plainEvery, afterRange}
 use Rattle.calculus.proofs.ScopeLaws.{columns-extend, targets-width}
@@ -97,6 +97,7 @@ module _ (columns : ℕ → ℕ) (relations : ℕ) where
       condition-fits (conditionNot f) s o one = choose-fits columns relations s (short && (shortRule3Fits f || shortRule6Fits f)) (λ p n. translateCondition columns short f itsOpposite s p n) (plainNot (λ p n. translateCondition columns short f itself s p n)) (λ i. opposite-fits f s o (and-right short (shortRule3Fits f || shortRule6Fits f) i)) (λ i. not-fits columns relations s (λ p n. translateCondition columns short f itself s p n) (condition-fits f s o one))
       condition-fits (forSome v R f) s o one = some-case-fits s v (widthOfRange columns R) (o .0) (λ n. translateRange columns short R n) (range-fits R (o .1)) f (o .2) short (λ p n. translateCondition columns short f itself (extend s v (widthOfRange columns R)) p n) one (o .3) (condition-fits f (extend s v (widthOfRange columns R)) (o .2) (omega (arith, columns-extend s v (widthOfRange columns R))))
       condition-fits (forEvery v R f) s o one = every-case-fits s v (widthOfRange columns R) (o .0) (λ n. translateRange columns short R n) (range-fits R (o .1)) f (o .2) short (λ p n. translateCondition columns short f itself (extend s v (widthOfRange columns R)) p n) (λ j p n. translateCondition columns short f (divisionBy v j) s p n) one (o .3) (condition-fits f (extend s v (widthOfRange columns R)) (o .2) (omega (arith, columns-extend s v (widthOfRange columns R)))) (λ h. division-by-fits f s v (widthOfRange columns R) (o .0) (o .2) h)
+      condition-fits (forAtLeast v R f least) s o one = at-least-fits columns relations least s v (widthOfRange columns R) (λ n. translateRange columns short R n) (λ p n. translateCondition columns short f itself (extend s v (widthOfRange columns R)) p n) (o .4) (o .5) (o .3) (range-fits R (o .1)) (condition-fits f (extend s v (widthOfRange columns R)) (o .2) (omega (arith, columns-extend s v (widthOfRange columns R))))
 
       -- S3 and S6
       pub opposite-fits : (c : Condition) (s : Scope) → GoodCondition columns relations c s → So (shortRule3Fits c || shortRule6Fits c) → Fits columns relations s (λ p n. translateCondition columns short c itsOpposite s p n)
@@ -106,6 +107,7 @@ module _ (columns : ℕ → ℕ) (relations : ℕ) where
       opposite-fits (conditionNot f) s o h = absurd (false≢true h)
       opposite-fits (forSome v R f) s o h = rule-3-fits s v (widthOfRange columns R) (o .0) (λ n. translateRange columns short R n) (range-fits R (o .1)) f (o .2) (or-only-left (shortRule2Fits v f) h)
       opposite-fits (forEvery v R f) s o h = absurd (false≢true h)
+      opposite-fits (forAtLeast v R f least) s o h = absurd (false≢true h)
 
       -- S5
       pub division-by-fits : (c : Condition) (s : Scope) (y k : ℕ) → NotInScope y s → GoodCondition columns relations c (extend s y k) → So (shortRule5Fits y c) → DivisionFits columns relations s k (λ j p n. translateCondition columns short c (divisionBy y j) s p n)
@@ -121,6 +123,7 @@ module _ (columns : ℕ → ℕ) (relations : ℕ) where
           let counts : So (links && outsides) = and-right kinds (links && outsides) (and-right (isAndTree f) (kinds && (links && outsides)) h) in
           division-fits columns relations s y k z (widthOfRange columns R) new (o .0) (λ n. translateRange columns short R n) (range-fits R (o .1)) cs (good-leaves columns relations f (extend (extend s y k) z (widthOfRange columns R)) (o .2)) (and-left links outsides counts) (and-right links outsides counts)
       division-by-fits (forEvery v R f) s y k new o h = absurd (false≢true h)
+      division-by-fits (forAtLeast z R f least) s y k new o h = absurd (false≢true h)
 
     pub nodes-legal : (question : Range) → GoodRange columns relations question → So (legalNodes columns relations [] (translate columns short question))
     nodes-legal question o = legal-nodes columns relations [] (translate columns short question) (range-fits question o [] 0 refl .1)

@@ -1,19 +1,23 @@
 -- The operations' values, and the laws of them that the rules of translation rest on.
 use mathlib.Core.Path.{_≡_, refl, sym, _∙_, ap, ap₂, subst}
-use mathlib.Core.Bool.{Bool, not, _&&_, _||_, and-or-distrib-left}
+use mathlib.Core.Bool.{Bool, not, _&&_, _||_, cond, So, and-or-distrib-left}
 use mathlib.Core.List.{List, [], _∷_, _++_, map}
 use Prim.Native.Nat.{ℕ, zero, suc}
 use native.Mathlib.Omega.{arith}
+use lib.Dec.{leb}
 use lib.ListN.{length, length-append}
 use lib.Seq.{getD-at, append-snoc}
 use Rattle.relations.specs.Columns.{Attribute, Triple, Pair, pick}
-use Rattle.relations.specs.Lists.{any, filter}
-use Rattle.relations.specs.Operations.{projectCandidates, joinCandidates, semijoinCandidates, antijoinCandidates, divideCandidates, uniteCandidates, intersectCandidates, subtractCandidates}
-use Rattle.relations.specs.Rows.{Row, sameRow}
+use Rattle.relations.specs.Lists.{any, filter, howMany, flat}
+use Rattle.relations.specs.Operations.{projectCandidates, joinCandidates, semijoinCandidates, antijoinCandidates, divideCandidates, uniteCandidates, intersectCandidates, subtractCandidates, tallyCandidates}
+use Rattle.relations.specs.Rows.{Row, sameRow, begins}
 use Rattle.relations.specs.Values.{Rows, member, Ascending, Wide, canonical}
+use Rattle.relations.proofs.CountLaws.{howMany-filter, howMany-product}
+use Rattle.relations.proofs.CountZero.{join-count-zero}
 use Rattle.relations.proofs.ListLaws.{any-append, all-mono, filter-cong, any-cong, any-filter, any-same, any-and-right}
 use Rattle.relations.proofs.OperationLaws.{any-joined}
-use Rattle.relations.proofs.ValueLaws.{all-members, extensional, ascending-canonical, member-canonical, ascending-filter, member-filter, member-map, any-canonical, any-at, canonical-filter}
+use Rattle.relations.proofs.OrderLaws.{join-in-order}
+use Rattle.relations.proofs.ValueLaws.{all-members, extensional, ascending-canonical, member-canonical, ascending-filter, member-filter, member-map, any-canonical, any-at, canonical-filter, member-has}
 use Rattle.calculus.specs.Scope.{columnsFrom, allColumns}
 
 abbrev pub projected : List Attribute → Rows → Rows
@@ -39,6 +43,9 @@ intersected left right = canonical (intersectCandidates left right)
 
 abbrev pub subtracted : Rows → Rows → Rows
 subtracted left right = canonical (subtractCandidates left right)
+
+abbrev pub tallied : ℕ → Rows → Rows → Rows
+tallied least left right = canonical (tallyCandidates least left right)
 
 -- any, over a product
 pub any-product : (q : Row → Bool) (L R : Rows) → any q (joined [] L R) ≡ any (λ l. any (λ r. q (l ++ r)) R) L
@@ -77,3 +84,15 @@ projected-join w F P R a h = extensional (projected (allColumns w) (filter F (jo
       where
         each : (l : Row) → length l ≡ w → any (λ r. F (l ++ r) && sameRow t (pick (allColumns w) (l ++ r))) R ≡ (G l && sameRow t l)
         each l e = any-same (λ r. F (l ++ r) && sameRow t (pick (allColumns w) (l ++ r))) (λ r. F (l ++ r) && sameRow t l) (λ r. ap (λ z. F (l ++ r) && sameRow t z) (pick-left w l r e)) R ∙ any-and-right (λ r. F (l ++ r)) (sameRow t l) R
+
+-- at least so many: of the product's rows that pass, those that begin with a row of P are the range's rows that pass beside it
+pub tallied-join : (least w : ℕ) (F : Row → Bool) (P R : Rows) → Ascending P → Wide w P → Ascending R → tallied least P (filter F (joined [] P R)) ≡ filter (λ p. leb least (howMany (λ r. F (p ++ r)) R)) P
+tallied-join least w F P R a h b = canonical-filter (λ t. leb least (howMany (begins t) (filter F (joined [] P R)))) P a ∙ filter-cong (λ t. leb least (howMany (begins t) (filter F (joined [] P R)))) (λ p. leb least (howMany (λ r. F (p ++ r)) R)) P (all-members (λ t. leb least (howMany (begins t) (filter F (joined [] P R))) ≡ leb least (howMany (λ r. F (t ++ r)) R)) P (λ t m. ap (leb least) (each t m)))
+  where
+    in-order : joined [] P R ≡ flat (λ p. map (λ r. p ++ r) R) P
+    in-order = join-in-order w [] P R a h b ∙ join-count-zero P R
+
+    each : (t : Row) → So (member t P) → howMany (begins t) (filter F (joined [] P R)) ≡ howMany (λ r. F (t ++ r)) R
+    each t m =
+        let wide : Wide (length t) P = subst (λ u. Wide u P) (sym (member-has (λ row. length row ≡ w) t P h m)) h in
+        howMany-filter F (begins t) (joined [] P R) ∙ (ap (howMany (λ q. F q && begins t q)) in-order ∙ (howMany-product F R t P a wide ∙ ap (λ there. cond there (howMany (λ r. F (t ++ r)) R) 0) m))

@@ -4,21 +4,22 @@ use mathlib.Core.Bool.{Bool, not, _&&_, _||_}
 use mathlib.Core.List.{List, [], _∷_, _++_}
 use Prim.Native.Nat.{ℕ, suc, _+_, _<_, pred}
 use native.Mathlib.Omega.{arith}
+use lib.Dec.{leb}
 use lib.ListN.{length, length-append}
-use Rattle.relations.specs.Lists.{any, all, filter}
-use Rattle.relations.specs.Nodes.{Node, project, join, unite, subtract}
+use Rattle.relations.specs.Lists.{any, all, filter, howMany}
+use Rattle.relations.specs.Nodes.{Node, project, join, unite, subtract, tally}
 use Rattle.relations.specs.Operations.{joinCandidates}
 use Rattle.relations.specs.Plan.{valueAt}
 use Rattle.relations.specs.Rows.{Row}
-use Rattle.relations.specs.Values.{Rows, Tables, Wide}
+use Rattle.relations.specs.Values.{Rows, Tables, Wide, Ascending}
 use Rattle.relations.proofs.ListLaws.{filter-and, filter-same, all-not-any}
 use Rattle.relations.proofs.ValueLaws.{ascending-canonical}
 use Rattle.calculus.specs.Scope.{Scope, extend, columnsIn, allColumns}
 use Rattle.calculus.specs.ShortRules.{lastNumber}
-use Rattle.calculus.proofs.OperationValues.{projected, joined, united, subtracted, united-filter, subtracted-filter, projected-join}
+use Rattle.calculus.proofs.OperationValues.{projected, joined, united, subtracted, united-filter, subtracted-filter, projected-join, tallied, tallied-join}
 use Rattle.calculus.proofs.PlanValues.{after, lastValue, lastNumber-is, after-append, after-cons, last-after-one, last-after-end, value-at-last, after-grows, value-kept, value-here}
 use Rattle.calculus.proofs.RangeValues.{ValueOver, over-filter, over-join}
-use Rattle.calculus.proofs.RuleNodes.{plainAnd, plainOr, plainNot, plainProduct, plainSome, plainEvery}
+use Rattle.calculus.proofs.RuleNodes.{plainAnd, plainOr, plainNot, plainProduct, plainSome, plainEvery, plainAtLeast}
 
 module _ (tables : Tables) where
   -- T p n, written after n nodes, makes the rows of node p that meet F
@@ -105,3 +106,14 @@ module _ (tables : Tables) where
       let pt : p < suc t = omega (arith, lastNumber-is (suc k) z (omega arith)) in
       let pp : valueAt w5 p ≡ P = value-kept tables w4 (suc (suc t)) e4 (b ∷ []) p (omega arith) ∙ (value-kept tables w3 (suc t) e3 (a ∷ []) p (omega arith) ∙ value-kept tables made n e xs p l) in
       ap lastValue (after-append tables made xs (a ∷ b ∷ c ∷ []) ∙ (after-cons tables w3 a (b ∷ c ∷ []) ∙ after-cons tables w4 b (c ∷ []))) ∙ (last-after-one tables w5 c ∙ (ap₂ subtracted pp hb ∙ (subtracted-filter (λ q. any (λ r. not (F (q ++ r))) R) P (g .0) ∙ filter-same (λ q. not (any (λ r. not (F (q ++ r))) R)) (λ q. all (λ r. F (q ++ r)) R) (λ q. all-not-any (λ r. F (q ++ r)) R) P)))
+
+  pub at-least-rule : (least : ℕ) (s : Scope) (v w : ℕ) (T : ℕ → List Node) (R : Rows) (U : ℕ → ℕ → List Node) (F : Row → Bool) → Makes T R → Ascending R → Wide w R → Sound (extend s v w) U F
+      → Sound s (plainAtLeast least T U) (λ p. leb least (howMany (λ r. F (p ++ r)) R))
+  at-least-rule least s v w T R U F hT ascending wide hU made n p e l g =
+      let x : List Node = T n in
+      let k : ℕ = n + length x in
+      let z : List Node = U k (suc k) in
+      let xs : List Node = x ++ (join p (pred k) [] ∷ z) in
+      let tops : lastNumber (suc k) z ≡ lastNumber n xs = omega (arith, length-append x (join p (pred k) [] ∷ z), lastNumber-is n xs (omega (arith, length-append x (join p (pred k) [] ∷ z))), lastNumber-is (suc k) z (omega arith)) in
+      let right : valueAt (after tables made xs) (lastNumber (suc k) z) ≡ filter F (joined [] (valueAt made p) R) = ap (valueAt (after tables made xs)) tops ∙ (value-at-last tables made n e xs ∙ product s v w T R U F hT wide hU made n p e l g .0) in
+      last-after-end tables made xs (tally p (lastNumber (suc k) z) least) ∙ (ap₂ (tallied least) (value-kept tables made n e xs p l) right ∙ tallied-join least (columnsIn s) F (valueAt made p) R (g .0) (g .1) ascending)

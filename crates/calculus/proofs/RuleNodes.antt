@@ -4,7 +4,7 @@ use mathlib.Core.List.{List, [], _∷_, _++_}
 use Prim.Native.Nat.{ℕ, suc, _+_, pred}
 use lib.ListN.{length}
 use Rattle.relations.specs.Columns.{Attribute}
-use Rattle.relations.specs.Nodes.{Node, project, join, unite, subtract}
+use Rattle.relations.specs.Nodes.{Node, project, join, unite, subtract, tally}
 use Rattle.calculus.specs.Scope.{Scope, columnsIn, allColumns}
 use Rattle.calculus.specs.ShortRules.{lastNumber, projectNodes}
 
@@ -33,6 +33,9 @@ plainSome s T U p n = plainProduct T U p n ++ (project (plainLast T U n) (allCol
 
 abbrev pub plainEvery : Scope → (ℕ → List Node) → (ℕ → ℕ → List Node) → ℕ → ℕ → List Node
 plainEvery s T U p n = plainProduct T U p n ++ (subtract (n + length (T n)) (plainLast T U n) ∷ project (suc (plainLast T U n)) (allColumns (columnsIn s)) ∷ subtract p (suc (suc (plainLast T U n))) ∷ [])
+
+abbrev pub plainAtLeast : ℕ → (ℕ → List Node) → (ℕ → ℕ → List Node) → ℕ → ℕ → List Node
+plainAtLeast least T U p n = plainProduct T U p n ++ (tally p (plainLast T U n) least ∷ [])
 
 -- S5 after y's range T; O writes the division
 abbrev pub afterRange : (ℕ → List Node) → (ℕ → ℕ → ℕ → List Node) → ℕ → ℕ → List Node

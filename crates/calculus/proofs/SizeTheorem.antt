@@ -7,10 +7,10 @@ use native.Mathlib.Omega.{arith}
 use lib.ListN.{length, length-append, length-map}
 use Rattle.relations.specs.Columns.{Attribute}
 use Rattle.relations.specs.Lists.{filter, flat}
-use Rattle.relations.specs.Nodes.{Node, project, join, semijoin, antijoin, divide, unite, intersect, subtract}
+use Rattle.relations.specs.Nodes.{Node, project, join, semijoin, antijoin, divide, unite, intersect, subtract, tally}
 use Rattle.calculus.specs.Form.{widthOfRange, alphaScope}
 use Rattle.calculus.specs.Leaves.{leaves, oppositeAtom, aloneOn, comparesWithOther, equatesWith, equatesOutside, ownAttribute}
-use Rattle.calculus.specs.Question.{Atom, Range, table, alpha, rangeOr, rangeAnd, rangeAndNot, Bindings, noMore, bind, MaybeCondition, noCondition, onCondition, Condition, atom, conditionAnd, conditionOr, conditionNot, forSome, forEvery, rangeNodes, bindingNodes, maybeNodes, conditionNodes}
+use Rattle.calculus.specs.Question.{Atom, Range, table, alpha, rangeOr, rangeAnd, rangeAndNot, Bindings, noMore, bind, MaybeCondition, noCondition, onCondition, Condition, atom, conditionAnd, conditionOr, conditionNot, forSome, forEvery, rangeNodes, bindingNodes, maybeNodes, conditionNodes, forAtLeast}
 use Rattle.calculus.specs.Scope.{entry, Scope, extend, columnsIn, allColumns, targetColumns}
 use Rattle.calculus.specs.ShortRules.{lastNumber, selectNodes, shortRule1Fits, projectNodes, shortRule2Fits, tripleOf, shortRule3Fits, shortRule4Fits, shortRule5Fits, outsideTriples, divisionPairs, shortRule6Fits}
 use Rattle.calculus.specs.Translation.{Wanted, itself, itsOpposite, divisionBy, translateRange, translateBindings, translateMaybe, translateCondition}
@@ -42,6 +42,7 @@ leaves-size (conditionOr f g) = omega (arith, length-append (leaves f) (leaves g
 leaves-size (conditionNot f) = omega arith
 leaves-size (forSome v R f) = omega arith
 leaves-size (forEvery v R f) = omega arith
+leaves-size (forAtLeast v R f least) = omega arith
 
 alone-size : (s : Scope) (v : ℕ) (f : Condition) (p n : ℕ) → length (selectNodes s (filter (aloneOn v) (leaves f)) p n) ≤ conditionNodes f
 alone-size s v f p n = omega (arith, selects-size (filter (aloneOn v) (leaves f)) s p n, filter-size (aloneOn v) (leaves f), leaves-size f)
@@ -149,3 +150,8 @@ module _ (columns : ℕ → ℕ) (short : Bool) where
         let o : List Node = translateCondition columns short f (divisionBy v (pred l)) s p l in
         let u : List Node = subtract l i ∷ project (suc i) (allColumns (columnsIn s)) ∷ subtract p (suc (suc i)) ∷ [] in
         choose-size (short && shortRule4Fits v f) ((x ++ y) ++ (t ∷ [])) (elim (short && shortRule5Fits v f) [ true ↦ x ++ o | false ↦ (x ++ (join p (pred l) [] ∷ z)) ++ u ]) (4 * (rangeNodes R + conditionNodes f + 1) + extra k) (omega (arith, length-three x y (t ∷ []), opposite-size (entry v (widthOfRange columns R) ∷ []) v f (pred l) l, range-size R n)) (choose-size (short && shortRule5Fits v f) (x ++ o) ((x ++ (join p (pred l) [] ∷ z)) ++ u) (4 * (rangeNodes R + conditionNodes f + 1) + extra k) (omega (arith, length-append x o, range-size R n, condition-size f (divisionBy v (pred l)) s p l)) (omega (arith, length-three x (join p (pred l) [] ∷ z) u, range-size R n, condition-size f itself (extend s v (widthOfRange columns R)) l (suc l))))
+    condition-size (forAtLeast v R f least) k s p n =
+        let x : List Node = translateRange columns short R n in
+        let l : ℕ = n + length x in
+        let z : List Node = translateCondition columns short f itself (extend s v (widthOfRange columns R)) l (suc l) in
+        omega (arith, length-three x (join p (pred l) [] ∷ z) (tally p (lastNumber (suc l) z) least ∷ []), range-size R n, condition-size f itself (extend s v (widthOfRange columns R)) l (suc l))

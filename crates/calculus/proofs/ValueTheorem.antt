@@ -16,13 +16,13 @@ use Rattle.calculus.specs.Claims.{TablesOf}
 use Rattle.calculus.specs.Form.{widthOfRange, alphaScope, GoodRange, GoodBindings, GoodMaybe, GoodCondition}
 use Rattle.calculus.specs.Leaves.{oppositeAtom}
 use Rattle.calculus.specs.Meaning.{nothingBound, bound, atomHolds, rangeRows, choices, maybeHolds, conditionHolds}
-use Rattle.calculus.specs.Question.{Target, Range, table, alpha, rangeOr, rangeAnd, rangeAndNot, Bindings, noMore, bind, MaybeCondition, noCondition, onCondition, Condition, atom, conditionAnd, conditionOr, conditionNot, forSome, forEvery}
+use Rattle.calculus.specs.Question.{Target, Range, table, alpha, rangeOr, rangeAnd, rangeAndNot, Bindings, noMore, bind, MaybeCondition, noCondition, onCondition, Condition, atom, conditionAnd, conditionOr, conditionNot, forSome, forEvery, forAtLeast}
 use Rattle.calculus.specs.Scope.{entry, Scope, extend, targetColumns, environmentOf}
 use Rattle.calculus.specs.ShortRules.{shortRule2Fits, shortRule3Fits, shortRule5Fits, shortRule6Fits, shortRule6Nodes}
 use Rattle.calculus.specs.Translation.{itself, itsOpposite, divisionBy, translateRange, translateBindings, translateMaybe, translateCondition}
 use Rattle.calculus.proofs.AtomLaws.{oppositeAtom-holds}
 use Rattle.calculus.proofs.AtomRules.{atom-rule}
-use Rattle.calculus.proofs.ConditionRules.{sound-cong, choose, some-case, not-some-case, every-case, division-case}
+use Rattle.calculus.proofs.ConditionRules.{sound-cong, choose, some-case, not-some-case, every-case, division-case, at-least-case}
 use Rattle.calculus.proofs.DivisionRule.{SoundOver}
 use Rattle.calculus.proofs.LeafLaws.{good-opposite}
 use Rattle.calculus.proofs.OperationValues.{united, intersected, subtracted}
@@ -68,6 +68,7 @@ module _ (tables : Tables) (columns : ℕ → ℕ) (relations : ℕ) (stored : T
     condition-value (conditionNot f) s o = choose tables s (short && (shortRule3Fits f || shortRule6Fits f)) (λ p n. translateCondition columns short f itsOpposite s p n) (plainNot (λ p n. translateCondition columns short f itself s p n)) (λ r. not (conditionHolds tables f (environmentOf s r))) (λ i. opposite-value f s o (and-right short (shortRule3Fits f || shortRule6Fits f) i)) (λ i. not-rule tables s (λ p n. translateCondition columns short f itself s p n) (λ r. conditionHolds tables f (environmentOf s r)) (condition-value f s o))
     condition-value (forSome v R f) s o = some-case tables columns relations short s v (widthOfRange columns R) (o .0) (λ n. translateRange columns short R n) (rangeRows tables R) (range-value R (o .1)) (range-good tables columns relations stored R (o .1)) f (o .2) (λ p n. translateCondition columns short f itself (extend s v (widthOfRange columns R)) p n) (condition-value f (extend s v (widthOfRange columns R)) (o .2))
     condition-value (forEvery v R f) s o = every-case tables columns relations short s v (widthOfRange columns R) (o .0) (λ n. translateRange columns short R n) (rangeRows tables R) (range-value R (o .1)) (range-good tables columns relations stored R (o .1)) f (o .2) (λ p n. translateCondition columns short f itself (extend s v (widthOfRange columns R)) p n) (λ j p n. translateCondition columns short f (divisionBy v j) s p n) (condition-value f (extend s v (widthOfRange columns R)) (o .2)) (λ i. division-value f s v (widthOfRange columns R) (o .2) i)
+    condition-value (forAtLeast v R f least) s o = at-least-case tables columns relations short s v (widthOfRange columns R) (o .0) (λ n. translateRange columns short R n) (rangeRows tables R) (range-value R (o .1)) (range-good tables columns relations stored R (o .1)) f (o .2) least (λ p n. translateCondition columns short f itself (extend s v (widthOfRange columns R)) p n) (condition-value f (extend s v (widthOfRange columns R)) (o .2))
 
     -- S3 and S6
     pub opposite-value : (c : Condition) (s : Scope) → GoodCondition columns relations c s → So (shortRule3Fits c || shortRule6Fits c) → Sound tables s (λ p n. translateCondition columns short c itsOpposite s p n) (λ r. not (conditionHolds tables c (environmentOf s r)))
@@ -77,6 +78,7 @@ module _ (tables : Tables) (columns : ℕ → ℕ) (relations : ℕ) (stored : T
     opposite-value (conditionNot f) s o h = absurd (false≢true h)
     opposite-value (forSome v R f) s o h = not-some-case tables columns relations short s v (widthOfRange columns R) (o .0) (λ n. translateRange columns short R n) (rangeRows tables R) (range-value R (o .1)) (range-good tables columns relations stored R (o .1)) f (o .2) (or-only-left (shortRule2Fits v f) h)
     opposite-value (forEvery v R f) s o h = absurd (false≢true h)
+    opposite-value (forAtLeast v R f least) s o h = absurd (false≢true h)
 
     -- S5
     pub division-value : (c : Condition) (s : Scope) (y w : ℕ) → GoodCondition columns relations c (extend s y w) → So (shortRule5Fits y c) → SoundOver tables s w (λ j p n. translateCondition columns short c (divisionBy y j) s p n) (λ r t. conditionHolds tables c (bound (environmentOf s r) y t))
@@ -86,3 +88,4 @@ module _ (tables : Tables) (columns : ℕ → ℕ) (relations : ℕ) (stored : T
     division-value (conditionNot f) s y w o h = absurd (false≢true h)
     division-value (forSome z R f) s y w o h = division-case tables columns relations s y w z (widthOfRange columns R) (λ n. translateRange columns short R n) (rangeRows tables R) f (o .0) (range-value R (o .1)) (range-good tables columns relations stored R (o .1)) (o .2) h
     division-value (forEvery z R f) s y w o h = absurd (false≢true h)
+    division-value (forAtLeast z R f least) s y w o h = absurd (false≢true h)

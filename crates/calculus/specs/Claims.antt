@@ -10,8 +10,8 @@ use Rattle.relations.specs.Values.{Rows, Tables, Ascending, Wide}
 use Rattle.relations.specs.Machine.{run, lastOr}
 use Rattle.relations.specs.Plan.{valueAt, valueOfNode, answer, heavy}
 use Rattle.relations.specs.Legality.{legalPlan}
-use Rattle.calculus.specs.Question.{Range, Condition, rangeNodes}
-use Rattle.calculus.specs.Meaning.{rangeRows, conditionHolds}
+use Rattle.calculus.specs.Question.{Range, Condition, rangeNodes, forSome, forAtLeast}
+use Rattle.calculus.specs.Meaning.{rangeRows, conditionHolds, Environment}
 use Rattle.calculus.specs.Scope.{Scope, columnsIn, environmentOf}
 use Rattle.calculus.specs.Translation.{itself, translateCondition, translate}
 
@@ -31,3 +31,9 @@ pub record TranslationRight (columns : ℕ → ℕ) (relations : ℕ) (question 
 pub record KeepsExactly (columns : ℕ → ℕ) (short : Bool) (f : Condition) (s : Scope) : Type 0 where
   pub kept : (tables : Tables) → TablesOf columns tables → (made : List Rows) (p : ℕ) → p < length made → Ascending (valueAt made p) → Wide (columnsIn s) (valueAt made p)
       → lastOr [] (run (valueOfNode tables) made (translateCondition columns short f itself s p (length made))) ≡ filter (λ row. conditionHolds tables f (environmentOf s row)) (valueAt made p)
+
+-- document 02, "At least so many": with k = 1 it selects what "some" selects, in the question's meaning and in both plans
+pub record OneSelectsAsSome (columns : ℕ → ℕ) (variable : ℕ) (range : Range) (f : Condition) (s : Scope) : Type 0 where
+  pub sameMeaning : (tables : Tables) (e : Environment) → conditionHolds tables (forAtLeast variable range f 1) e ≡ conditionHolds tables (forSome variable range f) e
+  pub samePlans : (short : Bool) (tables : Tables) → TablesOf columns tables → (made : List Rows) (p : ℕ) → p < length made → Ascending (valueAt made p) → Wide (columnsIn s) (valueAt made p)
+      → lastOr [] (run (valueOfNode tables) made (translateCondition columns short (forAtLeast variable range f 1) itself s p (length made))) ≡ lastOr [] (run (valueOfNode tables) made (translateCondition columns short (forSome variable range f) itself s p (length made)))

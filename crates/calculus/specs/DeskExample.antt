@@ -1,14 +1,13 @@
 -- The question of document 01's bundle as a tree, and its tables: who was there on every ban day?
 use mathlib.Core.Bool.{Bool}
-use mathlib.Core.List.{List, [], _∷_}
+use mathlib.Core.List.{[], _∷_}
 use Prim.Native.Nat.{ℕ}
 use lib.ListN.{getD, length}
 use Rattle.relations.specs.Values.{Rows, Tables}
 use Rattle.relations.specs.Comparison.{equal}
 use Rattle.relations.specs.Columns.{attribute}
-use Rattle.relations.specs.Nodes.{Node}
 use Rattle.relations.specs.Plan.{answer, heavy, room}
-use Rattle.calculus.specs.Question.{ofVariable, compare, oneAttribute, Range, table, alpha, noMore, onCondition, atom, conditionAnd, forSome, forEvery}
+use Rattle.calculus.specs.Question.{ofVariable, compare, oneAttribute, Range, table, alpha, noMore, onCondition, atom, conditionAnd, forSome, forEvery, forAtLeast}
 use Rattle.calculus.specs.Translation.{translate}
 
 abbrev pub deskColumns : ℕ → ℕ
@@ -42,3 +41,12 @@ abbrev pub outcome : Bool → Rows → Outcome
 outcome short days =
     let plan = translate deskColumns short deskQuestion in
     record { nodes = length plan; heavyOnes = heavy plan; words = room deskColumns (deskTables days) plan; rows = answer (deskTables days) plan }
+
+-- document 02, "At least so many": (u[1]): relation 2 (u): at least so many w of relation 0 (w[1] = u[1])
+abbrev pub countQuestion : ℕ → Range
+countQuestion least = alpha (oneAttribute 20 (attribute 1) ∷ []) 20 (table 2) noMore (onCondition (forAtLeast 22 (table 0) (atom (compare 22 (attribute 1) equal (ofVariable 20 (attribute 1)))) least))
+
+abbrev pub countOutcome : Bool → ℕ → Outcome
+countOutcome short least =
+    let plan = translate deskColumns short (countQuestion least) in
+    record { nodes = length plan; heavyOnes = heavy plan; words = room deskColumns (deskTables banDays) plan; rows = answer (deskTables banDays) plan }

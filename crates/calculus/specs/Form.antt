@@ -1,14 +1,14 @@
 -- Widths, and questions of good form: what refusals 4, 5 and 6 leave. Document 01, "The question" and "Refusal numbers".
 use mathlib.Core.Path.{_≡_}
-use mathlib.Core.Bool.{Bool, false}
-use mathlib.Core.List.{List, [], _∷_, _++_}
+use mathlib.Core.Bool.{false}
+use mathlib.Core.List.{List, [], _∷_}
 use Prim.Native.Nat.{ℕ, _+_, _≤_, _<_}
 use lib.Dec.{eqb}
 use lib.ListN.{length}
 use Rattle.relations.specs.Limits.{columnLimit}
 use Rattle.relations.specs.Lists.{All}
-use Rattle.calculus.specs.Question.{Operand, fixed, ofVariable, Atom, compare, Target, wholeRow, oneAttribute, Range, table, alpha, rangeOr, rangeAnd, rangeAndNot, Bindings, noMore, bind, MaybeCondition, noCondition, onCondition, Condition, atom, conditionAnd, conditionOr, conditionNot, forSome, forEvery}
-use Rattle.calculus.specs.Scope.{ScopeEntry, entry, Scope, extend, columnsIn, widthIn}
+use Rattle.calculus.specs.Question.{fixed, ofVariable, Atom, compare, Target, wholeRow, oneAttribute, Range, table, alpha, rangeOr, rangeAnd, rangeAndNot, Bindings, noMore, bind, MaybeCondition, noCondition, onCondition, Condition, atom, conditionAnd, conditionOr, conditionNot, forSome, forEvery, forAtLeast}
+use Rattle.calculus.specs.Scope.{entry, Scope, extend, columnsIn, widthIn}
 
 -- refusal 5: bound while in scope
 abbrev pub NotInScope : ℕ → Scope → Type 0
@@ -59,7 +59,7 @@ module _ (columns : ℕ → ℕ) where
   -- A table: not an "unknown relation" (4). A range operation: its sides are good, and they don't "differ in width" (6).
   -- An alpha: its first range is good; so are its other bindings, along the chain; so are its condition, if it has one, and each of its targets, in the
   -- scope of all bindings; then no "columns in scope" over 32 (6), at least one target, and no "alpha's width" over 32 (6).
-  -- A binding, a "some" and an "every": its variable is not "bound while in scope" (5); its range is good; so is what follows, with the variable in
+  -- A binding, a "some", an "every" and an "at least": its variable is not "bound while in scope" (5); its range is good; so is what follows, with the variable in
   -- scope; no "columns in scope" over 32 (6). A target and an atom: no "variable not in scope" (5), no "attribute beyond its variable" (6).
   module _ (relations : ℕ) where
     unfoldable mutual
@@ -86,3 +86,5 @@ module _ (columns : ℕ → ℕ) where
       GoodCondition (conditionNot f) s = GoodCondition f s
       GoodCondition (forSome variable range f) s = NotInScope variable s × GoodRange range × GoodCondition f (extend s variable (widthOfRange range)) × (columnsIn s + widthOfRange range ≤ columnLimit)
       GoodCondition (forEvery variable range f) s = NotInScope variable s × GoodRange range × GoodCondition f (extend s variable (widthOfRange range)) × (columnsIn s + widthOfRange range ≤ columnLimit)
+      -- besides: every range has a column, so that the product is wider than P (refusal 9); at least one row is asked for (refusal 2)
+      GoodCondition (forAtLeast variable range f least) s = NotInScope variable s × GoodRange range × GoodCondition f (extend s variable (widthOfRange range)) × (columnsIn s + widthOfRange range ≤ columnLimit) × (1 ≤ widthOfRange range) × (1 ≤ least)

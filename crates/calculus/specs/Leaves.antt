@@ -5,7 +5,7 @@ use Prim.Native.Nat.{ℕ}
 use lib.Dec.{eqb}
 use Rattle.relations.specs.Comparison.{Operator, equal, notEqual, less, atMost, greater, atLeast, opposite}
 use Rattle.relations.specs.Columns.{Attribute, attribute}
-use Rattle.calculus.specs.Question.{Operand, fixed, ofVariable, Atom, compare, Condition, atom, conditionAnd, conditionOr, conditionNot, forSome, forEvery}
+use Rattle.calculus.specs.Question.{Operand, fixed, ofVariable, Atom, compare, Condition, atom, conditionAnd, conditionOr, conditionNot, forSome, forEvery, forAtLeast}
 
 -- "A lone atom is a tree."
 abbrev pub isAndTree : Condition → Bool
@@ -15,6 +15,7 @@ isAndTree (conditionOr f g) = false
 isAndTree (conditionNot f) = false
 isAndTree (forSome variable range f) = false
 isAndTree (forEvery variable range f) = false
+isAndTree (forAtLeast variable range f least) = false
 
 abbrev pub isOrTree : Condition → Bool
 isOrTree (atom a) = true
@@ -23,6 +24,7 @@ isOrTree (conditionOr f g) = isOrTree f && isOrTree g
 isOrTree (conditionNot f) = false
 isOrTree (forSome variable range f) = false
 isOrTree (forEvery variable range f) = false
+isOrTree (forAtLeast variable range f least) = false
 
 -- "Leaves are taken left to right."
 abbrev pub leaves : Condition → List Atom
@@ -32,6 +34,7 @@ leaves (conditionOr f g) = leaves f ++ leaves g
 leaves (conditionNot f) = []
 leaves (forSome variable range f) = []
 leaves (forEvery variable range f) = []
+leaves (forAtLeast variable range f least) = []
 
 -- the atom with its operator turned to the opposite
 abbrev pub oppositeAtom : Atom → Atom

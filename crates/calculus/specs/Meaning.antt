@@ -2,13 +2,13 @@
 use mathlib.Core.Bool.{Bool, true, not, _&&_, _||_, cond}
 use mathlib.Core.List.{List, [], _∷_, _++_, map}
 use Prim.Native.Nat.{ℕ}
-use lib.Dec.{eqb}
-use Rattle.relations.specs.Lists.{any, all, filter, flat}
+use lib.Dec.{leb, eqb}
+use Rattle.relations.specs.Lists.{any, all, filter, flat, howMany}
 use Rattle.relations.specs.Rows.{Row}
 use Rattle.relations.specs.Values.{Rows, Tables, member, canonical}
 use Rattle.relations.specs.Comparison.{holds}
 use Rattle.relations.specs.Columns.{column}
-use Rattle.calculus.specs.Question.{Operand, fixed, ofVariable, Atom, compare, Target, wholeRow, oneAttribute, Range, table, alpha, rangeOr, rangeAnd, rangeAndNot, Bindings, noMore, bind, MaybeCondition, noCondition, onCondition, Condition, atom, conditionAnd, conditionOr, conditionNot, forSome, forEvery}
+use Rattle.calculus.specs.Question.{Operand, fixed, ofVariable, Atom, compare, Target, wholeRow, oneAttribute, Range, table, alpha, rangeOr, rangeAnd, rangeAndNot, Bindings, noMore, bind, MaybeCondition, noCondition, onCondition, Condition, atom, conditionAnd, conditionOr, conditionNot, forSome, forEvery, forAtLeast}
 
 -- the row of each variable
 abbrev pub Environment : Type 0
@@ -64,3 +64,5 @@ module _ (tables : Tables) where
     conditionHolds (conditionNot f) e = not (conditionHolds f e)
     conditionHolds (forSome variable range f) e = any (λ row. conditionHolds f (bound e variable row)) (rangeRows range)
     conditionHolds (forEvery variable range f) e = all (λ row. conditionHolds f (bound e variable row)) (rangeRows range)
+    -- "at least k different rows of the range meet the condition": a range's rows are listed once each
+    conditionHolds (forAtLeast variable range f least) e = leb least (howMany (λ row. conditionHolds f (bound e variable row)) (rangeRows range))

@@ -1,12 +1,12 @@
 -- The eight questions of document 000, section 4.1, as trees, and small tables to ask them of.
 -- Schema: emp (name, salary, manager, shop), sales (shop, product, quantity), supply (company, shop, product, quantity), class (product, type), loc (shop, floor).
-use mathlib.Core.List.{List, [], _∷_}
+use mathlib.Core.List.{[], _∷_}
 use Prim.Native.Nat.{ℕ}
 use lib.ListN.{getD}
 use Rattle.relations.specs.Values.{Rows, Tables}
 use Rattle.relations.specs.Comparison.{Operator, equal, notEqual, less}
 use Rattle.relations.specs.Columns.{attribute, constant}
-use Rattle.calculus.specs.Question.{fixed, ofVariable, compare, wholeRow, oneAttribute, Range, table, alpha, noMore, noCondition, onCondition, Condition, atom, conditionAnd, conditionOr, forSome, forEvery}
+use Rattle.calculus.specs.Question.{fixed, ofVariable, compare, wholeRow, oneAttribute, Range, table, alpha, noMore, onCondition, Condition, atom, conditionAnd, conditionOr, forSome, forEvery}
 
 abbrev pub paperColumns : ℕ → ℕ
 paperColumns relation = getD (4 ∷ 3 ∷ 4 ∷ 2 ∷ 2 ∷ []) relation 0

@@ -1,6 +1,6 @@
 -- The question as a tree. Document 01, "The question", the table of kinds; the comments give each kind's number.
 use mathlib.Core.List.{List}
-use Prim.Native.Nat.{ℕ, suc, _+_}
+use Prim.Native.Nat.{ℕ, _+_}
 use lib.ListN.{length}
 use Rattle.relations.specs.Comparison.{Operator}
 use Rattle.relations.specs.Columns.{Attribute, Constant}
@@ -44,6 +44,8 @@ mutual
     conditionNot : Condition → Condition
     -- 13, 14: a variable, its range, a condition
     forSome forEvery : ℕ → Range → Condition → Condition
+    -- 16: a variable, its range, a condition, how many rows at least
+    forAtLeast : ℕ → Range → Condition → ℕ → Condition
 
 -- the nodes of the question's table that a tree stands for, those of targets and bindings included
 unfoldable mutual
@@ -69,3 +71,4 @@ unfoldable mutual
   conditionNodes (conditionNot f) = conditionNodes f + 1
   conditionNodes (forSome variable range f) = rangeNodes range + 1 + conditionNodes f
   conditionNodes (forEvery variable range f) = rangeNodes range + conditionNodes f + 1
+  conditionNodes (forAtLeast variable range f least) = rangeNodes range + 1 + conditionNodes f

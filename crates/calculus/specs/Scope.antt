@@ -1,5 +1,5 @@
 -- Scopes: the variables whose rows stand side by side in P's columns, and where each attribute stands.
-use mathlib.Core.Bool.{Bool, cond}
+use mathlib.Core.Bool.{cond}
 use mathlib.Core.List.{List, [], _∷_, _++_}
 use Prim.Native.Nat.{ℕ, zero, suc, _+_}
 use lib.Dec.{eqb}

@@ -11,8 +11,8 @@ use Rattle.relations.specs.Comparison.{equal, turned}
 use Rattle.relations.specs.Columns.{Attribute, attribute, Triple, Pair}
 use Rattle.relations.specs.Nodes.{Node, project, selectConstant, selectAttribute, semijoin, antijoin, divide, unite}
 use Rattle.relations.specs.Legality.{between}
-use Rattle.calculus.specs.Question.{Operand, fixed, ofVariable, Atom, compare, Condition, atom, conditionAnd, conditionOr, conditionNot, forSome, forEvery}
-use Rattle.calculus.specs.Scope.{ScopeEntry, entry, Scope, columnOf, allColumns}
+use Rattle.calculus.specs.Question.{fixed, ofVariable, Atom, compare, Condition, atom, conditionAnd, conditionOr, conditionNot, forSome, forEvery, forAtLeast}
+use Rattle.calculus.specs.Scope.{entry, Scope, columnOf, allColumns}
 use Rattle.calculus.specs.Leaves.{isAndTree, isOrTree, leaves, oppositeAtom, aloneOn, comparesWithOther, equatesWith, equatesOutside, ownAttribute, otherVariable, otherAttribute}
 
 -- the number of the last of the nodes, written after n others: what they are worth is its value
@@ -79,6 +79,7 @@ shortRule3Fits (conditionOr f g) = false
 shortRule3Fits (conditionNot f) = false
 shortRule3Fits (forSome x range f) = shortRule2Fits x f
 shortRule3Fits (forEvery x range f) = false
+shortRule3Fits (forAtLeast x range f least) = false
 
 abbrev pub shortRule3Nodes : Scope → ℕ → ℕ → List Atom → List Node → ℕ → ℕ → List Node
 shortRule3Nodes s x width atoms range p n =
@@ -105,6 +106,7 @@ shortRule5Fits y (conditionOr f g) = false
 shortRule5Fits y (conditionNot f) = false
 shortRule5Fits y (forSome z range f) = isAndTree f && shortRule5Atoms z y (leaves f)
 shortRule5Fits y (forEvery z range f) = false
+shortRule5Fits y (forAtLeast z range f least) = false
 
 -- semijoin triples (P's column, =, i), i from the number given
 abbrev pub outsideTriples : Scope → ℕ → List Atom → ℕ → List Triple
@@ -138,6 +140,7 @@ shortRule6Fits (conditionOr f g) = false
 shortRule6Fits (conditionNot f) = false
 shortRule6Fits (forSome x range f) = false
 shortRule6Fits (forEvery x range f) = false
+shortRule6Fits (forAtLeast x range f least) = false
 
 abbrev pub shortRule6Nodes : Scope → ℕ → Atom → List Node
 shortRule6Nodes s p a = selectNode s p (oppositeAtom a) ∷ []

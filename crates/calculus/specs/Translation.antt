@@ -5,8 +5,8 @@ use mathlib.Core.List.{List, [], _∷_, _++_}
 use Prim.Native.Nat.{ℕ, suc, _+_, pred}
 use lib.ListN.{length}
 use Rattle.relations.specs.Lists.{flat}
-use Rattle.relations.specs.Nodes.{Node, load, project, join, unite, intersect, subtract}
-use Rattle.calculus.specs.Question.{Target, Range, table, alpha, rangeOr, rangeAnd, rangeAndNot, Bindings, noMore, bind, MaybeCondition, noCondition, onCondition, Condition, atom, conditionAnd, conditionOr, conditionNot, forSome, forEvery}
+use Rattle.relations.specs.Nodes.{Node, load, project, join, unite, intersect, subtract, tally}
+use Rattle.calculus.specs.Question.{Range, table, alpha, rangeOr, rangeAnd, rangeAndNot, Bindings, noMore, bind, MaybeCondition, noCondition, onCondition, Condition, atom, conditionAnd, conditionOr, conditionNot, forSome, forEvery, forAtLeast}
 use Rattle.calculus.specs.Scope.{Scope, extend, columnsIn, allColumns, targetColumns}
 use Rattle.calculus.specs.Form.{widthOfRange, alphaScope}
 use Rattle.calculus.specs.Leaves.{leaves}
@@ -100,6 +100,12 @@ module _ (columns : ℕ → ℕ) (short : Bool) where
                 first ++ (join p (pred q) [] ∷ meeting) ++ (subtract q last ∷ project (suc last) (allColumns (columnsIn s)) ∷ subtract p (suc (suc last)) ∷ [])
           ]
         ]
+    -- At least so many: range, product, T, operation 13; in both modes.
+    translateCondition (forAtLeast x range f least) wanted s p n =
+        let first = translateRange range n in
+        let q = n + length first in
+        let meeting = translateCondition f itself (extend s x (widthOfRange columns range)) q (suc q) in
+        first ++ (join p (pred q) [] ∷ meeting) ++ (tally p (lastNumber (suc q) meeting) least ∷ [])
 
   -- the plan of a question
   abbrev pub translate : Range → List Node

@@ -27,7 +27,7 @@ use Rattle.nodes.specs.declared.node.Operand.the-variants.{Of, Fixed}
 use Rattle.nodes.specs.declared.node.Atom.{Atom}
 use Rattle.nodes.specs.declared.node.Node.{Node}
 use Rattle.nodes.specs.declared.node.Connective.the-variants.{And, Or, Not}
-use Rattle.nodes.specs.declared.node.Quantifier.the-variants.{Some, Every}
+use Rattle.nodes.specs.declared.node.Quantifier.the-variants.{Some, Every, AtLeast}
 use Rattle.nodes.specs.declared.node.Binder.the-variants.{Binding, Quantifies}
 use Rattle.nodes.specs.declared.node.Form.{Form}
 use Rattle.nodes.specs.declared.node.Form.the-variants.{Table, Alpha, Target, Binds, Combines, Compares, Connects, IllFormed}
@@ -268,6 +268,7 @@ module _ (words : List ℕ) where
     by-form (Binds variable Binding) a b c e = none _ e (not-leaves _) refl
     by-form (Binds variable (Quantifies Some)) a b c e = numbered _ e (record { inside = tt; atoms = refl })
     by-form (Binds variable (Quantifies Every)) a b c e = numbered _ e (record { inside = tt; atoms = refl })
+    by-form (Binds variable (Quantifies (AtLeast least))) a b c e = numbered _ e (record { inside = tt; atoms = refl })
     by-form (Combines combination) a b c e = none _ e (not-leaves _) refl
     by-form (Compares atom) a b c e = numbered _ e (record { inside = (omega (arith, h .0, h .1), tt); atoms = ap (λ (n : Node). leafOf (n .form) ∷ []) (sym e) })
     by-form (Connects And) a b c e = numbered _ e (sides refl (and-parts words reference h e))

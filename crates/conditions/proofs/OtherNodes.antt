@@ -11,7 +11,7 @@ use Rattle.calculus.specs.Question.{table, onCondition}
 use Rattle.calculus.specs.Scope as scopes
 use Rattle.calculus.specs.Form.{GoodCondition}
 use Rattle.question.specs.Trees.{Tree, nothing, branch, treeOf, Reading, reading, readingOf}
-use Rattle.nodes.specs.declared.node.Quantifier.the-variants.{Some, Every}
+use Rattle.nodes.specs.declared.node.Quantifier.the-variants.{Some, Every, AtLeast}
 use Rattle.nodes.specs.declared.node.Binder.the-variants.{Binding, Quantifies}
 use Rattle.nodes.specs.declared.node.Form.{Form}
 use Rattle.nodes.specs.declared.node.Form.the-variants.{Table, Alpha, Target, Binds, Combines, Compares, Connects, IllFormed}
@@ -74,6 +74,7 @@ no-leaves (Target variable attribute) a b c h = not-leaves _
 no-leaves (Binds variable Binding) a b c h = not-leaves _
 no-leaves (Binds variable (Quantifies Some)) a b c h = record { no-numbers = λ number first second. refl; no-tree = neither }
 no-leaves (Binds variable (Quantifies Every)) a b c h = record { no-numbers = λ number first second. refl; no-tree = neither }
+no-leaves (Binds variable (Quantifies (AtLeast least))) a b c h = record { no-numbers = λ number first second. refl; no-tree = neither }
 no-leaves (Combines combination) a b c h = not-leaves _
 no-leaves (Compares atom) a b c h = absurd (miss (0 ∷ 1 ∷ 2 ∷ 3 ∷ 4 ∷ 7 ∷ []) 5 tt h)
 no-leaves (Connects connective) a b c h = absurd (miss (0 ∷ 1 ∷ 2 ∷ 3 ∷ 4 ∷ 7 ∷ []) 6 tt h)

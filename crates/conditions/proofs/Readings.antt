@@ -4,7 +4,6 @@ use mathlib.Core.Path.{_≡_, refl, sym, ap, _∙_}
 use mathlib.Core.Bool.{true}
 use mathlib.Core.List.{List, []}
 use native.Mathlib.Omega.{arith}
-use borrow.Author.Tests.{ltb-true}
 use Rattle.calculus.specs.Question as calculus
 use Rattle.relations.specs.Limits.{variableCount}
 use Rattle.nodes.specs.Kinds.{isOf}
@@ -19,7 +18,7 @@ use Rattle.nodes.specs.declared.node.Binder.the-variants.{Quantifies}
 use Rattle.nodes.specs.declared.node.Form.{Form}
 use Rattle.nodes.specs.declared.node.Form.the-variants.{Binds, Connects}
 use Rattle.nodes.specs.declared.node.Node.{Node}
-use Rattle.nodes.proofs.Forms.{Fits, node-fits, lower, no-kind}
+use Rattle.nodes.proofs.Forms.{Fits, node-fits, variables-fit, lower, no-kind}
 use Rattle.question.proofs.TreeLaws.{tree-of-reference, tree-of-none}
 use Rattle.conditions.specs.Readings.{Names, readingAt, targetsAt, rangeAt, bindingsAt, restrictionAt, conditionAt}
 
@@ -96,7 +95,7 @@ module _ (words : List ℕ) (reference : ℕ) where
     part-of sort part f = part-below (lower words (reference - 1) part (isOf sort) (no-kind sort) f)
 
     pub binder-variable : {variable : ℕ} {binder : Binder} {a b c : ℕ} → made (Binds variable binder) a b c ≡ nodeAt words (reference - 1) → variable < variableCount
-    binder-variable {variable} e = ltb-true variable variableCount (fits-in words (reference - 1) e .words-fit)
+    binder-variable {variable} {binder} {a} {b} {c} e = variables-fit (Binds variable binder) (fits-in words (reference - 1) e .words-fit)
 
     pub and-parts : {left right c : ℕ} → made (Connects And) left right c ≡ nodeAt words (reference - 1) → Part left × Part right
     and-parts {left} {right} e = let f = fits-in words (reference - 1) e in (part-of Condition left (f .a-fits), part-of Condition right (f .b-fits))

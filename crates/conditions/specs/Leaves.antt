@@ -42,6 +42,7 @@ numbersBelow (calculus.conditionOr f g) number first second = first ++ second
 numbersBelow (calculus.conditionNot f) number first second = []
 numbersBelow (calculus.forSome variable range f) number first second = []
 numbersBelow (calculus.forEvery variable range f) number first second = []
+numbersBelow (calculus.forAtLeast variable range f least) number first second = []
 
 unfoldable pub leafNumbers : Tree → List ℕ
 leafNumbers nothing = []

@@ -1,2 +1,2 @@
-// Operation 8, which is made of more parts than the ten others.
+// Operation 8, which is made of more parts than the others.
 pub mod divide;

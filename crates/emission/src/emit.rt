@@ -119,6 +119,14 @@ pub fn product(plan: &mut [u32], n: u32, left: u32, right: u32) -> u32
     push(plan, n, 5, left, right, 0, &[0u32; 1])
 }
 
+// Operation 13: the left rows that begin at least so many right rows.
+pub fn tally(plan: &mut [u32], n: u32, left: u32, right: u32, least: u32) -> u32
+    requires { ⌜ Room (now plan) n 1 ⌝ }
+    ensures { λ r. ⌜ Written (now (plan .entry)) n (nodes.tally left right least ∷ []) (now (plan .exit)) r ⌝ }
+{
+    push(plan, n, 13, left, right, 1, &[least])
+}
+
 // Operations 9, 10 and 11: the rows of either side, of both, of the left side and not the right.
 fn combination_number(how: Combination) -> u32
     ensures { λ r. ⌜ r ≡ combinationNumber how ⌝ }

@@ -27,7 +27,7 @@ use Rattle.nodes.specs.declared.node.Form.{Form}
 use Rattle.nodes.specs.declared.node.Form.the-variants.{Table, Alpha, Target, Binds, Combines, Compares, Connects}
 use Rattle.nodes.proofs.Forms.{operandFits, atomFits, first-of, variables-fit}
 use Rattle.judgements.proofs.SortedTrees.{RangeTree, tableTree, alphaTree, combinedTree, TargetTree, targetTree, TargetsIfAny, noTarget, moreTargets, BindingTree, bindingTree, BindingsIfAny, noBinding, moreBindings, ConditionTree, atomTree, joinedTree, notTree, quantifierTree, ConditionIfAny, withoutCondition, withCondition, atom-sides}
-use Rattle.judgements.proofs.KindsAlike.{combined-good, joined-good, quantified-good}
+use Rattle.judgements.proofs.KindsAlike.{combined-good, joined-good, quantified-parts}
 use Rattle.judgements.proofs.ScopesShown.{Shows, shows-empty}
 use Rattle.judgements.proofs.TreeSizes.{restriction-is}
 use Rattle.judgements.proofs.GoodForm.{Clean, foundAtB, foundBeside, RangeGood, range-good, target-good, binding-good, binder}
@@ -196,9 +196,9 @@ module _ (columns : ℕ → ℕ) (relations : ℕ) where
           clean-at columns i (Connects k) x y nothing scope refl refl (condition-clean f scope s shows (G .0)) (condition-clean g scope s shows (G .1)) (clean-none columns scope)
       condition-clean (notTree {i = i} {x = x} small f) scope s shows good =
           clean-at columns i (Connects Not) x nothing nothing scope refl refl (condition-clean f scope s shows good) (clean-none columns scope) (clean-none columns scope)
-      condition-clean (quantifierTree {i = i} {v = v} {q = q} {y = y} {z = z} small inside r f) scope s shows good =
+      condition-clean (quantifierTree {i = i} {v = v} {q = q} {y = y} {z = z} small inside fits r f) scope s shows good =
           let next : scopes.Scope = extend s v (widthOfRange columns (reading y .range)) in
-          let G : NotInScope v s × GoodRange columns relations (reading y .range) × GoodCondition columns relations (reading z .condition) next × (columnsIn s + widthOfRange columns (reading y .range) ≤ columnLimit) = rw (quantified-good columns relations q v (reading y .range) (reading z .condition) s) at good in
+          let G = quantified-parts columns relations q v (reading y .range) (reading z .condition) s good in
           let cy = range-clean r scope (G .1) in
           let B = binder-clean inside r shows cy (G .0) (G .3) in
           clean-at columns i (Binds v (Quantifies q)) nothing y z scope (B .binder-bound) (B .binder-fit) (clean-none columns (bind scope v (walk columns y scope .width))) cy

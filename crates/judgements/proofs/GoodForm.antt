@@ -248,12 +248,12 @@ module _ (columns : ℕ → ℕ) (relations : ℕ) where
       condition-good (notTree {x = x} small f) scope s shows clean =
           let n = clean-branch columns (Connects Not) x nothing nothing scope small clean in
           condition-good f scope s shows (n .clean-a)
-      condition-good (quantifierTree {v = v} {q = q} {y = y} {z = z} small inside r f) scope s shows clean =
+      condition-good (quantifierTree {v = v} {q = q} {y = y} {z = z} small inside fits r f) scope s shows clean =
           let n = clean-branch columns (Binds v (Quantifies q)) nothing y z scope small clean in
           let R = range-good r scope (n .clean-b) in
           let K = binder v inside shows R (n .bound-here) (n .fit-here) in
           let next = condition-good f (bind scope v (walk columns y scope .width)) (extend s v (widthOfRange columns (reading y .range))) (K .shows-next) (n .clean-c) in
-          rw (quantified-good columns relations q v (reading y .range) (reading z .condition) s) (K .is-new, R .good, next, K .fits)
+          quantified-good columns relations q v (reading y .range) (reading z .condition) s fits (omega (arith, R .some, R .wide)) (K .is-new, R .good, next, K .fits)
 
       maybe-good : {tree : Tree} → ConditionIfAny relations tree → (scope : List ℕ) (s : scopes.Scope) → Shows scope s → Clean (walk columns tree scope) → GoodMaybe columns relations (reading tree .restriction) s
       maybe-good withoutCondition scope s shows clean = tt

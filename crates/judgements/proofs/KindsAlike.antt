@@ -1,7 +1,9 @@
 -- What `calculus` says of kinds that share a form, once for all of them. A new range operation or quantifier has its clauses here. Assumes nothing.
 use mathlib.Core.Path.{_≡_, refl}
+use mathlib.Core.Bool.{true}
 use Prim.Native.Nat.{ℕ, _+_, _≤_}
 use native.Mathlib.Omega.{arith}
+use borrow.Author.Tests.{leb-true}
 use Rattle.relations.specs.Limits.{columnLimit}
 use Rattle.calculus.specs.Question.{Range, Condition, rangeNodes, conditionNodes}
 use Rattle.calculus.specs.Scope.{Scope, extend, columnsIn}
@@ -11,7 +13,8 @@ use Rattle.nodes.specs.declared.node.Combination.{Combination}
 use Rattle.nodes.specs.declared.node.Combination.the-variants as combination
 use Rattle.nodes.specs.declared.node.Connective.{Connective}
 use Rattle.nodes.specs.declared.node.Quantifier.{Quantifier}
-use Rattle.nodes.specs.declared.node.Quantifier.the-variants.{Some, Every}
+use Rattle.nodes.specs.declared.node.Quantifier.the-variants.{Some, Every, AtLeast}
+use Rattle.nodes.proofs.Forms.{quantifierFits}
 use Rattle.judgements.proofs.SortedTrees.{Joins, andJoins, orJoins}
 
 pub combined-nodes : (k : Combination) (a b : Range) → rangeNodes (combined k a b) ≡ rangeNodes a + rangeNodes b + 1
@@ -29,6 +32,7 @@ pub quantified-nodes : (q : Quantifier) (v : ℕ) (r : Range) (f : Condition) �
 unfolding conditionNodes
 quantified-nodes Some v r f = omega arith
 quantified-nodes Every v r f = omega arith
+quantified-nodes (AtLeast least) v r f = omega arith
 
 module _ (columns : ℕ → ℕ) where
   pub combined-width : (k : Combination) (a b : Range) → widthOfRange columns (combined k a b) ≡ widthOfRange columns a
@@ -49,8 +53,19 @@ module _ (columns : ℕ → ℕ) where
     joined-good andJoins f g s = refl
     joined-good orJoins f g s = refl
 
-    pub quantified-good : (q : Quantifier) (v : ℕ) (r : Range) (f : Condition) (s : Scope)
-        → GoodCondition columns relations (quantified q v r f) s ≡ (NotInScope v s × GoodRange columns relations r × GoodCondition columns relations f (extend s v (widthOfRange columns r)) × (columnsIn s + widthOfRange columns r ≤ columnLimit))
+    -- what every quantifier asks of its variable, its range and its condition
+    abbrev pub QuantifierParts : ℕ → Range → Condition → Scope → Type 0
+    QuantifierParts v r f s = NotInScope v s × GoodRange columns relations r × GoodCondition columns relations f (extend s v (widthOfRange columns r)) × (columnsIn s + widthOfRange columns r ≤ columnLimit)
+
+    -- "at least" asks besides that its range has a column and its number is not 0
+    pub quantified-good : (q : Quantifier) (v : ℕ) (r : Range) (f : Condition) (s : Scope) → quantifierFits q ≡ true → 1 ≤ widthOfRange columns r → QuantifierParts v r f s → GoodCondition columns relations (quantified q v r f) s
     unfolding GoodCondition
-    quantified-good Some v r f s = refl
-    quantified-good Every v r f s = refl
+    quantified-good Some v r f s fits wide parts = parts
+    quantified-good Every v r f s fits wide parts = parts
+    quantified-good (AtLeast least) v r f s fits wide parts = (parts .0, parts .1, parts .2, parts .3, wide, leb-true 1 least fits)
+
+    pub quantified-parts : (q : Quantifier) (v : ℕ) (r : Range) (f : Condition) (s : Scope) → GoodCondition columns relations (quantified q v r f) s → QuantifierParts v r f s
+    unfolding GoodCondition
+    quantified-parts Some v r f s good = good
+    quantified-parts Every v r f s good = good
+    quantified-parts (AtLeast least) v r f s good = (good .0, good .1, good .2, good .3)

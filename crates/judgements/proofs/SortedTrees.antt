@@ -27,7 +27,7 @@ use Rattle.nodes.specs.declared.node.Binder.the-variants.{Binding, Quantifies}
 use Rattle.nodes.specs.declared.node.Form.{Form}
 use Rattle.nodes.specs.declared.node.Form.the-variants.{Table, Alpha, Target, Binds, Combines, Compares, Connects, IllFormed}
 use Rattle.nodes.specs.declared.node.Node.{Node}
-use Rattle.nodes.proofs.Forms.{Part, none, must, may, partsOf, operandFits, atomFits, formFits, partFits, node-fits, lower, first-of, no-kind}
+use Rattle.nodes.proofs.Forms.{Part, none, must, may, partsOf, operandFits, atomFits, quantifierFits, formFits, partFits, node-fits, lower, first-of, no-kind}
 use Rattle.question.proofs.TreeLaws.{tree-is, tree-of-none}
 
 -- the connectives of two conditions
@@ -61,7 +61,7 @@ module _ (relations : ℕ) where
       atomTree : {i : ℕ} {atom : Atom} → i < questionNodeLimit → atomFits atom ≡ true → ConditionTree (branch i (Compares atom) nothing nothing nothing)
       joinedTree : {i : ℕ} {k : Connective} {x y : Tree} → i < questionNodeLimit → Joins k → ConditionTree x → ConditionTree y → ConditionTree (branch i (Connects k) x y nothing)
       notTree : {i : ℕ} {x : Tree} → i < questionNodeLimit → ConditionTree x → ConditionTree (branch i (Connects Not) x nothing nothing)
-      quantifierTree : {i v : ℕ} {q : Quantifier} {y z : Tree} → i < questionNodeLimit → v < variableCount → RangeTree y → ConditionTree z → ConditionTree (branch i (Binds v (Quantifies q)) nothing y z)
+      quantifierTree : {i v : ℕ} {q : Quantifier} {y z : Tree} → i < questionNodeLimit → v < variableCount → quantifierFits q ≡ true → RangeTree y → ConditionTree z → ConditionTree (branch i (Binds v (Quantifies q)) nothing y z)
 
     pub data ConditionIfAny : Tree → Type 0 where
       withoutCondition : ConditionIfAny nothing
@@ -144,7 +144,8 @@ form-sort kind a b c d e =
     (keeps-one kind 12 _ _ (only _ _ no no no (λ h. refl))
     (keeps-one kind 13 _ _ (only _ _ no no no (λ h. refl))
     (keeps-one kind 14 _ _ (only _ _ no no no (λ h. refl))
-    (keeps-none kind))))))))))))))
+    (keeps-one kind 16 _ _ (only _ _ no no no (λ h. refl))
+    (keeps-none kind)))))))))))))))
 
 formed-sort : (fit : Bool) (kind : ℕ) (node : Node) → Keeps kind (node .form) → Keeps kind (cond fit node (record { form = IllFormed; a = 0; b = 0; c = 0 }) .form)
 formed-sort true kind node keep = keep
@@ -181,7 +182,10 @@ module _ (relations i : ℕ) (small : i < questionNodeLimit) (x y z : Tree) wher
       let two : Bool = leb (n .0) columnLimit in
       rw (a, b) (targetTree small (ltb-true v variableCount (and-left one two w)) (leb-true (n .0) columnLimit (and-right one two w)) (targets-if-any relations c))
   node-sorted (Binds v Binding) f u w a b c = rw a (bindingTree small (ltb-true v variableCount w) b (bindings-if-any relations c))
-  node-sorted (Binds v (Quantifies q)) f u w a b c = rw a (quantifierTree small (ltb-true v variableCount w) b c)
+  node-sorted (Binds v (Quantifies q)) f u w a b c =
+      let one : Bool = quantifierFits q in
+      let two : Bool = ltb v variableCount in
+      rw a (quantifierTree small (ltb-true v variableCount (and-right one two w)) (and-left one two w) b c)
   node-sorted (Combines k) f u w a b c = rw c (combinedTree small a b)
   node-sorted (Compares atom) f u w a b c = rw (a, b, c) (atomTree small w)
   node-sorted (Connects And) f u w a b c = rw c (joinedTree small andJoins a b)

@@ -128,7 +128,7 @@ module _ {relations : ℕ} where
   restriction-is (atomTree i h) = refl
   restriction-is (joinedTree i k f g) = refl
   restriction-is (notTree i f) = refl
-  restriction-is (quantifierTree i v r f) = refl
+  restriction-is (quantifierTree i v fits r f) = refl
 
   -- an alpha's first binding is one of its bindings
   alpha-nodes : {tree : Tree} → BindingTree relations tree → (targets : List Target) (restriction : MaybeCondition)
@@ -163,7 +163,7 @@ module _ {relations : ℕ} where
     condition-nodes (atomTree i h) = refl
     condition-nodes (joinedTree {x = x} {y = y} i k f g) = omega (arith, joined-nodes k (reading x .condition) (reading y .condition), condition-nodes f, condition-nodes g)
     condition-nodes (notTree i f) = omega (arith, condition-nodes f)
-    condition-nodes (quantifierTree {v = v} {q = q} {y = y} {z = z} i small r f) = omega (arith, quantified-nodes q v (reading y .range) (reading z .condition), range-nodes r, condition-nodes f)
+    condition-nodes (quantifierTree {v = v} {q = q} {y = y} {z = z} i small fits r f) = omega (arith, quantified-nodes q v (reading y .range) (reading z .condition), range-nodes r, condition-nodes f)
 
     maybe-nodes : {tree : Tree} → ConditionIfAny relations tree → maybeNodes (reading tree .restriction) ≡ treeNodes tree
     maybe-nodes withoutCondition = refl

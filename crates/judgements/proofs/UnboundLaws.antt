@@ -139,7 +139,7 @@ module _ (columns : ℕ → ℕ) (relations : ℕ) where
     condition-in (atomTree {i = i} {atom = atom} small fits) scope s names = node-in i (Compares atom) nothing nothing nothing scope s (λ e. small) (atom-same names columns atom fits) (none-in scope s) (none-in scope s) (none-in scope s)
     condition-in (joinedTree {i = i} {k = k} {x = x} {y = y} small joins f g) scope s names = node-in i (Connects k) x y nothing scope s (λ e. small) refl (condition-in f scope s names) (condition-in g scope s names) (none-in scope s)
     condition-in (notTree {i = i} {x = x} small f) scope s names = node-in i (Connects Not) x nothing nothing scope s (λ e. small) refl (condition-in f scope s names) (none-in scope s) (none-in scope s)
-    condition-in (quantifierTree {i = i} {v = v} {q = q} {y = y} {z = z} small inside r f) scope s names =
+    condition-in (quantifierTree {i = i} {v = v} {q = q} {y = y} {z = z} small inside fits r f) scope s names =
         let w : ℕ = walk columns y scope .width in
         let next : scopes.Scope = extend s v (widthOf columns y) in
         node-in i (Binds v (Quantifies q)) nothing y z scope s (λ e. small) (names .named v inside) (none-in (bind scope v w) _) (range-in r scope []) (condition-in f (bind scope v w) next (names-bind v w (widthOf columns y) names inside))

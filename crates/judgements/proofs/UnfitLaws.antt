@@ -324,7 +324,7 @@ module _ (columns : ℕ → ℕ) (relations : ℕ) where
       condition-in (notTree {i = i} {x = x} small f) bound o scope s wide free =
           let n = bound-node i (Connects Not) x nothing nothing scope small free in
           node-in i (Connects Not) x nothing nothing scope s (λ e. small) (inl refl) (condition-in f i (o .1) scope s wide (n .bound-a)) (none-in scope s) (none-in scope s)
-      condition-in (quantifierTree {i = i} {v = v} {q = q} {y = y} {z = z} small inside r f) bound o scope s wide free =
+      condition-in (quantifierTree {i = i} {v = v} {q = q} {y = y} {z = z} small inside fits r f) bound o scope s wide free =
           let w : ℕ = walk columns y scope .width in
           let next : scopes.Scope = extend s v (widthOf columns y) in
           let n = bound-node i (Binds v (Quantifies q)) nothing y z scope small free in

@@ -12,7 +12,7 @@ use Rattle.relations.specs.Lists.{All}
 use Rattle.relations.specs.Values.{Rows, Tables}
 use Rattle.relations.specs.Comparison.{Operator, operatorOf, operatorNamed}
 use Rattle.relations.specs.Columns.{Triple, Pair, attribute, constant, leftNumbers}
-use Rattle.relations.specs.Operations.{loadCandidates, projectCandidates, selectConstantCandidates, selectAttributeCandidates, joinCandidates, semijoinCandidates, antijoinCandidates, divideCandidates, uniteCandidates, intersectCandidates, subtractCandidates}
+use Rattle.relations.specs.Operations.{loadCandidates, projectCandidates, selectConstantCandidates, selectAttributeCandidates, joinCandidates, semijoinCandidates, antijoinCandidates, divideCandidates, uniteCandidates, intersectCandidates, subtractCandidates, tallyCandidates}
 use Rattle.relations.specs.Nodes as nodes
 use Rattle.relations.specs.Nodes.{heavyNumber, weightOf}
 use Rattle.relations.specs.Plan.{candidates, widthOfNode, widthAt, valueAt}
@@ -33,7 +33,7 @@ use Rattle.plan_reading.specs.Decoding.{operationIn, nodeHead, planHead, headRe
 use Rattle.plan_reading.specs.Judging.{legalRead}
 use Rattle.plan_reading.specs.Steps.{WidthOfHead}
 use Rattle.plan_reading.specs.declared.nodes.Operation.{Operation}
-use Rattle.plan_reading.specs.declared.nodes.Operation.the-variants.{Load, Project, SelectConstant, SelectAttribute, Join, Semijoin, Antijoin, Divide, Unite, Intersect, Subtract}
+use Rattle.plan_reading.specs.declared.nodes.Operation.the-variants.{Load, Project, SelectConstant, SelectAttribute, Join, Semijoin, Antijoin, Divide, Unite, Intersect, Subtract, Tally}
 use Rattle.plan_reading.specs.declared.nodes.PlanNode.{PlanNode}
 use Rattle.plan_reading.proofs.DecodeLaws.{Stands}
 use Rattle.plan_reading.proofs.JudgeLaws.{widthMade, width-by}
@@ -56,6 +56,7 @@ nodeIn Divide left right count list = nodes.divide left right (readPairs count l
 nodeIn Unite left right count list = nodes.unite left right
 nodeIn Intersect left right count list = nodes.intersect left right
 nodeIn Subtract left right count list = nodes.subtract left right
+nodeIn Tally left right count list = nodes.tally left right (getD list 0 0)
 
 -- it is the node that the words read as
 triples-node : (make : List Triple → nodes.Node) (count : ℕ) (list : List ℕ) (node : nodes.Node) → Option·map make (readTriples count list) ≡ some node → make (triplesIn count list) ≡ node
@@ -84,6 +85,7 @@ parts-node Divide left right count list node e = cc
 parts-node Unite left right count list node e = cc
 parts-node Intersect left right count list node e = cc
 parts-node Subtract left right count list node e = cc
+parts-node Tally left right count list node e = cc
 
 -- What each operation asks for, of the values of its sides.
 module _ (relations out : ℕ) (list work : List ℕ) where
@@ -99,6 +101,7 @@ module _ (relations out : ℕ) (list work : List ℕ) where
   Asks Unite relation count left right = StandsBefore out work left × StandsBefore out work right × (right .width ≡ left .width)
   Asks Intersect relation count left right = StandsBefore out work left × StandsBefore out work right
   Asks Subtract relation count left right = StandsBefore out work left × StandsBefore out work right
+  Asks Tally relation count left right = StandsBefore out work left × StandsBefore out work right × (left .width < right .width)
 
 -- What it makes, by the rows of its sides.
 abbrev pub offered : Tables → Operation → (relation count : ℕ) (list : List ℕ) (left right : Rows) → Rows
@@ -113,6 +116,7 @@ offered tables Divide relation count list left right = divideCandidates (readPai
 offered tables Unite relation count list left right = uniteCandidates left right
 offered tables Intersect relation count list left right = intersectCandidates left right
 offered tables Subtract relation count list left right = subtractCandidates left right
+offered tables Tally relation count list left right = tallyCandidates (getD list 0 0) left right
 
 candidates-node : (tables : Tables) (made : List Rows) (operation : Operation) (left right count : ℕ) (list : List ℕ)
     → candidates tables made (nodeIn operation left right count list) ≡ offered tables operation left count list (valueAt made left) (valueAt made right)
@@ -127,6 +131,7 @@ candidates-node tables made Divide left right count list = refl
 candidates-node tables made Unite left right count list = refl
 candidates-node tables made Intersect left right count list = refl
 candidates-node tables made Subtract left right count list = refl
+candidates-node tables made Tally left right count list = refl
 
 -- A legal node over the values that stand in front of `out`.
 module _ (catalogue tables words : List ℕ) (plan : PlanNode) (size : length words ≡ planNodeWords) (stood : Stands words plan)
@@ -181,6 +186,7 @@ module _ (catalogue tables words : List ℕ) (plan : PlanNode) (size : length wo
   asks-named Unite o = let k = facts Unite o in (side (plan .left) (k .0), side (plan .right) (k .1), same-width (plan .right) ∙ sym (k .2) ∙ sym (same-width (plan .left)))
   asks-named Intersect o = let k = facts Intersect o in (side (plan .left) (k .0), side (plan .right) (k .1))
   asks-named Subtract o = let k = facts Subtract o in (side (plan .left) (k .0), side (plan .right) (k .1))
+  asks-named Tally o = let k = facts Tally o in (side (plan .left) (k .0), side (plan .right) (k .1), rw (same-width (plan .left), same-width (plan .right)) (k .2))
 
   makes-named : (operation : Operation) → plan .operation ≡ operation → {after : List ℕ} {r : Placed}
       → Makes (widthMade (columnsOf catalogue) (operationIn operation) (plan .left) (plan .count) (valueNamed made (plan .left) .width) (valueNamed made (plan .right) .width)) out

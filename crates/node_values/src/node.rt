@@ -41,6 +41,7 @@ use relations::heavy::weight;
 use relations::limits::HEAD_WORDS;
 use semijoins::keyed::antijoin;
 use semijoins::keyed::semijoin;
+use tallying::tally;
 use terms::attribute::Attribute;
 use terms::constant::Constant;
 use terms::operator::operator_of;
@@ -164,6 +165,7 @@ fn make_value(
         Operation::Unite => unite(work, left, right, out),
         Operation::Intersect => finish(intersect(work, left, right, out), work, out),
         Operation::Subtract => finish(subtract(work, left, right, out), work, out),
+        Operation::Tally => finish(tally(work, wide(list[0]), left, right, out), work, out),
     }
 }
 

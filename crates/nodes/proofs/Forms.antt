@@ -16,12 +16,14 @@ use Rattle.nodes.proofs.Tests.{named-below}
 use Rattle.nodes.specs.declared.kinds.Sort.{Sort}
 use Rattle.nodes.specs.declared.kinds.Sort.the-variants as sort
 use Rattle.nodes.specs.declared.kinds.Field.{Field}
-use Rattle.nodes.specs.declared.kinds.Field.the-variants.{Unused, Number, Variable, Attribute, AttributeOrRow, Operator, Reference, Optional}
+use Rattle.nodes.specs.declared.kinds.Field.the-variants.{Unused, Number, Positive, Variable, Attribute, AttributeOrRow, Operator, Reference, Optional}
 use Rattle.nodes.specs.declared.node.Operand.{Operand}
 use Rattle.nodes.specs.declared.node.Operand.the-variants.{Of, Fixed}
 use Rattle.nodes.specs.declared.node.Atom.{Atom}
 use Rattle.nodes.specs.declared.node.Connective.{Connective}
 use Rattle.nodes.specs.declared.node.Connective.the-variants.{And, Or, Not}
+use Rattle.nodes.specs.declared.node.Quantifier.{Quantifier}
+use Rattle.nodes.specs.declared.node.Quantifier.the-variants as quantifier
 use Rattle.nodes.specs.declared.node.Binder.{Binder}
 use Rattle.nodes.specs.declared.node.Binder.the-variants.{Binding, Quantifies}
 use Rattle.nodes.specs.declared.node.Form.{Form}
@@ -37,6 +39,7 @@ pub data Part : Type 0 where
 abbrev pub partIn : Field → Part
 partIn Unused = none
 partIn Number = none
+partIn Positive = none
 partIn Variable = none
 partIn Attribute = none
 partIn AttributeOrRow = none
@@ -80,11 +83,20 @@ abbrev pub atomFits : Atom → Bool
 atomFits atom =
     ltb (atom .variable) variableCount && leb 1 (atom .attribute .0) && leb (atom .attribute .0) columnLimit && leb 1 (atom .operator) && leb (atom .operator) operatorCount && operandFits (atom .operand)
 
+abbrev pub quantifierFits : Quantifier → Bool
+quantifierFits quantifier.Some = true
+quantifierFits quantifier.Every = true
+quantifierFits (quantifier.AtLeast least) = leb 1 least
+
+abbrev pub binderFits : Binder → Bool
+binderFits Binding = true
+binderFits (Quantifies quantifier) = quantifierFits quantifier
+
 abbrev pub formFits : Form → Bool
 formFits (Table relation) = true
 formFits Alpha = true
 formFits (Target variable attribute) = ltb variable variableCount && leb (attribute .0) columnLimit
-formFits (Binds variable binder) = ltb variable variableCount
+formFits (Binds variable binder) = binderFits binder && ltb variable variableCount
 formFits (Combines combination) = true
 formFits (Compares atom) = atomFits atom
 formFits (Connects connective) = true
@@ -105,6 +117,7 @@ module _ (kind : ℕ → ℕ) where
   part-fits : (field : Field) (word : ℕ) → fieldFits kind field word ≡ true → partFits (partIn field) (referenceIn field word) ≡ true
   part-fits Unused word h = refl
   part-fits Number word h = refl
+  part-fits Positive word h = refl
   part-fits Variable word h = refl
   part-fits Attribute word h = refl
   part-fits AttributeOrRow word h = refl
@@ -148,6 +161,9 @@ module _ (kind : ℕ → ℕ) (a b c d e : ℕ) where
   one-word : (x y z v w : Bool) → (x && y && z && v && w) ≡ true → x ≡ true
   one-word x y z v w h = and-left x y (two-words x y z v w h)
 
+  fourth-word : (x y z v w : Bool) → (x && y && z && v && w) ≡ true → v ≡ true
+  fourth-word x y z v w h = and-right (x && y && z) v (and-left (x && y && z && v) w h)
+
   -- a kind whose form has the parts that its fields say
   as-the-table : (k : ℕ) (form : Form) → partsOf form ≡ parts (partIn (fieldsOf k .a)) (partIn (fieldsOf k .b)) (partIn (fieldsOf k .c)) → formFits form ≡ true → wordsFit kind (fieldsOf k) a b c d e ≡ true
       → Fits kind (record { form = form; a = referenceIn (fieldsOf k .a) a; b = referenceIn (fieldsOf k .b) b; c = referenceIn (fieldsOf k .c) c })
@@ -181,8 +197,9 @@ module _ (kind : ℕ → ℕ) (a b c d e : ℕ) where
       fits-if k 11 (as-the-table 11 (formOf 11 a b c d e) refl refl) λ n11.
       fits-if k 12 (as-the-table 12 (formOf 12 a b c d e) refl refl) λ n12.
       fits-if k 13 (λ h. as-the-table 13 (formOf 13 a b c d e) refl (one-word (ltb a variableCount) _ _ _ _ h) h) λ n13.
-      fits-if k 14 (λ h. as-the-table 14 (formOf 14 a b c d e) refl (one-word (ltb a variableCount) _ _ _ _ h) h) λ n14 h.
-      rw (n1, n2, n3, n4, n5, n6, n7, n8, n9, n10, n11, n12, n13, n14) (record { words-fit = refl; a-fits = refl; b-fits = refl; c-fits = refl })
+      fits-if k 14 (λ h. as-the-table 14 (formOf 14 a b c d e) refl (one-word (ltb a variableCount) _ _ _ _ h) h) λ n14.
+      fits-if k 16 (λ h. as-the-table 16 (formOf 16 a b c d e) refl (and-both (leb 1 d) (ltb a variableCount) (fourth-word (ltb a variableCount) (isOf sort.Range (kind b)) (isOf sort.Condition (kind c)) (leb 1 d) (eqb e 0) h) (one-word (ltb a variableCount) _ _ _ _ h)) h) λ n16 h.
+      rw (n1, n2, n3, n4, n5, n6, n7, n8, n9, n10, n11, n12, n13, n14, n16) (record { words-fit = refl; a-fits = refl; b-fits = refl; c-fits = refl })
 
 kept : (test : Bool) (kind : ℕ → ℕ) (node : Node) → (test ≡ true → Fits kind node) → Fits kind (cond test node (record { form = IllFormed; a = 0; b = 0; c = 0 }))
 kept true kind node h = h refl
@@ -226,7 +243,7 @@ pub variables-fit : (form : Form) → formFits form ≡ true → VariablesFit fo
 variables-fit (Table relation) h = tt
 variables-fit Alpha h = tt
 variables-fit (Target variable attribute) h = ltb-true variable variableCount (and-left (ltb variable variableCount) (leb (attribute .0) columnLimit) h)
-variables-fit (Binds variable binder) h = ltb-true variable variableCount h
+variables-fit (Binds variable binder) h = ltb-true variable variableCount (and-right (binderFits binder) (ltb variable variableCount) h)
 variables-fit (Combines combination) h = tt
 variables-fit (Compares atom) h =
     let v : Bool = ltb (atom .variable) variableCount in

@@ -7,10 +7,10 @@ use Rattle.relations.specs.Limits.{columnLimit, variableCount, operatorCount}
 use Rattle.nodes.specs.declared.kinds.Sort.{Sort}
 use Rattle.nodes.specs.declared.kinds.Sort.the-variants.{Target, Binding, Range, Condition}
 use Rattle.nodes.specs.declared.kinds.Field.{Field}
-use Rattle.nodes.specs.declared.kinds.Field.the-variants.{Unused, Number, Variable, Attribute, AttributeOrRow, Operator, Reference, Optional}
+use Rattle.nodes.specs.declared.kinds.Field.the-variants.{Unused, Number, Positive, Variable, Attribute, AttributeOrRow, Operator, Reference, Optional}
 use Rattle.nodes.specs.declared.kinds.Fields.{Fields}
 
--- "A range is kind 1, 2, 5, 6 or 7; a condition 8 to 14."
+-- "A range is kind 1, 2, 5, 6 or 7; a condition 8 to 14." Document 02, item 8: "condition kind 16".
 abbrev pub isTarget : ℕ → Bool
 isTarget kind = eqb kind 3
 
@@ -21,7 +21,7 @@ abbrev pub isRange : ℕ → Bool
 isRange kind = eqb kind 1 || eqb kind 2 || (leb 5 kind && leb kind 7)
 
 abbrev pub isCondition : ℕ → Bool
-isCondition kind = leb 8 kind && leb kind 14
+isCondition kind = (leb 8 kind && leb kind 14) || eqb kind 16
 
 abbrev pub isOf : Sort → ℕ → Bool
 isOf Target kind = isTarget kind
@@ -53,14 +53,16 @@ fieldsOf kind =
     (cond (eqb kind 10 || eqb kind 11) (two (Reference Condition) (Reference Condition))
     (cond (eqb kind 12) (one (Reference Condition))
     (cond (eqb kind 13 || eqb kind 14) (three Variable (Reference Range) (Reference Condition))
-    (one Unused))))))))))
+    (cond (eqb kind 16) (five Variable (Reference Range) (Reference Condition) Positive Unused)
+    (one Unused)))))))))))
 
 -- What may stand in a word, where `kind` says of which kind the node is that a reference names: "Each reference names a node of its field's sort", "0 means none, only
--- where marked ?", "Unused words are 0", "Variables are 0 to 25, attributes 1 to 32", "Operators: 1 .. 6".
+-- where marked ?", "Unused words are 0", "Variables are 0 to 25, attributes 1 to 32", "Operators: 1 .. 6"; document 02, item 8: "a number k of at least 1".
 module _ (kind : ℕ → ℕ) where
   abbrev pub fieldFits : Field → ℕ → Bool
   fieldFits Unused word = eqb word 0
   fieldFits Number word = true
+  fieldFits Positive word = leb 1 word
   fieldFits Variable word = ltb word variableCount
   fieldFits Attribute word = leb 1 word && leb word columnLimit
   fieldFits AttributeOrRow word = leb word columnLimit
@@ -75,6 +77,7 @@ module _ (kind : ℕ → ℕ) where
 abbrev pub referenceIn : Field → ℕ → ℕ
 referenceIn Unused word = 0
 referenceIn Number word = 0
+referenceIn Positive word = 0
 referenceIn Variable word = 0
 referenceIn Attribute word = 0
 referenceIn AttributeOrRow word = 0

@@ -45,7 +45,8 @@ formOf kind a b c d e =
     (cond (eqb kind 12) (Connects connective.Not)
     (cond (eqb kind 13) (Binds a (Quantifies quantifier.Some))
     (cond (eqb kind 14) (Binds a (Quantifies quantifier.Every))
-    IllFormed)))))))))))))
+    (cond (eqb kind 16) (Binds a (Quantifies (quantifier.AtLeast d)))
+    IllFormed))))))))))))))
 
 -- word j of node i
 abbrev pub wordOf : List ℕ → ℕ → ℕ → ℕ

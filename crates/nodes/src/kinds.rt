@@ -13,6 +13,8 @@ pub enum Field {
     Unused,
     // A relation or a constant.
     Number,
+    // A number that is not 0.
+    Positive,
     Variable,
     Attribute,
     // 0 is the whole row.
@@ -39,7 +41,7 @@ pub fn is_of(sort: Sort, kind: u32) -> bool
         Sort::Target => kind == 3,
         Sort::Binding => kind == 4,
         Sort::Range => (kind == 1) | (kind == 2) | ((5 <= kind) & (kind <= 7)),
-        Sort::Condition => (8 <= kind) & (kind <= 14),
+        Sort::Condition => ((8 <= kind) & (kind <= 14)) | (kind == 16),
     }
 }
 
@@ -50,6 +52,7 @@ pub fn reference_in(field: Field, word: u32) -> u32
     match field {
         Field::Unused => 0,
         Field::Number => 0,
+        Field::Positive => 0,
         Field::Variable => 0,
         Field::Attribute => 0,
         Field::AttributeOrRow => 0,
@@ -146,6 +149,15 @@ pub fn fields_of(kind: u32) -> Fields
             Field::Variable,
             Field::Reference(Sort::Range),
             Field::Reference(Sort::Condition),
+        );
+    }
+    if kind == 16 {
+        return five(
+            Field::Variable,
+            Field::Reference(Sort::Range),
+            Field::Reference(Sort::Condition),
+            Field::Positive,
+            Field::Unused,
         );
     }
     one(Field::Unused)

@@ -43,10 +43,11 @@ pub enum Connective {
     Not,
 }
 
-// 13, 14.
+// 13, 14, 16: of the rows of b some, every one, or at least so many meet c.
 pub enum Quantifier {
     Some,
     Every,
+    AtLeast(u32),
 }
 
 // What binds a variable to the rows of b: a binding, whose c is the next one, or a quantifier, whose c is its condition.
@@ -63,7 +64,7 @@ pub enum Form {
     Alpha,
     // 3: an attribute of a variable, or its whole row (attribute 0); c is the next target.
     Target { variable: u32, attribute: Attribute },
-    // 4, 13, 14: c sees the variable.
+    // 4, 13, 14, 16: c sees the variable.
     Binds { variable: u32, binder: Binder },
     // 5, 6, 7: two ranges of one width, a and b.
     Combines(Combination),
@@ -102,6 +103,7 @@ fn field_fits(words: &[u32], i: usize, field: Field, word: u32) -> bool
     match field {
         Field::Unused => word == 0,
         Field::Number => true,
+        Field::Positive => 1 <= word,
         Field::Variable => word < VARIABLES,
         Field::Attribute => (1 <= word) & (word <= ATTRIBUTES),
         Field::AttributeOrRow => word <= ATTRIBUTES,
@@ -158,6 +160,7 @@ fn form_of(kind: u32, a: u32, b: u32, c: u32, d: u32, e: u32) -> Form
         12 => Form::Connects(Connective::Not),
         13 => binds(a, Binder::Quantifies(Quantifier::Some)),
         14 => binds(a, Binder::Quantifies(Quantifier::Every)),
+        16 => binds(a, Binder::Quantifies(Quantifier::AtLeast(d))),
         _ => Form::IllFormed,
     }
 }

@@ -1,6 +1,7 @@
 // The operations that keep some of the left rows by what they are: select, intersection, difference. The left order stays, so each row that is
 // kept is placed by one comparison, with the last row.
 ghost use mathlib.Core.Path.{_≡_};
+ghost use mathlib.Core.Bool.{cond};
 ghost use mathlib.Core.List.{[], _∷_};
 ghost use Prim.Native.Nat.{_+_, _*_, _≤_, _<_};
 ghost use lib.ListN.{length};
@@ -45,19 +46,19 @@ fn passes(work: &[u32], at: usize, width: usize, test: Test) -> bool
     }
 }
 
-// The left row that starts at `at` is put into the value at `out`, if it is kept.
-fn keep_row(
+// The row that starts at `at` is put into the value at `out`, if it is kept.
+pub fn keep_if(
     work: &mut [u32],
+    kept: bool,
     at: usize,
     width: usize,
-    test: Test,
     out: usize,
     made: usize,
 ) -> Placed
-    requires { ⌜ (0 < width) × (at + width ≤ out) × Fits test out (now work) × (out + made * width ≤ length (now work)) × Ascending (rowsAt width made out (now work)) ⌝ }
-    ensures { λ r. ⌜ Builds width out made (filter (keeps test (rightOf test (now (work .entry)))) (rowIn (now (work .entry)) at width ∷ [])) (now (work .entry)) (now (work .exit)) r ⌝ }
+    requires { ⌜ (0 < width) × (at + width ≤ out) × (out + made * width ≤ length (now work)) × Ascending (rowsAt width made out (now work)) ⌝ }
+    ensures { λ r. ⌜ Builds width out made (cond «kept» (rowIn (now (work .entry)) at width ∷ []) []) (now (work .entry)) (now (work .exit)) r ⌝ }
 {
-    if passes(work, at, width, test) {
+    if kept {
         place_row(
             &NO_WORDS,
             work,
@@ -72,6 +73,22 @@ fn keep_row(
     } else {
         Placed::Rows(made)
     }
+}
+
+// The left row that starts at `at` is put into the value at `out`, if it passes.
+fn keep_row(
+    work: &mut [u32],
+    at: usize,
+    width: usize,
+    test: Test,
+    out: usize,
+    made: usize,
+) -> Placed
+    requires { ⌜ (0 < width) × (at + width ≤ out) × Fits test out (now work) × (out + made * width ≤ length (now work)) × Ascending (rowsAt width made out (now work)) ⌝ }
+    ensures { λ r. ⌜ Builds width out made (filter (keeps test (rightOf test (now (work .entry)))) (rowIn (now (work .entry)) at width ∷ [])) (now (work .entry)) (now (work .exit)) r ⌝ }
+{
+    let kept = passes(work, at, width, test);
+    keep_if(work, kept, at, width, out, made)
 }
 
 // The rows of the left value that are kept, as a value from `out` on.

@@ -9,14 +9,14 @@ use lib.ListN.{getD, length, drop}
 use lib.Seq.{drop-drop, getD-drop}
 use Rattle.relations.specs.Limits.{planNodeWords, headWords}
 use Rattle.relations.specs.Nodes as nodes
-use Rattle.relations.specs.Nodes.{loading, projecting, selectingConstant, selectingAttribute, joining, semijoining, antijoining, dividing, uniting, intersecting, subtracting, operationOfNode, operationNumber, operationOf}
+use Rattle.relations.specs.Nodes.{loading, projecting, selectingConstant, selectingAttribute, joining, semijoining, antijoining, dividing, uniting, intersecting, subtracting, tallying, operationOfNode, operationNumber, operationOf}
 use Rattle.relations.specs.Comparison.{operatorOf}
 use Rattle.relations.specs.Legality.{between}
 use Rattle.relations.specs.PlanWords.{readTriples, readParts, readKnown, readNode}
 use Rattle.relations.proofs.PlanWordsOnly.{words-and-back}
 use Rattle.plan_reading.specs.Decoding.{spaced, operatorsKnown, operationIn, fits, headIn, Head, nodeHead, planHead, headDecoded, headRead}
 use Rattle.plan_reading.specs.declared.nodes.Operation.{Operation}
-use Rattle.plan_reading.specs.declared.nodes.Operation.the-variants.{Load, Project, SelectConstant, SelectAttribute, Join, Semijoin, Antijoin, Divide, Unite, Intersect, Subtract}
+use Rattle.plan_reading.specs.declared.nodes.Operation.the-variants.{Load, Project, SelectConstant, SelectAttribute, Join, Semijoin, Antijoin, Divide, Unite, Intersect, Subtract, Tally}
 use Rattle.plan_reading.specs.declared.nodes.PlanNode.{PlanNode}
 use Rattle.plan_reading.specs.declared.nodes.Decoded.{Decoded}
 use Rattle.plan_reading.specs.declared.nodes.Decoded.the-variants.{Node, Illegal}
@@ -35,6 +35,7 @@ operation-back dividing = refl
 operation-back uniting = refl
 operation-back intersecting = refl
 operation-back subtracting = refl
+operation-back tallying = refl
 
 -- the node that words of a known operation would be, if their shape fits
 abbrev pub partsIn : nodes.Operation → List ℕ → Option nodes.Node
@@ -74,7 +75,7 @@ decoded-as operation words size number known parts = go (fits (operationIn opera
     go true f false parts = let is : readNode words ≡ none = read ∙ rw f (parts f) in rw is
     go false f known parts = let is : readNode words ≡ none = read ∙ rw f in rw is
 
--- a list of attributes alone has no operators to know
+-- a list without operators has none to know
 pub decoded-plain : (operation : Operation) (words : List ℕ) → length words ≡ planNodeWords → getD words 0 0 ≡ operationNumber (operationIn operation)
     → PartsIf operation words true → headDecoded (cond (fits (operationIn operation) words) (Node (headIn operation words)) Illegal) ≡ headRead (readNode words)
 decoded-plain operation words size number parts =
@@ -143,8 +144,9 @@ stands words plan size e = go (readNode words) refl e
 
 -- No two operations of the code are the same in relations' words, so a head names one answer: `decode_node` promises one.
 
+-- by number; what stands at 12, which is no operation's number, is never asked for
 abbrev operations : List Operation
-operations = Load ∷ Project ∷ SelectConstant ∷ SelectAttribute ∷ Join ∷ Semijoin ∷ Antijoin ∷ Divide ∷ Unite ∷ Intersect ∷ Subtract ∷ []
+operations = Load ∷ Project ∷ SelectConstant ∷ SelectAttribute ∷ Join ∷ Semijoin ∷ Antijoin ∷ Divide ∷ Unite ∷ Intersect ∷ Subtract ∷ Load ∷ Tally ∷ []
 
 abbrev numbered : nodes.Operation → Operation
 numbered operation = getD operations (operationNumber operation - 1) Load
@@ -161,6 +163,7 @@ numbered-in Divide = refl
 numbered-in Unite = refl
 numbered-in Intersect = refl
 numbered-in Subtract = refl
+numbered-in Tally = refl
 
 abbrev planned : Head → PlanNode
 planned head = record { operation = numbered (head .operation); left = head .left; right = head .right; count = head .count }

@@ -12,7 +12,7 @@ use lib.Seq.{drop-drop, take-suc-set, length-take-le}
 use borrow.Author.Tests.{eq-eqb, le-leb, leb-true}
 use Rattle.relations.specs.Limits.{columnLimit, planNodeLimit, planNodeWords}
 use Rattle.relations.specs.Nodes as nodes
-use Rattle.relations.specs.Nodes.{load, project, selectConstant, selectAttribute, join, semijoin, antijoin, divide, unite, intersect, subtract, loading, projecting, selectingConstant, selectingAttribute, joining, semijoining, antijoining, dividing, uniting, intersecting, subtracting, operationNumber}
+use Rattle.relations.specs.Nodes.{load, project, selectConstant, selectAttribute, join, semijoin, antijoin, divide, unite, intersect, subtract, tally, loading, projecting, selectingConstant, selectingAttribute, joining, semijoining, antijoining, dividing, uniting, intersecting, subtracting, tallying, operationNumber}
 use Rattle.relations.specs.Plan.{widthAt, widthOfNode}
 use Rattle.relations.specs.Legality.{legalTriples, legalNode}
 use Rattle.relations.specs.PlanWords.{readNode}
@@ -44,6 +44,7 @@ widthMade columns dividing relation count left right = left - count
 widthMade columns uniting relation count left right = left
 widthMade columns intersecting relation count left right = left
 widthMade columns subtracting relation count left right = left
+widthMade columns tallying relation count left right = left
 
 abbrev pub headWidth : (ℕ → ℕ) → List ℕ → Head → ℕ
 headWidth columns made head = widthMade columns (head .operation) (head .left) (head .count) (widthAt made (head .left)) (widthAt made (head .right))
@@ -60,6 +61,7 @@ width-made columns made (divide left right pairs) = refl
 width-made columns made (unite left right) = refl
 width-made columns made (intersect left right) = refl
 width-made columns made (subtract left right) = refl
+width-made columns made (tally left right least) = refl
 
 -- so all nodes of one head have one width
 pub width-by : (columns : ℕ → ℕ) (made : List ℕ) (head : Head) → WidthOfHead columns made head (headWidth columns made head)
@@ -87,6 +89,7 @@ join-fits relations made (divide left right pairs) h = refl
 join-fits relations made (unite left right) h = refl
 join-fits relations made (intersect left right) h = refl
 join-fits relations made (subtract left right) h = refl
+join-fits relations made (tally left right least) h = refl
 
 pub join-narrow : (relations : ℕ) (made : List ℕ) (plan : PlanNode) → HeadOfLegal relations made (planHead plan) → plan .operation ≡ Join → widthAt made (plan .left) + widthAt made (plan .right) ≤ columnLimit
 join-narrow relations made plan legal o =

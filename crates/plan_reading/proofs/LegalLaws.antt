@@ -16,13 +16,13 @@ use Rattle.relations.specs.Columns.{Triple, attribute, constant}
 use Rattle.relations.specs.Nodes as nodes
 use Rattle.relations.specs.Nodes.{join, semijoin, antijoin, selectConstant, selectAttribute}
 use Rattle.relations.specs.Plan.{widthAt}
-use Rattle.relations.specs.Legality.{between, lower, legalTriples, legalSides}
+use Rattle.relations.specs.Legality.{between, lower, legalTriples, legalSides, legalTally}
 use Rattle.relations.specs.PlanWords.{shapeOf, readTriples, readParts, readNode}
 use Rattle.plan_reading.specs.Decoding.{spaced, operationIn, fits}
 use Rattle.plan_reading.specs.Judging.{legalRead}
 use Rattle.plan_reading.specs.Steps.{triplesLegal, pairsLegal}
 use Rattle.plan_reading.specs.declared.nodes.Operation.{Operation}
-use Rattle.plan_reading.specs.declared.nodes.Operation.the-variants.{Load, Project, SelectConstant, SelectAttribute, Join, Semijoin, Antijoin, Divide, Unite, Intersect, Subtract}
+use Rattle.plan_reading.specs.declared.nodes.Operation.the-variants.{Load, Project, SelectConstant, SelectAttribute, Join, Semijoin, Antijoin, Divide, Unite, Intersect, Subtract, Tally}
 use Rattle.plan_reading.specs.declared.nodes.PlanNode.{PlanNode}
 use Rattle.plan_reading.specs.declared.nodes.Decoded.the-variants.{Node}
 use Rattle.plan_reading.proofs.WordLaws.{getD-front}
@@ -63,6 +63,10 @@ module _ (relations : ℕ) (made : List ℕ) (words : List ℕ) (plan : PlanNode
 
   pub legal-subtract : plan .operation ≡ Subtract → legalRead relations made (readNode words) ≡ legalSides made (plan .left) (plan .right)
   legal-subtract o = legal-parts Subtract o
+
+  -- 13
+  pub legal-tally : plan .operation ≡ Tally → legalRead relations made (readNode words) ≡ legalTally made (plan .left) (plan .right) (getD words headWords 0)
+  legal-tally o = legal-parts Tally o ∙ ap (legalTally made (plan .left) (plan .right)) (getD-front words headWords)
 
   -- 3 and 4
   pub legal-select-constant : plan .operation ≡ SelectConstant → legalRead relations made (readNode words) ≡ (lower made (plan .left) && all (between 1 (widthAt made (plan .left))) (spaced 3 1 (drop headWords words)))

@@ -8,11 +8,11 @@ use Rattle.relations.specs.Limits.{headWords, operatorCount}
 use Rattle.relations.specs.Lists.{all}
 use Rattle.relations.specs.Legality.{between}
 use Rattle.relations.specs.Nodes as nodes
-use Rattle.relations.specs.Nodes.{loading, projecting, selectingConstant, selectingAttribute, joining, semijoining, antijoining, dividing, uniting, intersecting, subtracting, operationOfNode}
+use Rattle.relations.specs.Nodes.{loading, projecting, selectingConstant, selectingAttribute, joining, semijoining, antijoining, dividing, uniting, intersecting, subtracting, tallying, operationOfNode}
 use Rattle.relations.specs.PlanWords as words
 use Rattle.relations.specs.PlanWords.{shapeOf, shapeFits, partsOf}
 use Rattle.plan_reading.specs.declared.nodes.Operation.{Operation}
-use Rattle.plan_reading.specs.declared.nodes.Operation.the-variants.{Load, Project, SelectConstant, SelectAttribute, Join, Semijoin, Antijoin, Divide, Unite, Intersect, Subtract}
+use Rattle.plan_reading.specs.declared.nodes.Operation.the-variants.{Load, Project, SelectConstant, SelectAttribute, Join, Semijoin, Antijoin, Divide, Unite, Intersect, Subtract, Tally}
 use Rattle.plan_reading.specs.declared.nodes.PlanNode.{PlanNode}
 use Rattle.plan_reading.specs.declared.nodes.Decoded.{Decoded}
 use Rattle.plan_reading.specs.declared.nodes.Decoded.the-variants.{Node, Illegal}
@@ -36,6 +36,7 @@ operationIn Divide = dividing
 operationIn Unite = uniting
 operationIn Intersect = intersecting
 operationIn Subtract = subtracting
+operationIn Tally = tallying
 
 abbrev pub shapeIn : Shape → words.Shape
 shapeIn s = record { usesRight = s .right; leastCount = s .least; mostCount = s .most; unit = s .unit }

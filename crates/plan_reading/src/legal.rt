@@ -7,7 +7,7 @@ ghost use lib.ListN.{length, drop};
 ghost use Rattle.relations.specs.Limits.{planNodeWords, tripleLimit, pairLimit, columnLimit};
 ghost use Rattle.relations.specs.Columns.{listed};
 ghost use Rattle.relations.specs.Plan.{widthAt};
-ghost use Rattle.relations.specs.Legality.{distinct, legalSides};
+ghost use Rattle.relations.specs.Legality.{distinct, legalSides, legalTally};
 ghost use Rattle.relations.specs.PlanWords.{readNode};
 ghost use Rattle.catalogue.specs.Stored.{relationsOf, columnsOf};
 ghost use Rattle.plan_reading.specs.Decoding.{spaced, planHead, headRead};
@@ -57,6 +57,7 @@ pub fn width_of(catalogue: &[u32], widths: &[usize], node: PlanNode) -> usize
         Operation::Unite => left,
         Operation::Intersect => left,
         Operation::Subtract => left,
+        Operation::Tally => left,
     }
 }
 
@@ -100,6 +101,14 @@ fn legal_sides(widths: &[usize], left: usize, right: usize) -> bool
 {
     (left < widths.len())
         & ((right < widths.len()) & (width_at(widths, left) == width_at(widths, right)))
+}
+
+// Operation 13, which asks for `least` right rows.
+fn legal_tally(widths: &[usize], left: usize, right: usize, least: usize) -> bool
+    ensures { λ r. ⌜ r ≡ legalTally (now (widths .entry)) left right least ⌝ }
+{
+    let wider = width_at(widths, left) < width_at(widths, right);
+    (left < widths.len()) & ((right < widths.len()) & (wider & (1 <= least)))
 }
 
 // Operations 5, 6 and 7.
@@ -191,5 +200,6 @@ pub fn legal_node(catalogue: &[u32], widths: &[usize], node: PlanNode, words: &[
         Operation::Unite => legal_sides(widths, left, right),
         Operation::Intersect => legal_sides(widths, left, right),
         Operation::Subtract => legal_sides(widths, left, right),
+        Operation::Tally => legal_tally(widths, left, right, wide(words[HEAD_WORDS])),
     }
 }

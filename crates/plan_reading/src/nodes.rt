@@ -31,6 +31,7 @@ pub enum Operation {
     Unite,
     Intersect,
     Subtract,
+    Tally,
 }
 
 // A node without its list. A load's relation is its `left`.
@@ -69,6 +70,7 @@ fn shape_of(operation: Operation) -> Shape
         Operation::Unite => uses(true, 0, 0, 0),
         Operation::Intersect => uses(true, 0, 0, 0),
         Operation::Subtract => uses(true, 0, 0, 0),
+        Operation::Tally => uses(true, 1, 1, 1),
     }
 }
 
@@ -145,7 +147,7 @@ fn head(operation: Operation, words: &[u32]) -> PlanNode
     }
 }
 
-// A node whose list, if it has one, is of attributes alone.
+// A node whose list, if it has one, has no operators.
 fn decode_plain(operation: Operation, words: &[u32]) -> Decoded
     requires { ⌜ length (now words) ≡ planNodeWords ⌝ }
     ensures { λ r. ⌜ r ≡ cond (fits (operationIn operation) (now (words .entry))) (Decoded.Node (headIn operation (now (words .entry)))) Decoded.Illegal ⌝ }
@@ -193,6 +195,7 @@ pub fn decode_node(words: &[u32]) -> Decoded
         9 => decode_plain(Operation::Unite, words),
         10 => decode_plain(Operation::Intersect, words),
         11 => decode_plain(Operation::Subtract, words),
+        13 => decode_plain(Operation::Tally, words),
         _ => Decoded::Illegal,
     }
 }

@@ -8,6 +8,7 @@ ghost use Rattle.emission.specs.Written.{Room, Written};
 ghost use Rattle.plan_steps.specs.Quantifying.{wayOf, keptNodes, oppositeWanted, oppositeIf};
 use emission::emit::pair;
 use emission::emit::project_first;
+use emission::emit::tally;
 use nodes::node::Combination;
 use nodes::node::Quantifier;
 use short_rules::fits::ShortRule;
@@ -78,10 +79,12 @@ pub fn way_of(
             }
             Way::Plain
         }
+        Quantifier::AtLeast(_) => Way::Plain,
     }
 }
 
-// Behind T(f, Q), whose last node is before node n. Some: project to P's columns. Every: difference from Q, project to P's columns, difference from P.
+// Behind T(f, Q), whose last node is before node n. Some: project to P's columns. Every: difference from Q, project to P's columns, difference from P. At least so
+// many: operation 13 of P and T(f, Q).
 pub fn write_kept(
     quantifier: Quantifier,
     columns: u32,
@@ -100,5 +103,6 @@ pub fn write_kept(
             let failed = project_first(plan, failing, n, columns);
             pair(plan, failed, Combination::AndNot, p, failing)
         }
+        Quantifier::AtLeast(least) => tally(plan, n, p, n - 1, least),
     }
 }

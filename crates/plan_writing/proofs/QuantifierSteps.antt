@@ -1,4 +1,4 @@
--- "Some" and "every": what their calls ask for, from what they are given, and what each way of making their nodes leaves. Assumes nothing.
+-- Quantifiers: what their calls ask for, from what they are given, and what each way of making their nodes leaves. Assumes nothing.
 use Prim.Native.Nat.{ℕ, suc, pred, _+_, _*_, _-_, _≤_, _<_, max}
 use mathlib.Core.Path.{_≡_, refl, sym, ap, subst, _∙_}
 use mathlib.Core.Bool.{Bool, true, false, cond, _&&_, _||_, false≢true}
@@ -7,9 +7,9 @@ use native.Mathlib.Omega.{arith}
 use lib.ListN.{length, length-append}
 use Rattle.relations.specs.Limits.{columnLimit, questionNodeLimit, variableCount}
 use Rattle.relations.specs.Lists.{filter}
-use Rattle.relations.specs.Nodes.{Node, project, join, subtract, semijoin, antijoin, divide, unite}
+use Rattle.relations.specs.Nodes.{Node, project, join, subtract, semijoin, antijoin, divide, unite, tally}
 use Rattle.relations.proofs.BoolLaws.{and-right}
-use Rattle.calculus.specs.Question.{Atom, Range, MaybeCondition, onCondition, Condition, atom, conditionAnd, conditionOr, conditionNot, forSome, forEvery, rangeNodes, maybeNodes, conditionNodes}
+use Rattle.calculus.specs.Question.{Atom, Range, MaybeCondition, onCondition, Condition, atom, conditionAnd, conditionOr, conditionNot, forSome, forEvery, forAtLeast, rangeNodes, maybeNodes, conditionNodes}
 use Rattle.calculus.specs.Scope.{columnsIn, allColumns}
 use Rattle.calculus.specs.Scope as calculus
 use Rattle.calculus.specs.Form.{widthOfRange, GoodRange, GoodMaybe, GoodCondition}
@@ -34,7 +34,7 @@ use Rattle.plan_steps.specs.declared.ranges.MadeRange.{MadeRange}
 use Rattle.plan_steps.specs.declared.quantifying.Wanted.{Wanted}
 use Rattle.plan_steps.specs.declared.quantifying.Wanted.the-variants.{Itself, Opposite, Division}
 use Rattle.nodes.specs.declared.node.Quantifier.{Quantifier}
-use Rattle.nodes.specs.declared.node.Quantifier.the-variants.{Some, Every}
+use Rattle.nodes.specs.declared.node.Quantifier.the-variants.{Some, Every, AtLeast}
 use Rattle.plan_steps.specs.declared.quantifying.Way.{Way}
 use Rattle.plan_steps.specs.declared.quantifying.Way.the-variants.{ByRule, AsDivisor, ByDivision, Plain}
 use Rattle.nodes.specs.Nodes.{nodeAt}
@@ -44,7 +44,7 @@ use Rattle.nodes.specs.declared.node.Form.the-variants.{Binds}
 use Rattle.short_rules.specs.Fits.{someVariable}
 use Rattle.short_rules.proofs.FitLaws.{some-decoded, divided-some}
 use Rattle.conditions.proofs.Readings.{made as decoded, condition-is, restriction-is, binder-variable, quantifier-parts}
-use Rattle.judgements.proofs.KindsAlike.{quantified-nodes, quantified-good}
+use Rattle.judgements.proofs.KindsAlike.{quantified-nodes, quantified-parts}
 use Rattle.conditions.proofs.OtherNodes.{restriction-good}
 use Rattle.emission.proofs.WrittenLaws.{written-then, room-after, room-less, pred-is, written-as}
 use Rattle.plan_writing.proofs.RangeSteps.{range-wide}
@@ -72,7 +72,7 @@ module _ (catalogue : List ℕ) where
     narrow : columnsIn s + widthOfRange (columnsOf catalogue) range ≤ columnLimit
 
   parts : (quantifier : Quantifier) {x : ℕ} {range : Range} {f : Condition} {s : calculus.Scope} → Good (quantified quantifier x range f) s → Parts x range f s
-  parts quantifier {x} {range} {f} {s} good = let g = rw (quantified-good (columnsOf catalogue) (relationsOf catalogue) quantifier x range f s) at good in record { range-good = g .1; inside-good = g .2; narrow = g .3 }
+  parts quantifier {x} {range} {f} {s} good = let g = quantified-parts (columnsOf catalogue) (relationsOf catalogue) quantifier x range f s good in record { range-good = g .1; inside-good = g .2; narrow = g .3 }
 
 quantified-size : (quantifier : Quantifier) (x : ℕ) (range : Range) (f : Condition) → maybeNodes (onCondition (quantified quantifier x range f)) ≡ rangeNodes range + conditionNodes f + 1
 unfolding maybeNodes
@@ -86,6 +86,7 @@ some-condition (conditionOr f g) = omega arith
 some-condition (conditionNot f) = omega arith
 some-condition (forSome x range f) = omega arith
 some-condition (forEvery x range f) = omega arith
+some-condition (forAtLeast x range f least) = omega arith
 
 -- What every way asks for: a range that is ready, and room behind it.
 module _ (quantifier : Quantifier) (wanted : Wanted) (x : ℕ) (range : Range) (f : Condition) (known : x < variableCount) {catalogue plan scope : List ℕ} {n : ℕ} (r : ConditionReady catalogue plan (wantedIn wanted) (onCondition (quantified quantifier x range f)) scope n) where
@@ -182,6 +183,7 @@ module _ (catalogue : List ℕ) (s₀ : calculus.Scope) {short : Bool} {x : ℕ}
           })
       go false h true e = let z : _≡_ {A = ℕ} 0 1 = cc in absurd (omega arith)
       go false h false e = let z : _≡_ {A = ℕ} 0 1 = cc in absurd (omega arith)
+  rule-way (AtLeast least) wanted rule g e = let z : _≡_ {A = ℕ} 0 1 = cc in absurd (omega arith)
 
   -- only a "some" below an "every y" is divided
   pub divisor-way : (quantifier : Quantifier) (wanted : Wanted) (y k : ℕ) → GoodAs catalogue (wantedIn wanted) (onCondition (quantified quantifier x range f)) s₀ → wayOf short quantifier wanted x f ≡ AsDivisor y k → RuleWay (columnsOf catalogue) short quantifier wanted x range f y k S5
@@ -205,6 +207,7 @@ module _ (catalogue : List ℕ) (s₀ : calculus.Scope) {short : Bool} {x : ℕ}
       never true d e = let z : _≡_ {A = ℕ} 0 1 = cc in absurd (omega arith)
       never false true e = let z : _≡_ {A = ℕ} 0 1 = cc in absurd (omega arith)
       never false false e = let z : _≡_ {A = ℕ} 0 1 = cc in absurd (omega arith)
+  divisor-way (AtLeast least) wanted y k g e = let z : _≡_ {A = ℕ} 0 1 = cc in absurd (omega arith)
 
 -- the ways that translate the condition itself: the scope behind them is P's and x
 abbrev Inner : Way → Type 0
@@ -221,6 +224,9 @@ inner-good Some (Division y k) catalogue short x range f s g e i = absurd (subst
 inner-good Every Itself catalogue short x range f s g e i = g .2
 inner-good Every Opposite catalogue short x range f s g e i = g .0 .2
 inner-good Every (Division y k) catalogue short x range f s g e i = absurd (false≢true (g .fits))
+inner-good (AtLeast least) Itself catalogue short x range f s g e i = g .2
+inner-good (AtLeast least) Opposite catalogue short x range f s g e i = g .0 .2
+inner-good (AtLeast least) (Division y k) catalogue short x range f s g e i = absurd (false≢true (g .fits))
 
 module _ (columns : ℕ → ℕ) (short : Bool) (x : ℕ) (range : Range) (f : Condition) where
   pub record DivisionWay (quantifier : Quantifier) (wanted : Wanted) : Type 0 where
@@ -246,6 +252,7 @@ module _ (columns : ℕ → ℕ) (short : Bool) (x : ℕ) (range : Range) (f : C
             fits = and-right short (shortRule5Fits x f) i;
             nodes = λ s p n. passed-over _ _ (short && shortRule4Fits x f) h ∙ chosen _ _ (short && shortRule5Fits x f) i;
           }
+  division-way (AtLeast least) wanted e = let z : _≡_ {A = ℕ} 0 1 = cc in absurd (omega arith)
 
   -- behind the range, P's product with it and T of the condition, so many nodes in all
   abbrev pub insideNodes : calculus.Scope → (p q : ℕ) → List Node
@@ -266,6 +273,11 @@ module _ (columns : ℕ → ℕ) (short : Bool) (x : ℕ) (range : Range) (f : C
       let d : last ≡ m - 1 = omega arith in
       let b : suc (suc last) ≡ m + 1 = omega arith in
       rw (b, e, d)
+
+  kept-at-least : (least columns′ p q last m : ℕ) → suc last ≡ m → tally p last least ∷ [] ≡ keptNodes (AtLeast least) columns′ p q m
+  kept-at-least least columns′ p q last m e =
+      let d : last ≡ m - 1 = omega arith in
+      ap (λ (k : ℕ). tally p k least ∷ []) d
 
   last-inside : (s : calculus.Scope) (p q : ℕ) → suc (lastNumber (suc q) (translateCondition columns short f itself (calculus.extend s x (widthOfRange columns range)) q (suc q))) ≡ q + length (insideNodes s p q)
   last-inside s p q = omega (arith, pred-is (suc q + length (translateCondition columns short f itself (calculus.extend s x (widthOfRange columns range)) q (suc q))))
@@ -289,6 +301,9 @@ module _ (columns : ℕ → ℕ) (short : Bool) (x : ℕ) (range : Range) (f : C
       go false h false i e = λ s p n.
           let q : ℕ = n + length (translateRange columns short range n) in
           passed-over _ _ (short && shortRule4Fits x f) h ∙ passed-over _ _ (short && shortRule5Fits x f) i ∙ ap (λ (nodes : List Node). (translateRange columns short range n ++ insideNodes s p q) ++ nodes) (kept-every (columnsIn s) p q _ _ (last-inside s p q))
+  plain-way (AtLeast least) wanted e = λ s p n.
+      let q : ℕ = n + length (translateRange columns short range n) in
+      ap (λ (nodes : List Node). (translateRange columns short range n ++ insideNodes s p q) ++ nodes) (kept-at-least least (columnsIn s) p q _ _ (last-inside s p q))
 
 -- What a way leaves, behind the range.
 module _ {catalogue : List ℕ} {short : Bool} {plan : List ℕ} {range : Range} {n : ℕ} {after : List ℕ} {made : MadeRange} (done : RangeDone catalogue short plan range n after made) where

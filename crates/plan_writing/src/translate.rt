@@ -281,7 +281,7 @@ fn translate_part(
     )
 }
 
-// Some, every: a short rule; the division of S5 by the "some" below; else range, product Q with P, T(f, Q), and of Q's rows what the quantifier keeps of P.
+// Some, every, at least: a short rule; the division of S5 by the "some" below; else range, product Q with P, T(f, Q), and of Q's rows what the quantifier keeps of P.
 // It calls itself there, so the compiler does not inline it: a "not" takes no room for what only a quantifier needs.
 fn translate_quantifier(
     catalogue: &[u32],

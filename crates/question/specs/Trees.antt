@@ -108,6 +108,7 @@ connected connective.Not left right = calculus.conditionNot left
 abbrev pub quantified : Quantifier → ℕ → calculus.Range → calculus.Condition → calculus.Condition
 quantified quantifier.Some variable range condition = calculus.forSome variable range condition
 quantified quantifier.Every variable range condition = calculus.forEvery variable range condition
+quantified (quantifier.AtLeast least) variable range condition = calculus.forAtLeast variable range condition least
 
 abbrev pub binderReading : Binder → ℕ → (b c : Reading) → Reading
 binderReading Binding variable b c = someBindings (calculus.bind variable (b .range) (c .bindings))

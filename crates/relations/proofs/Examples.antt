@@ -9,8 +9,8 @@ use Rattle.relations.specs.Limits.{columnLimit, listWords}
 use Rattle.relations.specs.Values.{Rows, Tables, canonical}
 use Rattle.relations.specs.Comparison.{less, equal}
 use Rattle.relations.specs.Columns.{attribute, constant, Pair}
-use Rattle.relations.specs.Operations.{joinCandidates, semijoinCandidates, antijoinCandidates, divideCandidates}
-use Rattle.relations.specs.Nodes.{Node, load, selectConstant, join, divide, unite}
+use Rattle.relations.specs.Operations.{joinCandidates, semijoinCandidates, antijoinCandidates, divideCandidates, tallyCandidates}
+use Rattle.relations.specs.Nodes.{Node, load, selectConstant, join, divide, unite, tally}
 use Rattle.relations.specs.Machine.{run}
 use Rattle.relations.specs.Plan.{heavy, room}
 use Rattle.relations.specs.Legality.{legalNode, legalNodes, legalPlan}
@@ -44,6 +44,10 @@ joined-less = refl
 pub kept-by-days : (semijoinCandidates [] there days ≡ there) × (antijoinCandidates [] there days ≡ []) × (antijoinCandidates [] there [] ≡ there)
 kept-by-days = (refl, refl, refl)
 
+-- 4 and 9 begin two rows each, 7 one
+pub there-twice : (tallyCandidates 2 ((4 ∷ []) ∷ (7 ∷ []) ∷ (9 ∷ []) ∷ []) there ≡ (4 ∷ []) ∷ (9 ∷ []) ∷ []) × (tallyCandidates 3 ((4 ∷ []) ∷ (7 ∷ []) ∷ (9 ∷ []) ∷ []) there ≡ [])
+there-twice = (refl, refl)
+
 abbrev tables : Tables
 tables relation = days
 
@@ -61,6 +65,13 @@ two-days = (refl, refl, refl)
 -- an unknown relation; a node that names itself; a left attribute twice; no column left; a value one column too wide
 pub illegal : (legalNode 1 [] (load 1) ≡ false) × (legalNode 1 [] (unite 0 0) ≡ false) × (legalNode 1 (3 ∷ 1 ∷ []) (divide 0 1 (byDay ++ byDay)) ≡ false) × (legalNode 1 (1 ∷ 1 ∷ []) (divide 0 1 (record { left = attribute 1; right = attribute 1 } ∷ [])) ≡ false) × (legalNode 1 (columnLimit ∷ 1 ∷ []) (join 0 1 []) ≡ false)
 illegal = (refl, refl, refl, refl, refl)
+
+-- operation 13: a right value that is not wider, no row asked for
+pub illegal-tally : (legalNode 1 (1 ∷ 2 ∷ []) (tally 0 1 2) ≡ true) × (legalNode 1 (2 ∷ 2 ∷ []) (tally 0 1 2) ≡ false) × (legalNode 1 (1 ∷ 2 ∷ []) (tally 0 1 0) ≡ false)
+illegal-tally = (refl, refl, refl)
+
+pub tally-words : nodeWords (tally 4 6 3) ≡ 13 ∷ 4 ∷ 6 ∷ 1 ∷ 3 ∷ replicate (listWords - 1) 0
+tally-words = refl
 
 pub load-words : nodeWords (load 2) ≡ 1 ∷ 2 ∷ 0 ∷ 0 ∷ replicate listWords 0
 load-words = refl

@@ -10,11 +10,11 @@ use lib.ListN.{length}
 use Rattle.relations.specs.Limits.{columnLimit, tripleLimit, pairLimit}
 use Rattle.relations.specs.Lists.{all, All}
 use Rattle.relations.specs.Columns.{Attribute, Triple, Pair, leftNumbers}
-use Rattle.relations.specs.Nodes.{Node, load, project, selectConstant, selectAttribute, join, semijoin, antijoin, divide, unite, intersect, subtract}
+use Rattle.relations.specs.Nodes.{Node, load, project, selectConstant, selectAttribute, join, semijoin, antijoin, divide, unite, intersect, subtract, tally}
 use Rattle.relations.specs.Machine.{run}
 use Rattle.relations.specs.Plan.{widthAt, widthOfNode}
 use Rattle.relations.specs.PlanWords.{countFits}
-use Rattle.relations.specs.Legality.{between, inside, tripleInside, pairInside, distinct, lower, legalTriples, legalSides, legalNode, legalNodes}
+use Rattle.relations.specs.Legality.{between, inside, tripleInside, pairInside, distinct, lower, legalTriples, legalSides, legalNode, legalNodes, legalTally}
 use Rattle.relations.proofs.BoolLaws.{and-left, and-right, and-both}
 use Rattle.relations.proofs.ListLaws.{all-mono, all-of, of-all}
 
@@ -39,6 +39,9 @@ SidesFacts made left right = (left < length made) × (right < length made) × (w
 abbrev pub DivideFacts : List ℕ → ℕ → ℕ → List Pair → Type 0
 DivideFacts made left right pairs = (left < length made) × (right < length made) × Between 1 pairLimit (length pairs) × All (PairInside (widthAt made left) (widthAt made right)) pairs × So (distinct (leftNumbers pairs)) × (length pairs < widthAt made left)
 
+abbrev pub TallyFacts : List ℕ → ℕ → ℕ → ℕ → Type 0
+TallyFacts made left right least = (left < length made) × (right < length made) × (widthAt made left < widthAt made right) × (1 ≤ least)
+
 -- a node's legality as facts
 abbrev pub LegalFacts : ℕ → List ℕ → Node → Type 0
 LegalFacts relations made (load relation) = relation < relations
@@ -52,6 +55,7 @@ LegalFacts relations made (divide left right pairs) = DivideFacts made left righ
 LegalFacts relations made (unite left right) = SidesFacts made left right
 LegalFacts relations made (intersect left right) = SidesFacts made left right
 LegalFacts relations made (subtract left right) = SidesFacts made left right
+LegalFacts relations made (tally left right least) = TallyFacts made left right least
 
 -- from facts to the test
 
@@ -94,6 +98,7 @@ legal-holds relations made (divide left right pairs) h =
 legal-holds relations made (unite left right) h = sides-so made left right h
 legal-holds relations made (intersect left right) h = sides-so made left right h
 legal-holds relations made (subtract left right) h = sides-so made left right h
+legal-holds relations made (tally left right least) h = rw (lower-so made left (h .0), lower-so made right (h .1), lt-ltb (widthAt made left) (widthAt made right) (h .2), le-leb 1 least (h .3))
 
 -- from the test to facts
 
@@ -134,6 +139,14 @@ so-divide made left right pairs h =
     let h₄ : So t₄ = and-right (all (pairInside w u) pairs) t₄ h₃ in
     (ltb-true left (length made) (and-left (lower made left) t₁ h), ltb-true right (length made) (and-left (lower made right) t₂ h₁), so-between 1 pairLimit (length pairs) (and-left (between 1 pairLimit (length pairs)) t₃ h₂), all-mono (so-pair w u) pairs (all-of (pairInside w u) pairs (and-left (all (pairInside w u) pairs) t₄ h₃)), and-left (distinct (leftNumbers pairs)) (ltb (length pairs) w) h₄, ltb-true (length pairs) w (and-right (distinct (leftNumbers pairs)) (ltb (length pairs) w) h₄))
 
+so-tally : (made : List ℕ) (left right least : ℕ) → So (legalTally made left right least) → TallyFacts made left right least
+so-tally made left right least h =
+    let wider : Bool = ltb (widthAt made left) (widthAt made right) in
+    let some-rows : Bool = leb 1 least in
+    let h₁ : So (lower made right && (wider && some-rows)) = and-right (lower made left) (lower made right && (wider && some-rows)) h in
+    let h₂ : So (wider && some-rows) = and-right (lower made right) (wider && some-rows) h₁ in
+    (ltb-true left (length made) (and-left (lower made left) (lower made right && (wider && some-rows)) h), ltb-true right (length made) (and-left (lower made right) (wider && some-rows) h₁), ltb-true (widthAt made left) (widthAt made right) (and-left wider some-rows h₂), leb-true 1 least (and-right wider some-rows h₂))
+
 pub legal-facts : (relations : ℕ) (made : List ℕ) (node : Node) → So (legalNode relations made node) → LegalFacts relations made node
 legal-facts relations made (load relation) h = ltb-true relation relations h
 legal-facts relations made (project left attributes) h =
@@ -156,6 +169,7 @@ legal-facts relations made (divide left right pairs) h = so-divide made left rig
 legal-facts relations made (unite left right) h = so-sides made left right h
 legal-facts relations made (intersect left right) h = so-sides made left right h
 legal-facts relations made (subtract left right) h = so-sides made left right h
+legal-facts relations made (tally left right least) h = so-tally made left right least h
 
 -- legal nodes, then more
 pub legal-append : (columns : ℕ → ℕ) (relations : ℕ) (made : List ℕ) (xs ys : List Node) → So (legalNodes columns relations made xs) → So (legalNodes columns relations (run (widthOfNode columns) made xs) ys) → So (legalNodes columns relations made (xs ++ ys))
@@ -181,3 +195,4 @@ legal-count relations made node h = go node (legal-facts relations made node h)
     go (unite left right) f = refl
     go (intersect left right) f = refl
     go (subtract left right) f = refl
+    go (tally left right least) f = refl

@@ -8,6 +8,7 @@ pub mod ComparisonLaws
 pub mod MachineLaws
 pub mod OperationLaws
 pub mod OrderLaws
+pub mod CountLaws
 pub mod CountZero
 pub mod WidthLaws
 pub mod LegalityLaws

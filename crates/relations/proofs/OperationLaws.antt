@@ -2,15 +2,17 @@
 use mathlib.Core.Path.{_≡_, refl, _∙_}
 use mathlib.Core.Bool.{Bool, not, _&&_}
 use mathlib.Core.List.{List, _++_, map}
-use Rattle.relations.specs.Lists.{any, all, filter}
-use Rattle.relations.specs.Rows.{Row, sameRow}
+use Prim.Native.Nat.{ℕ}
+use lib.Dec.{leb}
+use Rattle.relations.specs.Lists.{any, all, filter, howMany}
+use Rattle.relations.specs.Rows.{Row, sameRow, begins}
 use Rattle.relations.specs.Values.{Rows, member, canonical}
 use Rattle.relations.specs.Comparison.{Operator, holds}
 use Rattle.relations.specs.Columns.{Attribute, Constant, Triple, Pair, column, pick, meets, remaining}
-use Rattle.relations.specs.Meanings.{loadHas, projectHas, selectConstantHas, selectAttributeHas, joinHas, semijoinHas, antijoinHas, partnered, divideHas, uniteHas, intersectHas, subtractHas}
-use Rattle.relations.specs.Operations.{Exactly, loadCandidates, projectCandidates, selectConstantCandidates, selectAttributeCandidates, joinCandidates, semijoinCandidates, antijoinCandidates, divideCandidates, uniteCandidates, intersectCandidates, subtractCandidates}
+use Rattle.relations.specs.Meanings.{loadHas, projectHas, selectConstantHas, selectAttributeHas, joinHas, semijoinHas, antijoinHas, partnered, divideHas, uniteHas, intersectHas, subtractHas, tallyHas}
+use Rattle.relations.specs.Operations.{Exactly, loadCandidates, projectCandidates, selectConstantCandidates, selectAttributeCandidates, joinCandidates, semijoinCandidates, antijoinCandidates, divideCandidates, uniteCandidates, intersectCandidates, subtractCandidates, tallyCandidates}
 use Rattle.relations.specs.Values.{Tables}
-use Rattle.relations.specs.Nodes.{Node, load, project, selectConstant, selectAttribute, join, semijoin, antijoin, divide, unite, intersect, subtract}
+use Rattle.relations.specs.Nodes.{Node, load, project, selectConstant, selectAttribute, join, semijoin, antijoin, divide, unite, intersect, subtract, tally}
 use Rattle.relations.specs.Plan.{valueAt, nodeHas, valueOfNode}
 use Rattle.relations.proofs.ListLaws.{any-append, any-filter, any-flat, any-map, any-same}
 use Rattle.relations.proofs.ValueLaws.{ascending-canonical, member-canonical, member-filter, member-map}
@@ -64,6 +66,9 @@ intersect-exact left right = kept (λ t. member t right) left
 pub subtract-exact : (left right : Rows) → Exactly (subtractHas left right) (canonical (subtractCandidates left right))
 subtract-exact left right = kept (λ t. not (member t right)) left
 
+pub tally-exact : (least : ℕ) (left right : Rows) → Exactly (tallyHas least left right) (canonical (tallyCandidates least left right))
+tally-exact least left right = kept (λ t. leb least (howMany (begins t) right)) left
+
 pub node-exact : (tables : Tables) (made : List Rows) (node : Node) → Exactly (nodeHas tables made node) (valueOfNode tables made node)
 node-exact tables made (load relation) = load-exact (tables relation)
 node-exact tables made (project left attributes) = project-exact attributes (valueAt made left)
@@ -76,3 +81,4 @@ node-exact tables made (divide left right pairs) = divide-exact pairs (valueAt m
 node-exact tables made (unite left right) = unite-exact (valueAt made left) (valueAt made right)
 node-exact tables made (intersect left right) = intersect-exact (valueAt made left) (valueAt made right)
 node-exact tables made (subtract left right) = subtract-exact (valueAt made left) (valueAt made right)
+node-exact tables made (tally left right least) = tally-exact least (valueAt made left) (valueAt made right)

@@ -6,7 +6,7 @@ use native.Mathlib.Omega.{arith}
 use lib.ListN.{length}
 use Rattle.relations.specs.Limits.{columnLimit, planNodeLimit}
 use Rattle.relations.specs.Lists.{All}
-use Rattle.relations.specs.Nodes.{Node, load, project, selectConstant, selectAttribute, join, semijoin, antijoin, divide, unite, intersect, subtract}
+use Rattle.relations.specs.Nodes.{Node, load, project, selectConstant, selectAttribute, join, semijoin, antijoin, divide, unite, intersect, subtract, tally}
 use Rattle.relations.specs.Machine.{run}
 use Rattle.relations.specs.Plan.{widthAt, widthOfNode}
 use Rattle.relations.specs.Legality.{between, legalNode, legalNodes, legalPlan, WidthsNarrow}
@@ -40,6 +40,7 @@ module _ (columns : ℕ → ℕ) (relations : ℕ) (stored : (relation : ℕ) �
   narrow-node made h (unite left right) k = narrow-at made h left (k .0)
   narrow-node made h (intersect left right) k = narrow-at made h left (k .0)
   narrow-node made h (subtract left right) k = narrow-at made h left (k .0)
+  narrow-node made h (tally left right least) k = narrow-at made h left (k .0)
 
   narrow-run : (made : List ℕ) → All Narrow made → (nodes : List Node) → So (legalNodes columns relations made nodes) → All Narrow (run (widthOfNode columns) made nodes)
   unfolding run legalNodes

@@ -3,13 +3,15 @@ use mathlib.Core.Path.{sym, subst}
 use mathlib.Core.Bool.{Bool, not, So}
 use mathlib.Core.List.{List, [], _∷_, _++_}
 use Prim.Native.Nat.{ℕ, zero, suc}
+use lib.Dec.{leb}
 use lib.ListN.{length}
 use Rattle.relations.specs.Limits.{planNodeLimit}
-use Rattle.relations.specs.Lists.{any}
+use Rattle.relations.specs.Lists.{any, howMany}
+use Rattle.relations.specs.Rows.{begins}
 use Rattle.relations.specs.Values.{Rows, Tables, Wide, member}
 use Rattle.relations.specs.Comparison.{holds}
 use Rattle.relations.specs.Columns.{column, meets}
-use Rattle.relations.specs.Nodes.{Node, load, project, selectConstant, selectAttribute, join, semijoin, antijoin, divide, unite, intersect, subtract}
+use Rattle.relations.specs.Nodes.{Node, load, project, selectConstant, selectAttribute, join, semijoin, antijoin, divide, unite, intersect, subtract, tally}
 use Rattle.relations.specs.Machine.{run}
 use Rattle.relations.specs.Plan.{valueAt, widthAt, candidates, valueOfNode, widthOfNode}
 use Rattle.relations.specs.Legality.{between, legalNode, legalNodes, legalPlan, WidthsKept}
@@ -52,6 +54,7 @@ module _ (columns : ℕ → ℕ) (relations : ℕ) (tables : Tables) (stored : (
   node-wide ws vs h (unite left right) k = wide-unite (widthAt ws left) (valueAt vs left) (valueAt vs right) (agree-at ws vs h left) (subst (λ w. Wide w (valueAt vs right)) (sym (k .2)) (agree-at ws vs h right))
   node-wide ws vs h (intersect left right) k = wide-filter (widthAt ws left) (λ t. member t (valueAt vs right)) (valueAt vs left) (agree-at ws vs h left)
   node-wide ws vs h (subtract left right) k = wide-filter (widthAt ws left) (λ t. not (member t (valueAt vs right))) (valueAt vs left) (agree-at ws vs h left)
+  node-wide ws vs h (tally left right least) k = wide-filter (widthAt ws left) (λ t. leb least (howMany (begins t) (valueAt vs right))) (valueAt vs left) (agree-at ws vs h left)
 
   agree-run : (ws : List ℕ) (vs : List Rows) → Agree ws vs → (nodes : List Node) → So (legalNodes columns relations ws nodes) → Agree (run (widthOfNode columns) ws nodes) (run (valueOfNode tables) vs nodes)
   unfolding run legalNodes

@@ -12,7 +12,7 @@ use lib.Seq.{take-at, drop-at}
 use Rattle.relations.specs.Limits.{planNodeWords, listWords}
 use Rattle.relations.specs.Lists.{flat}
 use Rattle.relations.specs.Columns.{Attribute, attribute, Triple, Pair}
-use Rattle.relations.specs.Nodes.{Node, load, project, selectConstant, selectAttribute, join, semijoin, antijoin, divide, unite, intersect, subtract, Operation, loading, projecting, selectingConstant, selectingAttribute, joining, semijoining, antijoining, dividing, uniting, intersecting, subtracting, operationOfNode, operationNumber, operationOf}
+use Rattle.relations.specs.Nodes.{Node, load, project, selectConstant, selectAttribute, join, semijoin, antijoin, divide, unite, intersect, subtract, tally, Operation, loading, projecting, selectingConstant, selectingAttribute, joining, semijoining, antijoining, dividing, uniting, intersecting, subtracting, tallying, operationOfNode, operationNumber, operationOf}
 use Rattle.relations.specs.Legality.{between}
 use Rattle.relations.specs.PlanWords.{Shape, shapeOf, tripleWords, pairWords, Parts, partsOf, nodeWords, countFits, allZero, shapeFits, readTriples, readPairs, readParts, readKnown, readNode}
 use Rattle.relations.proofs.BoolLaws.{and-right, and-both}
@@ -53,6 +53,7 @@ used-words (divide left right pairs) = length-flat 2 pairWords pairs (λ p. refl
 used-words (unite left right) = refl
 used-words (intersect left right) = refl
 used-words (subtract left right) = refl
+used-words (tally left right least) = refl
 
 -- the most that an operation's list takes
 pub shape-room : (operation : Operation) (count : ℕ) → count ≤ shapeOf operation .mostCount → shapeOf operation .unit * count ≤ listWords
@@ -67,6 +68,7 @@ shape-room dividing count h = omega arith
 shape-room uniting count h = omega arith
 shape-room intersecting count h = omega arith
 shape-room subtracting count h = omega arith
+shape-room tallying count h = omega arith
 
 list-fits : (node : Node) → So (countFits node) → length (partsOf node .list) ≤ listWords
 list-fits node h =
@@ -91,6 +93,7 @@ right-fits (divide left right pairs) = refl
 right-fits (unite left right) = refl
 right-fits (intersect left right) = refl
 right-fits (subtract left right) = refl
+right-fits (tally left right least) = refl
 
 parts-back : (node : Node) (n : ℕ) → readParts (operationOfNode node) (partsOf node .left) (partsOf node .right) (partsOf node .count) (partsOf node .list ++ replicate n 0) ≡ some node
 parts-back (load relation) n = refl
@@ -104,6 +107,7 @@ parts-back (divide left right pairs) n = rw (pairs-back pairs (replicate n 0))
 parts-back (unite left right) n = refl
 parts-back (intersect left right) n = refl
 parts-back (subtract left right) n = refl
+parts-back (tally left right least) n = refl
 
 operation-back : (operation : Operation) → operationOf (operationNumber operation) ≡ some operation
 operation-back loading = refl
@@ -117,6 +121,7 @@ operation-back dividing = refl
 operation-back uniting = refl
 operation-back intersecting = refl
 operation-back subtracting = refl
+operation-back tallying = refl
 
 pub words-back : (node : Node) → So (countFits node) → readNode (nodeWords node) ≡ some node
 words-back node h =

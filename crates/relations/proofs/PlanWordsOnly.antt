@@ -13,7 +13,7 @@ use Rattle.relations.specs.Limits.{planNodeWords, headWords, listWords}
 use Rattle.relations.specs.Lists.{flat}
 use Rattle.relations.specs.Comparison.{Operator, operatorNumber, operatorOf}
 use Rattle.relations.specs.Columns.{attribute, constant, Triple}
-use Rattle.relations.specs.Nodes.{Node, load, project, selectConstant, selectAttribute, join, semijoin, antijoin, divide, unite, intersect, subtract, Operation, loading, projecting, selectingConstant, selectingAttribute, joining, semijoining, antijoining, dividing, uniting, intersecting, subtracting, operationOfNode, operationNumber, operationOf}
+use Rattle.relations.specs.Nodes.{Node, load, project, selectConstant, selectAttribute, join, semijoin, antijoin, divide, unite, intersect, subtract, tally, Operation, loading, projecting, selectingConstant, selectingAttribute, joining, semijoining, antijoining, dividing, uniting, intersecting, subtracting, tallying, operationOfNode, operationNumber, operationOf}
 use Rattle.relations.specs.Legality.{between}
 use Rattle.relations.specs.PlanWords.{shapeOf, tripleWords, pairWords, Parts, partsOf, partsWords, nodeWords, countFits, allZero, shapeFits, withOperator, tripleBefore, readTriples, readPairs, readParts, readKnown, readNode, WordsAndBack}
 use Rattle.relations.proofs.BoolLaws.{and-left, and-right}
@@ -29,27 +29,28 @@ numbers-back [] = refl
 numbers-back (x ∷ numbers) = ap (λ rest. x ∷ rest) (numbers-back numbers)
 
 operation-only : (number : ℕ) (operation : Operation) → operationOf number ≡ some operation → operationNumber operation ≡ number
-operation-only number operation h = go (eqb number 1) (eqb number 2) (eqb number 3) (eqb number 4) (eqb number 5) (eqb number 6) (eqb number 7) (eqb number 8) (eqb number 9) (eqb number 10) (eqb number 11) refl refl refl refl refl refl refl refl refl refl refl h
+operation-only number operation h = go (eqb number 1) (eqb number 2) (eqb number 3) (eqb number 4) (eqb number 5) (eqb number 6) (eqb number 7) (eqb number 8) (eqb number 9) (eqb number 10) (eqb number 11) (eqb number 13) refl refl refl refl refl refl refl refl refl refl refl refl h
   where
     is : (k : ℕ) (p : Operation) → operationNumber p ≡ k → eqb number k ≡ true → Path (Option Operation) (some p) (some operation) → operationNumber operation ≡ number
     is k p e t q =
         let same : p ≡ operation = cc in
         sym (ap operationNumber same) ∙ (e ∙ sym (eqb-true number k t))
 
-    go : (a b c d e f g h i j k : Bool) → eqb number 1 ≡ a → eqb number 2 ≡ b → eqb number 3 ≡ c → eqb number 4 ≡ d → eqb number 5 ≡ e → eqb number 6 ≡ f → eqb number 7 ≡ g → eqb number 8 ≡ h → eqb number 9 ≡ i → eqb number 10 ≡ j → eqb number 11 ≡ k
-        → cond a (some loading) (cond b (some projecting) (cond c (some selectingConstant) (cond d (some selectingAttribute) (cond e (some joining) (cond f (some semijoining) (cond g (some antijoining) (cond h (some dividing) (cond i (some uniting) (cond j (some intersecting) (cond k (some subtracting) none)))))))))) ≡ some operation → operationNumber operation ≡ number
-    go true b c d e f g h i j k h₁ h₂ h₃ h₄ h₅ h₆ h₇ h₈ h₉ h₁₀ h₁₁ q = is 1 loading refl h₁ q
-    go false true c d e f g h i j k h₁ h₂ h₃ h₄ h₅ h₆ h₇ h₈ h₉ h₁₀ h₁₁ q = is 2 projecting refl h₂ q
-    go false false true d e f g h i j k h₁ h₂ h₃ h₄ h₅ h₆ h₇ h₈ h₉ h₁₀ h₁₁ q = is 3 selectingConstant refl h₃ q
-    go false false false true e f g h i j k h₁ h₂ h₃ h₄ h₅ h₆ h₇ h₈ h₉ h₁₀ h₁₁ q = is 4 selectingAttribute refl h₄ q
-    go false false false false true f g h i j k h₁ h₂ h₃ h₄ h₅ h₆ h₇ h₈ h₉ h₁₀ h₁₁ q = is 5 joining refl h₅ q
-    go false false false false false true g h i j k h₁ h₂ h₃ h₄ h₅ h₆ h₇ h₈ h₉ h₁₀ h₁₁ q = is 6 semijoining refl h₆ q
-    go false false false false false false true h i j k h₁ h₂ h₃ h₄ h₅ h₆ h₇ h₈ h₉ h₁₀ h₁₁ q = is 7 antijoining refl h₇ q
-    go false false false false false false false true i j k h₁ h₂ h₃ h₄ h₅ h₆ h₇ h₈ h₉ h₁₀ h₁₁ q = is 8 dividing refl h₈ q
-    go false false false false false false false false true j k h₁ h₂ h₃ h₄ h₅ h₆ h₇ h₈ h₉ h₁₀ h₁₁ q = is 9 uniting refl h₉ q
-    go false false false false false false false false false true k h₁ h₂ h₃ h₄ h₅ h₆ h₇ h₈ h₉ h₁₀ h₁₁ q = is 10 intersecting refl h₁₀ q
-    go false false false false false false false false false false true h₁ h₂ h₃ h₄ h₅ h₆ h₇ h₈ h₉ h₁₀ h₁₁ q = is 11 subtracting refl h₁₁ q
-    go false false false false false false false false false false false h₁ h₂ h₃ h₄ h₅ h₆ h₇ h₈ h₉ h₁₀ h₁₁ q = absurd (let z : _≡_ {A = ℕ} 0 1 = cc in omega arith)
+    go : (a b c d e f g h i j k l : Bool) → eqb number 1 ≡ a → eqb number 2 ≡ b → eqb number 3 ≡ c → eqb number 4 ≡ d → eqb number 5 ≡ e → eqb number 6 ≡ f → eqb number 7 ≡ g → eqb number 8 ≡ h → eqb number 9 ≡ i → eqb number 10 ≡ j → eqb number 11 ≡ k → eqb number 13 ≡ l
+        → cond a (some loading) (cond b (some projecting) (cond c (some selectingConstant) (cond d (some selectingAttribute) (cond e (some joining) (cond f (some semijoining) (cond g (some antijoining) (cond h (some dividing) (cond i (some uniting) (cond j (some intersecting) (cond k (some subtracting) (cond l (some tallying) none))))))))))) ≡ some operation → operationNumber operation ≡ number
+    go true b c d e f g h i j k l h₁ h₂ h₃ h₄ h₅ h₆ h₇ h₈ h₉ h₁₀ h₁₁ h₁₃ q = is 1 loading refl h₁ q
+    go false true c d e f g h i j k l h₁ h₂ h₃ h₄ h₅ h₆ h₇ h₈ h₉ h₁₀ h₁₁ h₁₃ q = is 2 projecting refl h₂ q
+    go false false true d e f g h i j k l h₁ h₂ h₃ h₄ h₅ h₆ h₇ h₈ h₉ h₁₀ h₁₁ h₁₃ q = is 3 selectingConstant refl h₃ q
+    go false false false true e f g h i j k l h₁ h₂ h₃ h₄ h₅ h₆ h₇ h₈ h₉ h₁₀ h₁₁ h₁₃ q = is 4 selectingAttribute refl h₄ q
+    go false false false false true f g h i j k l h₁ h₂ h₃ h₄ h₅ h₆ h₇ h₈ h₉ h₁₀ h₁₁ h₁₃ q = is 5 joining refl h₅ q
+    go false false false false false true g h i j k l h₁ h₂ h₃ h₄ h₅ h₆ h₇ h₈ h₉ h₁₀ h₁₁ h₁₃ q = is 6 semijoining refl h₆ q
+    go false false false false false false true h i j k l h₁ h₂ h₃ h₄ h₅ h₆ h₇ h₈ h₉ h₁₀ h₁₁ h₁₃ q = is 7 antijoining refl h₇ q
+    go false false false false false false false true i j k l h₁ h₂ h₃ h₄ h₅ h₆ h₇ h₈ h₉ h₁₀ h₁₁ h₁₃ q = is 8 dividing refl h₈ q
+    go false false false false false false false false true j k l h₁ h₂ h₃ h₄ h₅ h₆ h₇ h₈ h₉ h₁₀ h₁₁ h₁₃ q = is 9 uniting refl h₉ q
+    go false false false false false false false false false true k l h₁ h₂ h₃ h₄ h₅ h₆ h₇ h₈ h₉ h₁₀ h₁₁ h₁₃ q = is 10 intersecting refl h₁₀ q
+    go false false false false false false false false false false true l h₁ h₂ h₃ h₄ h₅ h₆ h₇ h₈ h₉ h₁₀ h₁₁ h₁₃ q = is 11 subtracting refl h₁₁ q
+    go false false false false false false false false false false false true h₁ h₂ h₃ h₄ h₅ h₆ h₇ h₈ h₉ h₁₀ h₁₁ h₁₃ q = is 13 tallying refl h₁₃ q
+    go false false false false false false false false false false false false h₁ h₂ h₃ h₄ h₅ h₆ h₇ h₈ h₉ h₁₀ h₁₁ h₁₃ q = absurd (let z : _≡_ {A = ℕ} 0 1 = cc in omega arith)
 
 triples-only : (count : ℕ) (list : List ℕ) (triples : List Triple) → readTriples count list ≡ some triples → 3 * count ≤ length list → (length triples ≡ count) × (flat tripleWords triples ≡ take (3 * count) list)
 triples-only zero list triples h room =
@@ -118,6 +119,17 @@ module _ (l r n : ℕ) (words : List ℕ) (node : Node) where
           let list : getD words 0 0 ∷ operatorNumber o ∷ getD words 2 0 ∷ [] ≡ take (shapeOf operation .unit * n) words = ap (λ i. getD words 0 0 ∷ i ∷ getD words 2 0 ∷ []) (operator-only (getD words 1 0) o f) ∙ (three words room ∙ sym (ap (λ k. take k words) used)) in
           has-read operation l r n words (make (getD words 0 0) o (getD words 2 0)) node k (e (getD words 0 0) o (getD words 2 0), p (getD words 0 0) o (getD words 2 0) ∙ (ap₂ {C = Parts} (λ i k. record { left = l; right = i; count = k; list = getD words 0 0 ∷ operatorNumber o ∷ getD words 2 0 ∷ [] }) (sym rz) (sym z) ∙ ap {B = Parts} (λ used. record { left = l; right = r; count = n; list = used }) list))
 
+  -- one number
+  one-number : (operation : Operation) (make : ℕ → Node) → shapeOf operation .unit ≡ 1 → n ≡ 1 → 1 ≤ length words → ((a : ℕ) → operationOfNode (make a) ≡ operation) → ((a : ℕ) → partsOf (make a) ≡ record { left = l; right = r; count = 1; list = a ∷ [] }) → Path (Option Node) (some (make (getD words 0 0))) (some node) → HasParts operation l r n words node
+  one-number operation make u z room e p q = has-read operation l r n words (make (getD words 0 0)) node q (e (getD words 0 0), p (getD words 0 0) ∙ ap₂ {C = Parts} (λ k used. record { left = l; right = r; count = k; list = used }) (sym z) (one words room ∙ sym (ap (λ k. take k words) used)))
+    where
+      one : (list : List ℕ) → 1 ≤ length list → getD list 0 0 ∷ [] ≡ take 1 list
+      one [] h = absurd (omega arith)
+      one (a ∷ list) h = refl
+
+      used : shapeOf operation .unit * n ≡ 1
+      used = ap₂ _*_ u z
+
   -- a node of triples
   some-triples : (operation : Operation) (make : List Triple → Node) → shapeOf operation .unit ≡ 3 → 3 * n ≤ length words → ((triples : List Triple) → operationOfNode (make triples) ≡ operation) → ((triples : List Triple) → partsOf (make triples) ≡ record { left = l; right = r; count = length triples; list = flat tripleWords triples }) → Option·map make (readTriples n words) ≡ some node → HasParts operation l r n words node
   some-triples operation make u room e p q = go (readTriples n words) refl q
@@ -147,6 +159,7 @@ module _ (l r n : ℕ) (words : List ℕ) (node : Node) where
   parts-only uniting side least most room h = no-list uniting (unite l r) refl (omega arith) refl refl h
   parts-only intersecting side least most room h = no-list intersecting (intersect l r) refl (omega arith) refl refl h
   parts-only subtracting side least most room h = no-list subtracting (subtract l r) refl (omega arith) refl refl h
+  parts-only tallying side least most room h = one-number tallying (tally l r) refl (omega arith) (omega arith) (λ a. refl) (λ a. refl) h
 
 head-split : (words : List ℕ) → length words ≡ planNodeWords → getD words 0 0 ∷ getD words 1 0 ∷ getD words 2 0 ∷ getD words 3 0 ∷ drop headWords words ≡ words
 head-split [] h = absurd (omega arith)

@@ -9,7 +9,7 @@ use Rattle.relations.specs.Limits.{columnLimit, tripleLimit, pairLimit, 
 use Rattle.relations.specs.Lists.{all}
 use Rattle.relations.specs.Values.{Tables, Wide}
 use Rattle.relations.specs.Columns.{Attribute, Triple, Pair, listed, leftNumbers}
-use Rattle.relations.specs.Nodes.{Node, load, project, selectConstant, selectAttribute, join, semijoin, antijoin, divide, unite, intersect, subtract}
+use Rattle.relations.specs.Nodes.{Node, load, project, selectConstant, selectAttribute, join, semijoin, antijoin, divide, unite, intersect, subtract, tally}
 use Rattle.relations.specs.Plan.{widthAt, widthOfNode, values, widths, valueAt}
 
 abbrev pub between : ℕ → ℕ → ℕ → Bool
@@ -41,6 +41,10 @@ legalTriples made left right triples = lower made left && (lower made right && (
 abbrev pub legalSides : List ℕ → ℕ → ℕ → Bool
 legalSides made left right = lower made left && (lower made right && eqb (widthAt made left) (widthAt made right))
 
+-- 13: two references, the right one wider, "count 1 holding k", which is at least 1
+abbrev pub legalTally : List ℕ → ℕ → ℕ → ℕ → Bool
+legalTally made left right least = lower made left && (lower made right && (ltb (widthAt made left) (widthAt made right) && leb 1 least))
+
 -- a node, given how many relations there are and the widths of the nodes before it
 -- only a join is wider than what it reads, so only it can pass the column limit
 abbrev pub legalNode : ℕ → List ℕ → Node → Bool
@@ -55,6 +59,7 @@ legalNode relations made (divide left right pairs) = lower made left && (lower m
 legalNode relations made (unite left right) = legalSides made left right
 legalNode relations made (intersect left right) = legalSides made left right
 legalNode relations made (subtract left right) = legalSides made left right
+legalNode relations made (tally left right least) = legalTally made left right least
 
 -- columns: the catalogue's columns of each relation
 module _ (columns : ℕ → ℕ) (relations : ℕ) where

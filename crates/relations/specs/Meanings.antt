@@ -2,8 +2,10 @@
 -- Each is the test of 000's set { row | .. }: "any (λ t. ..) left" is "some t of e1", "all (λ r. ..) right" is "every r of e2".
 use mathlib.Core.Bool.{Bool, not, _&&_, _||_}
 use mathlib.Core.List.{List, _++_}
-use Rattle.relations.specs.Lists.{any, all}
-use Rattle.relations.specs.Rows.{Row, sameRow}
+use Prim.Native.Nat.{ℕ}
+use lib.Dec.{leb}
+use Rattle.relations.specs.Lists.{any, all, howMany}
+use Rattle.relations.specs.Rows.{Row, sameRow, begins}
 use Rattle.relations.specs.Values.{Rows, member}
 use Rattle.relations.specs.Comparison.{Operator, holds}
 use Rattle.relations.specs.Columns.{Attribute, Constant, Triple, Pair, column, pick, meets, equalOn, remaining}
@@ -54,3 +56,7 @@ intersectHas left right row = member row left && member row right
 -- 11: { t | t ∈ e1 ∧ t ∉ e2 }
 abbrev pub subtractHas : Rows → Rows → Row → Bool
 subtractHas left right row = member row left && not (member row right)
+
+-- 13: { t | t ∈ e1 ∧ #{ s | s ∈ e2 ∧ t begins s } ≥ least }; a value has each of its rows once, so that different rows are counted
+abbrev pub tallyHas : ℕ → Rows → Rows → Row → Bool
+tallyHas least left right row = member row left && leb least (howMany (begins row) right)

@@ -3,8 +3,10 @@
 use mathlib.Core.Path.{_≡_}
 use mathlib.Core.Bool.{Bool, not}
 use mathlib.Core.List.{List, _++_, map}
-use Rattle.relations.specs.Lists.{any, all, filter, flat}
-use Rattle.relations.specs.Rows.{Row}
+use Prim.Native.Nat.{ℕ}
+use lib.Dec.{leb}
+use Rattle.relations.specs.Lists.{any, all, filter, howMany, flat}
+use Rattle.relations.specs.Rows.{Row, begins}
 use Rattle.relations.specs.Values.{Rows, member, Ascending}
 use Rattle.relations.specs.Comparison.{Operator, holds}
 use Rattle.relations.specs.Columns.{Attribute, Constant, Triple, Pair, column, pick, meets, remaining}
@@ -23,7 +25,7 @@ loadCandidates stored = stored
 abbrev pub projectCandidates : List Attribute → Rows → Rows
 projectCandidates attributes left = map (pick attributes) left
 
--- the left rows that are kept: so in all of 3, 4, 6, 7, 10 and 11
+-- the left rows that are kept: so in all of 3, 4, 6, 7, 10, 11 and 13
 abbrev pub selectConstantCandidates : Attribute → Operator → Constant → Rows → Rows
 selectConstantCandidates a operator c left = filter (λ t. holds operator (column t a) (c .value)) left
 
@@ -53,3 +55,6 @@ intersectCandidates left right = filter (λ t. member t right) left
 
 abbrev pub subtractCandidates : Rows → Rows → Rows
 subtractCandidates left right = filter (λ t. not (member t right)) left
+
+abbrev pub tallyCandidates : ℕ → Rows → Rows → Rows
+tallyCandidates least left right = filter (λ t. leb least (howMany (begins t) right)) left

@@ -6,9 +6,9 @@ use lib.ListN.{getD, length}
 use Rattle.relations.specs.Lists.{filter}
 use Rattle.relations.specs.Rows.{Row}
 use Rattle.relations.specs.Values.{Rows, Tables, canonical}
-use Rattle.relations.specs.Meanings.{loadHas, projectHas, selectConstantHas, selectAttributeHas, joinHas, semijoinHas, antijoinHas, divideHas, uniteHas, intersectHas, subtractHas}
-use Rattle.relations.specs.Operations.{loadCandidates, projectCandidates, selectConstantCandidates, selectAttributeCandidates, joinCandidates, semijoinCandidates, antijoinCandidates, divideCandidates, uniteCandidates, intersectCandidates, subtractCandidates}
-use Rattle.relations.specs.Nodes.{Node, load, project, selectConstant, selectAttribute, join, semijoin, antijoin, divide, unite, intersect, subtract, operationOfNode, heavyOperation}
+use Rattle.relations.specs.Meanings.{loadHas, projectHas, selectConstantHas, selectAttributeHas, joinHas, semijoinHas, antijoinHas, divideHas, uniteHas, intersectHas, subtractHas, tallyHas}
+use Rattle.relations.specs.Operations.{loadCandidates, projectCandidates, selectConstantCandidates, selectAttributeCandidates, joinCandidates, semijoinCandidates, antijoinCandidates, divideCandidates, uniteCandidates, intersectCandidates, subtractCandidates, tallyCandidates}
+use Rattle.relations.specs.Nodes.{Node, load, project, selectConstant, selectAttribute, join, semijoin, antijoin, divide, unite, intersect, subtract, tally, operationOfNode, heavyOperation}
 use Rattle.relations.specs.Machine.{run, lastOr}
 
 -- the value of an earlier node
@@ -28,6 +28,7 @@ module _ (tables : Tables) where
   candidates made (unite left right) = uniteCandidates (valueAt made left) (valueAt made right)
   candidates made (intersect left right) = intersectCandidates (valueAt made left) (valueAt made right)
   candidates made (subtract left right) = subtractCandidates (valueAt made left) (valueAt made right)
+  candidates made (tally left right least) = tallyCandidates least (valueAt made left) (valueAt made right)
 
   -- the published meaning of a node, given the values before it
   abbrev pub nodeHas : List Rows → Node → Row → Bool
@@ -42,6 +43,7 @@ module _ (tables : Tables) where
   nodeHas made (unite left right) = uniteHas (valueAt made left) (valueAt made right)
   nodeHas made (intersect left right) = intersectHas (valueAt made left) (valueAt made right)
   nodeHas made (subtract left right) = subtractHas (valueAt made left) (valueAt made right)
+  nodeHas made (tally left right least) = tallyHas least (valueAt made left) (valueAt made right)
 
   -- a node's value, given the values before it: exactly the rows of its meaning (proofs/OperationLaws, node-exact)
   abbrev pub valueOfNode : List Rows → Node → Rows
@@ -73,6 +75,7 @@ module _ (columns : ℕ → ℕ) where
   widthOfNode made (unite left right) = widthAt made left
   widthOfNode made (intersect left right) = widthAt made left
   widthOfNode made (subtract left right) = widthAt made left
+  widthOfNode made (tally left right least) = widthAt made left
 
   abbrev pub widths : List Node → List ℕ
   widths plan = run widthOfNode [] plan

@@ -10,7 +10,7 @@ use Rattle.relations.specs.Limits.{columnLimit, planNodeWords, headWords
 use Rattle.relations.specs.Lists.{all, flat}
 use Rattle.relations.specs.Comparison.{Operator, operatorNumber, operatorOf}
 use Rattle.relations.specs.Columns.{attribute, constant, Triple, Pair}
-use Rattle.relations.specs.Nodes.{Node, load, project, selectConstant, selectAttribute, join, semijoin, antijoin, divide, unite, intersect, subtract, Operation, loading, projecting, selectingConstant, selectingAttribute, joining, semijoining, antijoining, dividing, uniting, intersecting, subtracting, operationOfNode, operationNumber, operationOf}
+use Rattle.relations.specs.Nodes.{Node, load, project, selectConstant, selectAttribute, join, semijoin, antijoin, divide, unite, intersect, subtract, tally, Operation, loading, projecting, selectingConstant, selectingAttribute, joining, semijoining, antijoining, dividing, uniting, intersecting, subtracting, tallying, operationOfNode, operationNumber, operationOf}
 use Rattle.relations.specs.Legality.{between}
 
 -- which words of a node its operation uses
@@ -33,6 +33,7 @@ shapeOf dividing = record { usesRight = true; leastCount = 1; mostCount = pairLi
 shapeOf uniting = record { usesRight = true; leastCount = 0; mostCount = 0; unit = 0 }
 shapeOf intersecting = record { usesRight = true; leastCount = 0; mostCount = 0; unit = 0 }
 shapeOf subtracting = record { usesRight = true; leastCount = 0; mostCount = 0; unit = 0 }
+shapeOf tallying = record { usesRight = true; leastCount = 1; mostCount = 1; unit = 1 }
 
 -- writing
 
@@ -61,6 +62,7 @@ partsOf (divide l r pairs) = record { left = l; right = r; count = length pairs;
 partsOf (unite l r) = record { left = l; right = r; count = 0; list = [] }
 partsOf (intersect l r) = record { left = l; right = r; count = 0; list = [] }
 partsOf (subtract l r) = record { left = l; right = r; count = 0; list = [] }
+partsOf (tally l r least) = record { left = l; right = r; count = 1; list = least ∷ [] }
 
 abbrev pub partsWords : ℕ → Parts → List ℕ
 partsWords number parts = number ∷ parts .left ∷ parts .right ∷ parts .count ∷ (parts .list ++ replicate (listWords - length (parts .list)) 0)
@@ -111,6 +113,7 @@ readParts dividing left right count list = some (divide left right (readPairs co
 readParts uniting left right count list = some (unite left right)
 readParts intersecting left right count list = some (intersect left right)
 readParts subtracting left right count list = some (subtract left right)
+readParts tallying left right count list = some (tally left right (getD list 0 0))
 
 abbrev pub readKnown : Option Operation → List ℕ → Option Node
 readKnown none words = none

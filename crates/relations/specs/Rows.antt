@@ -3,6 +3,7 @@ use mathlib.Core.Bool.{Bool, true, false, _&&_, _||_}
 use mathlib.Core.List.{List, [], _∷_}
 use Prim.Native.Nat.{ℕ}
 use lib.Dec.{ltb, eqb}
+use lib.ListN.{length, take}
 
 -- a row: its words, first column first
 abbrev pub Row : Type 0
@@ -13,6 +14,10 @@ sameRow [] [] = true
 sameRow [] (y ∷ ys) = false
 sameRow (x ∷ xs) [] = false
 sameRow (x ∷ xs) (y ∷ ys) = eqb x y && sameRow xs ys
+
+-- the second row's first columns are the first row
+abbrev pub begins : Row → Row → Bool
+begins row longer = sameRow row (take (length row) longer)
 
 abbrev pub rowBefore : Row → Row → Bool
 rowBefore [] [] = false

@@ -6,7 +6,7 @@ ghost use Rattle.relations.specs.Nodes.{heavyNumber, weightOf};
 pub fn weight(operation: u32) -> u32
     ensures { λ r. ⌜ r ≡ weightOf (heavyNumber operation) ⌝ }
 {
-    if (operation == 5) | ((8 <= operation) & (operation <= 11)) {
+    if (operation == 5) | ((8 <= operation) & (operation <= 11)) | (operation == 13) {
         1
     } else {
         0

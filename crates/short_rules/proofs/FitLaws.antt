@@ -13,7 +13,7 @@ use Rattle.calculus.specs.Question.{Range, Condition, forSome, conditionNodes}
 use Rattle.calculus.specs.ShortRules.{shortRule2Fits, shortRule3Fits, shortRule5Fits, shortRule6Fits}
 use Rattle.question.specs.Trees.{Reading, readingOf}
 use Rattle.nodes.specs.declared.node.Connective.the-variants.{And, Or, Not}
-use Rattle.nodes.specs.declared.node.Quantifier.the-variants.{Some, Every}
+use Rattle.nodes.specs.declared.node.Quantifier.the-variants.{Some, Every, AtLeast}
 use Rattle.nodes.specs.declared.node.Binder.the-variants.{Binding, Quantifies}
 use Rattle.nodes.specs.declared.node.Form.{Form}
 use Rattle.nodes.specs.declared.node.Form.the-variants.{Table, Alpha, Target, Binds, Combines, Compares, Connects, IllFormed}
@@ -37,6 +37,7 @@ some-is (Target variable attribute) h = absurd (omega arith)
 some-is (Binds variable Binding) h = absurd (omega arith)
 some-is (Binds variable (Quantifies Some)) h = refl
 some-is (Binds variable (Quantifies Every)) h = absurd (omega arith)
+some-is (Binds variable (Quantifies (AtLeast least))) h = absurd (omega arith)
 some-is (Combines combination) h = absurd (omega arith)
 some-is (Compares atom) h = absurd (omega arith)
 some-is (Connects connective) h = absurd (omega arith)
@@ -76,6 +77,7 @@ not-divided y (Target variable attribute) a b c fits h = refl
 not-divided y (Binds variable Binding) a b c fits h = refl
 not-divided y (Binds variable (Quantifies Some)) a b c fits h = absurd (omega (arith, fits))
 not-divided y (Binds variable (Quantifies Every)) a b c fits h = refl
+not-divided y (Binds variable (Quantifies (AtLeast least))) a b c fits h = refl
 not-divided y (Combines combination) a b c fits h = refl
 not-divided y (Compares atom) a b c fits h = refl
 not-divided y (Connects And) a b c fits h = refl
@@ -90,6 +92,7 @@ atom-opposite (Target variable attribute) a b c fits h = refl
 atom-opposite (Binds variable Binding) a b c fits h = refl
 atom-opposite (Binds variable (Quantifies Some)) a b c fits h = absurd (omega (arith, fits))
 atom-opposite (Binds variable (Quantifies Every)) a b c fits h = refl
+atom-opposite (Binds variable (Quantifies (AtLeast least))) a b c fits h = refl
 atom-opposite (Combines combination) a b c fits h = refl
 atom-opposite (Compares atom) a b c fits h = refl
 atom-opposite (Connects And) a b c fits h = refl

@@ -4,7 +4,7 @@ use mathlib.Core.Bool.{Bool, true, false, _||_}
 use Rattle.calculus.specs.Question.{Condition}
 use Rattle.calculus.specs.ShortRules.{shortRule2Fits, shortRule3Fits, shortRule4Fits, shortRule5Fits, shortRule6Fits}
 use Rattle.relations.specs.Limits.{variableCount}
-use Rattle.nodes.specs.declared.node.Quantifier.the-variants.{Some, Every}
+use Rattle.nodes.specs.declared.node.Quantifier.the-variants.{Some, Every, AtLeast}
 use Rattle.nodes.specs.declared.node.Binder.the-variants.{Binding, Quantifies}
 use Rattle.nodes.specs.declared.node.Form.{Form}
 use Rattle.nodes.specs.declared.node.Form.the-variants.{Table, Alpha, Target, Binds, Combines, Compares, Connects, IllFormed}
@@ -26,6 +26,7 @@ someVariable (Target variable attribute) = variableCount
 someVariable (Binds variable Binding) = variableCount
 someVariable (Binds variable (Quantifies Some)) = variable
 someVariable (Binds variable (Quantifies Every)) = variableCount
+someVariable (Binds variable (Quantifies (AtLeast least))) = variableCount
 someVariable (Combines combination) = variableCount
 someVariable (Compares atom) = variableCount
 someVariable (Connects connective) = variableCount

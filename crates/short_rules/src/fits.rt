@@ -107,6 +107,7 @@ pub fn some_variable(form: Form) -> u32
             Binder::Quantifies(quantifier) => match quantifier {
                 Quantifier::Some => variable,
                 Quantifier::Every => VARIABLES,
+                Quantifier::AtLeast(_) => VARIABLES,
             },
         },
         Form::Combines(_) => VARIABLES,

@@ -16,13 +16,12 @@ ghost use Rattle.values.specs.Building.{Builds};
 ghost use Rattle.operations.specs.Lists.{triplesIn};
 ghost use Rattle.partners.specs.Sieves.{sifts};
 ghost use Rattle.wanted_rows.specs.Wanted.{wantedRow, wantedRows};
-use operations::columns::NO_WORDS;
+use operations::keep::keep_if;
 use partners::finding::partners_of;
 use partners::sieve::SIEVE_WORDS;
 use partners::sieve::fill;
 use partners::sieve::lets_through;
 use values::placing::Placed;
-use values::placing::place_row;
 use values::rows::Value;
 use values::rows::row;
 use values::search::stands_behind;
@@ -121,21 +120,8 @@ fn keep_row(
     requires { ⌜ (0 < width) × (at + width ≤ out) × (count * 3 ≤ length (now list)) × (end right ≤ out) × (out + made * width ≤ length (now work)) × Ascending (rowsAt width made out (now work)) × Ascending (rowsOf right (now work)) × (count ≤ tripleLimit) ⌝ }
     ensures { λ r. ⌜ Builds width out made (wantedRows wanted (triplesIn count (now (list .entry))) (rowIn (now (work .entry)) at width ∷ []) (rowsOf right (now (work .entry)))) (now (work .entry)) (now (work .exit)) r ⌝ }
 {
-    if is_wanted(list, count, work, at, width, right, wanted) {
-        place_row(
-            &NO_WORDS,
-            work,
-            true,
-            at,
-            Value {
-                base: out,
-                rows: made,
-                width,
-            },
-        )
-    } else {
-        Placed::Rows(made)
-    }
+    let kept = is_wanted(list, count, work, at, width, right, wanted);
+    keep_if(work, kept, at, width, out, made)
 }
 
 // The wanted left rows, as a value from `out` on.

@@ -13,7 +13,7 @@ use Rattle.values.specs.declared.placing.Placed.{Placed}
 use Rattle.catalogue.specs.Stored.{relationsOf, columnsOf, storedTables}
 use Rattle.plan_reading.specs.Decoding.{operationIn}
 use Rattle.plan_reading.specs.declared.nodes.Operation.{Operation}
-use Rattle.plan_reading.specs.declared.nodes.Operation.the-variants.{Load, Project, SelectConstant, SelectAttribute, Join, Semijoin, Antijoin, Divide, Unite, Intersect, Subtract}
+use Rattle.plan_reading.specs.declared.nodes.Operation.the-variants.{Load, Project, SelectConstant, SelectAttribute, Join, Semijoin, Antijoin, Divide, Unite, Intersect, Subtract, Tally}
 use Rattle.plan_reading.proofs.DecodeLaws.{Stands, stands}
 use Rattle.plan_reading.proofs.JudgeLaws.{widthMade}
 use Rattle.node_values.specs.Standing.{valuesIn, standing}
@@ -32,6 +32,8 @@ use Rattle.semijoins.proofs.keyed.antijoin.Reads as antijoin-reads
 use Rattle.operations.proofs.keep.intersect.Reads as intersect-reads
 use Rattle.semijoins.proofs.keyed.semijoin.Reads as semijoin-reads
 use Rattle.operations.proofs.keep.subtract.Reads as subtract-reads
+use Rattle.catalogue.proofs.judging.wide.Reads as wide-reads
+use Rattle.tallying.proofs.tally.Reads as tally-reads
 use Rattle.ordering.proofs.sorted.project.Reads as project-reads
 use Rattle.values.proofs.clearing.finish.Reads as finish-reads
 use Rattle.node_values.proofs.node.load_relation.Reads as load-relation-reads
@@ -41,10 +43,10 @@ use Rattle.node_values.proofs.node.value_at.Reads as value-at-reads
 
 -- the place where both sides are read
 abbrev Sides : Type 0
-Sides = lts.After-value-at2 (value-at-reads.Asked, value-at-reads.Learnt, load-relation-reads.Asked, load-relation-reads.Learnt, project-reads.Asked, project-reads.Learnt, select-by-constant-reads.Asked, select-by-constant-reads.Learnt, finish-reads.Asked, finish-reads.Learnt, select-by-attribute-reads.Asked, select-by-attribute-reads.Learnt, join-reads.Asked, join-reads.Learnt, semijoin-reads.Asked, semijoin-reads.Learnt, antijoin-reads.Asked, antijoin-reads.Learnt, divide-reads.Asked, divide-reads.Learnt, unite-reads.Asked, unite-reads.Learnt, intersect-reads.Asked, intersect-reads.Learnt, subtract-reads.Asked, subtract-reads.Learnt) reads.Pre reads.Post
+Sides = lts.After-value-at2 (value-at-reads.Asked, value-at-reads.Learnt, load-relation-reads.Asked, load-relation-reads.Learnt, project-reads.Asked, project-reads.Learnt, select-by-constant-reads.Asked, select-by-constant-reads.Learnt, finish-reads.Asked, finish-reads.Learnt, select-by-attribute-reads.Asked, select-by-attribute-reads.Learnt, join-reads.Asked, join-reads.Learnt, semijoin-reads.Asked, semijoin-reads.Learnt, antijoin-reads.Asked, antijoin-reads.Learnt, divide-reads.Asked, divide-reads.Learnt, unite-reads.Asked, unite-reads.Learnt, intersect-reads.Asked, intersect-reads.Learnt, subtract-reads.Asked, subtract-reads.Learnt, wide-reads.Asked, wide-reads.Learnt, tally-reads.Asked, tally-reads.Learnt) reads.Pre reads.Post
 
 module _ (v : Sides) where
-  abbrev start : lts.Start (value-at-reads.Asked, value-at-reads.Learnt, load-relation-reads.Asked, load-relation-reads.Learnt, project-reads.Asked, project-reads.Learnt, select-by-constant-reads.Asked, select-by-constant-reads.Learnt, finish-reads.Asked, finish-reads.Learnt, select-by-attribute-reads.Asked, select-by-attribute-reads.Learnt, join-reads.Asked, join-reads.Learnt, semijoin-reads.Asked, semijoin-reads.Learnt, antijoin-reads.Asked, antijoin-reads.Learnt, divide-reads.Asked, divide-reads.Learnt, unite-reads.Asked, unite-reads.Learnt, intersect-reads.Asked, intersect-reads.Learnt, subtract-reads.Asked, subtract-reads.Learnt) reads.Pre reads.Post
+  abbrev start : lts.Start (value-at-reads.Asked, value-at-reads.Learnt, load-relation-reads.Asked, load-relation-reads.Learnt, project-reads.Asked, project-reads.Learnt, select-by-constant-reads.Asked, select-by-constant-reads.Learnt, finish-reads.Asked, finish-reads.Learnt, select-by-attribute-reads.Asked, select-by-attribute-reads.Learnt, join-reads.Asked, join-reads.Learnt, semijoin-reads.Asked, semijoin-reads.Learnt, antijoin-reads.Asked, antijoin-reads.Learnt, divide-reads.Asked, divide-reads.Learnt, unite-reads.Asked, unite-reads.Learnt, intersect-reads.Asked, intersect-reads.Learnt, subtract-reads.Asked, subtract-reads.Learnt, wide-reads.Asked, wide-reads.Learnt, tally-reads.Asked, tally-reads.Learnt) reads.Pre reads.Post
   start = v .before .before .before .before .before .before .before .before .before .before
 
   abbrev words : List ℕ
@@ -219,6 +221,21 @@ subtract-requires c κs = let v = c .before .before .before in let a = asked v S
 finish-requires-6 : tie.Need-finish-requires-6
 finish-requires-6 c κs = omega (arith, inside (c .before .before .before .before .before .before .before), c .before .before .before .subtract .kept)
 
+enum-told-12 : tie.Need-enum-told-12
+enum-told-12 c = search needs
+
+shared-slice-read-wide : tie.Need-shared-slice-read-wide
+shared-slice-read-wide c = omega (arith, list-long (c .before .before .before .before))
+
+wide-requires : tie.Need-wide-requires
+wide-requires c κs = search needs
+
+tally-requires : tie.Need-tally-requires
+tally-requires c κs = let v = c .before .before .before .before .before in let a = asked v Tally (c .before .before .before .enum-told12 .given .1) in (a .0 .0, a .2, a .0 .2, inside v, a .1 .2, a .0 .3, a .1 .3)
+
+finish-requires-7 : tie.Need-finish-requires-7
+finish-requires-7 c κs = omega (arith, inside (c .before .before .before .before .before .before .before .before .before), c .before .before .before .tally .kept)
+
 -- src/node.rt:95:1
 same-length : tie.Need-same-length
 same-length c = search needs
@@ -307,6 +324,13 @@ same-length-11 c = search needs
 returns-11 : tie.Need-returns-11
 returns-11 c = built (c .before .before .before .before .before .before .before .before .before .before) Subtract (c .before .before .before .before .before .before .before .before .enum-told11 .given .1) (builds-makes (inside (c .before .before .before .before .before .before .before .before .before .before)) (blank (c .before .before .before .before .before .before .before .before .before .before)) (c .before .before .before .before .before .before .subtract .ensures) (c .before .before .finish6 .ensures))
 
+same-length-12 : tie.Need-same-length-12
+same-length-12 c = search needs
+
+-- the word that was read is the list's first
+returns-12 : tie.Need-returns-12
+returns-12 c = let v = c .before .before .before .before .before .before .before .before .before .before .before .before in built v Tally (c .before .before .before .before .before .before .before .before .before .before .enum-told12 .given .1) (builds-makes (inside v) (blank v) (rw (c .before .before .before .before .before .before .before .wide .ensures) at (c .before .before .before .before .before .before .tally .ensures)) (c .before .before .finish7 .ensures))
+
 pub make-value-spec : {M : Type 1} → statement M
 make-value-spec =
     tie.close
@@ -344,6 +368,11 @@ make-value-spec =
     enum-told-11
     subtract-requires
     finish-requires-6
+    enum-told-12
+    shared-slice-read-wide
+    wide-requires
+    tally-requires
+    finish-requires-7
     same-length
     returns
     same-length-2
@@ -365,4 +394,6 @@ make-value-spec =
     same-length-10
     returns-10
     same-length-11
-    returns-11)
+    returns-11
+    same-length-12
+    returns-12)

@@ -75,12 +75,19 @@ returns-10 : tie.Need-returns-10
 unfolding fieldsOf
 returns-10 c = simp (c .three4 .ensures, ne-eqb _ _ (c .before .before .before .before .before .before .before .before .before .before .if1 .left), ne-eqb _ _ (c .before .before .before .before .before .before .before .before .before .if2 .left), ne-eqb _ _ (c .before .before .before .before .before .before .before .before .if3 .left), ne-eqb _ _ (c .before .before .before .before .before .before .before .if4 .left), c .before .before .before .before .before .before .if5 .left, ne-eqb _ _ (c .before .before .before .before .before .if6 .left), ne-eqb _ _ (c .before .before .before .before .if7 .left), c .before .before .before .if8 .left, ne-eqb _ _ (c .before .before .if9 .left), c .before .if10 .taken)
 
-one-requires-3 : tie.Need-one-requires-3
-one-requires-3 c κs = search needs
+five-requires-3 : tie.Need-five-requires-3
+five-requires-3 c κs = search needs
 
 returns-11 : tie.Need-returns-11
 unfolding fieldsOf
-returns-11 c = simp (c .one3 .ensures, ne-eqb _ _ (c .before .before .before .before .before .before .before .before .before .before .if1 .left), ne-eqb _ _ (c .before .before .before .before .before .before .before .before .before .if2 .left), ne-eqb _ _ (c .before .before .before .before .before .before .before .before .if3 .left), ne-eqb _ _ (c .before .before .before .before .before .before .before .if4 .left), c .before .before .before .before .before .before .if5 .left, ne-eqb _ _ (c .before .before .before .before .before .if6 .left), ne-eqb _ _ (c .before .before .before .before .if7 .left), c .before .before .before .if8 .left, ne-eqb _ _ (c .before .before .if9 .left), c .before .if10 .left)
+returns-11 c = simp (c .five3 .ensures, ne-eqb _ _ (c .before .before .before .before .before .before .before .before .before .before .before .if1 .left), ne-eqb _ _ (c .before .before .before .before .before .before .before .before .before .before .if2 .left), ne-eqb _ _ (c .before .before .before .before .before .before .before .before .before .if3 .left), ne-eqb _ _ (c .before .before .before .before .before .before .before .before .if4 .left), c .before .before .before .before .before .before .before .if5 .left, ne-eqb _ _ (c .before .before .before .before .before .before .if6 .left), ne-eqb _ _ (c .before .before .before .before .before .if7 .left), c .before .before .before .before .if8 .left, ne-eqb _ _ (c .before .before .before .if9 .left), c .before .before .if10 .left, eq-eqb _ _ (c .before .if11 .taken))
+
+one-requires-3 : tie.Need-one-requires-3
+one-requires-3 c κs = search needs
+
+returns-12 : tie.Need-returns-12
+unfolding fieldsOf
+returns-12 c = simp (c .one3 .ensures, ne-eqb _ _ (c .before .before .before .before .before .before .before .before .before .before .before .if1 .left), ne-eqb _ _ (c .before .before .before .before .before .before .before .before .before .before .if2 .left), ne-eqb _ _ (c .before .before .before .before .before .before .before .before .before .if3 .left), ne-eqb _ _ (c .before .before .before .before .before .before .before .before .if4 .left), c .before .before .before .before .before .before .before .if5 .left, ne-eqb _ _ (c .before .before .before .before .before .before .if6 .left), ne-eqb _ _ (c .before .before .before .before .before .if7 .left), c .before .before .before .before .if8 .left, ne-eqb _ _ (c .before .before .before .if9 .left), c .before .before .if10 .left, ne-eqb _ _ (c .before .if11 .left))
 
 pub fields-of-spec : {M : Type 1} → statement M
 fields-of-spec =
@@ -106,5 +113,7 @@ fields-of-spec =
     returns-9
     three-requires-4
     returns-10
+    five-requires-3
+    returns-11
     one-requires-3
-    returns-11)
+    returns-12)

@@ -21,6 +21,9 @@ enum-told-5 c = search needs
 enum-told-6 : tie.Need-enum-told-6
 enum-told-6 c = search needs
 
+enum-told-7 : tie.Need-enum-told-7
+enum-told-7 c = search needs
+
 enum-known-field : tie.Need-enum-known-field
 enum-known-field c = search needs
 
@@ -58,10 +61,13 @@ returns-6 : tie.Need-returns-6
 returns-6 c = simp (c .enum-told6 .given .1)
 
 returns-7 : tie.Need-returns-7
-returns-7 c = simp (c .is-of .ensures, c .before .kind-named .ensures, c .before .before .before .field .given .1)
+returns-7 c = simp (c .enum-told7 .given .1)
 
 returns-8 : tie.Need-returns-8
-returns-8 c = simp (c .is-of2 .ensures, c .before .kind-named2 .ensures, c .before .before .before .field2 .given .1)
+returns-8 c = simp (c .is-of .ensures, c .before .kind-named .ensures, c .before .before .before .field .given .1)
+
+returns-9 : tie.Need-returns-9
+returns-9 c = simp (c .is-of2 .ensures, c .before .kind-named2 .ensures, c .before .before .before .field2 .given .1)
 
 pub field-fits-spec : {M : Type 1} → statement M
 field-fits-spec =
@@ -73,6 +79,7 @@ field-fits-spec =
     enum-told-4
     enum-told-5
     enum-told-6
+    enum-told-7
     enum-known-field
     kind-named-requires
     is-of-requires
@@ -86,4 +93,5 @@ field-fits-spec =
     returns-5
     returns-6
     returns-7
-    returns-8)
+    returns-8
+    returns-9)

@@ -5,7 +5,7 @@ use native.Mathlib.Omega.{arith}
 use borrow.Author.Needs.{needs}
 use Rattle.plan_reading.specs.declared.nodes.Operation.the-variants.{Project, Join, Semijoin, Antijoin, Divide}
 use Rattle.catalogue.specs.Stored.{relationsOf}
-use Rattle.plan_reading.proofs.LegalLaws.{count-within, legal-load, legal-project, legal-select-constant, legal-select-attribute, legal-join, legal-semijoin, legal-antijoin, legal-divide, legal-unite, legal-intersect, legal-subtract}
+use Rattle.plan_reading.proofs.LegalLaws.{count-within, legal-load, legal-project, legal-select-constant, legal-select-attribute, legal-join, legal-semijoin, legal-antijoin, legal-divide, legal-unite, legal-intersect, legal-subtract, legal-tally}
 use Rattle.plan_reading.proofs.DecodeLaws.{Stands, stands}
 use Rattle.plan_reading.proofs.legal.legal_node.Statement.{statement}
 use Rattle.plan_reading.proofs.legal.legal_node.Tie as tie
@@ -13,14 +13,16 @@ use Rattle.plan_reading.proofs.legal.legal_node.Reads as reads
 use Rattle.plan_reading.proofs.legal.legal_node.Lts as lts
 use Rattle.plan_reading.proofs.legal.legal_division.Reads as legal-division-reads
 use Rattle.plan_reading.proofs.legal.legal_sides.Reads as legal-sides-reads
+use Rattle.plan_reading.proofs.legal.legal_tally.Reads as legal-tally-reads
 use Rattle.plan_reading.proofs.legal.legal_triples.Reads as legal-triples-reads
 use Rattle.plan_reading.proofs.legal.narrow.Reads as narrow-reads
 use Rattle.plan_reading.proofs.legal.width_at.Reads as width-at-reads
 use Rattle.plan_reading.proofs.nodes.within.Reads as within-reads
+use Rattle.catalogue.proofs.judging.wide.Reads as wide-reads
 use Rattle.catalogue.proofs.stored.relations_of.Reads as relations-of-reads
 
 -- the node stands for what its words read as
-stood : (s : lts.Start (width-at-reads.Asked, width-at-reads.Learnt, relations-of-reads.Asked, relations-of-reads.Learnt, within-reads.Asked, within-reads.Learnt, legal-triples-reads.Asked, legal-triples-reads.Learnt, narrow-reads.Asked, narrow-reads.Learnt, legal-division-reads.Asked, legal-division-reads.Learnt, legal-sides-reads.Asked, legal-sides-reads.Learnt) reads.Pre reads.Post) → Stands (s .args .words .now) (s .args .node)
+stood : (s : lts.Start (width-at-reads.Asked, width-at-reads.Learnt, relations-of-reads.Asked, relations-of-reads.Learnt, within-reads.Asked, within-reads.Learnt, legal-triples-reads.Asked, legal-triples-reads.Learnt, narrow-reads.Asked, narrow-reads.Learnt, legal-division-reads.Asked, legal-division-reads.Learnt, legal-sides-reads.Asked, legal-sides-reads.Learnt, wide-reads.Asked, wide-reads.Learnt, legal-tally-reads.Asked, legal-tally-reads.Learnt) reads.Pre reads.Post) → Stands (s .args .words .now) (s .args .node)
 stood s = stands (s .args .words .now) (s .args .node) (s .pre .0) (s .pre .1)
 
 width-at-requires : tie.Need-width-at-requires
@@ -101,6 +103,18 @@ enum-told-11 c = search needs
 legal-sides-requires-3 : tie.Need-legal-sides-requires-3
 legal-sides-requires-3 c κs = search needs
 
+enum-told-12 : tie.Need-enum-told-12
+enum-told-12 c = search needs
+
+shared-slice-read-wide : tie.Need-shared-slice-read-wide
+shared-slice-read-wide c = search needs
+
+wide-requires : tie.Need-wide-requires
+wide-requires c κs = search needs
+
+legal-tally-requires : tie.Need-legal-tally-requires
+legal-tally-requires c κs = search needs
+
 returns : tie.Need-returns
 returns c = rw (c .relations-of .ensures) (sym (legal-load (relationsOf (c .before .before .before .before .before .before .before .args .catalogue .now)) (c .before .before .before .before .before .before .before .args .widths .now) (c .before .before .before .before .before .before .before .args .words .now) (c .before .before .before .before .before .before .before .args .node) (stood (c .before .before .before .before .before .before .before)) (c .before .enum-told .given .1)))
 
@@ -134,6 +148,9 @@ returns-10 c = rw (c .legal-sides2 .ensures) (sym (legal-intersect (relationsOf 
 returns-11 : tie.Need-returns-11
 returns-11 c = rw (c .legal-sides3 .ensures) (sym (legal-subtract (relationsOf (c .before .before .before .before .before .before .before .args .catalogue .now)) (c .before .before .before .before .before .before .before .args .widths .now) (c .before .before .before .before .before .before .before .args .words .now) (c .before .before .before .before .before .before .before .args .node) (stood (c .before .before .before .before .before .before .before)) (c .before .enum-told11 .given .1)))
 
+returns-12 : tie.Need-returns-12
+returns-12 c = rw (c .legal-tally .ensures, c .before .wide .ensures) (sym (legal-tally (relationsOf (c .before .before .before .before .before .before .before .before .before .args .catalogue .now)) (c .before .before .before .before .before .before .before .before .before .args .widths .now) (c .before .before .before .before .before .before .before .before .before .args .words .now) (c .before .before .before .before .before .before .before .before .before .args .node) (stood (c .before .before .before .before .before .before .before .before .before)) (c .before .before .before .enum-told12 .given .1)))
+
 pub legal-node-spec : {M : Type 1} → statement M
 legal-node-spec =
     tie.close
@@ -164,6 +181,10 @@ legal-node-spec =
     legal-sides-requires-2
     enum-told-11
     legal-sides-requires-3
+    enum-told-12
+    shared-slice-read-wide
+    wide-requires
+    legal-tally-requires
     returns
     returns-2
     returns-3
@@ -174,4 +195,5 @@ legal-node-spec =
     returns-8
     returns-9
     returns-10
-    returns-11)
+    returns-11
+    returns-12)

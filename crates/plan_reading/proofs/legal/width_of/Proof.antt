@@ -4,7 +4,7 @@ use mathlib.Core.Path.{refl, _∙_}
 use native.Mathlib.Omega.{arith}
 use borrow.Author.Needs.{needs}
 use Rattle.catalogue.specs.Stored.{relationsOf, columnsOf}
-use Rattle.plan_reading.specs.declared.nodes.Operation.the-variants.{Load, Project, SelectConstant, SelectAttribute, Join, Semijoin, Antijoin, Divide, Unite, Intersect, Subtract}
+use Rattle.plan_reading.specs.declared.nodes.Operation.the-variants.{Load, Project, SelectConstant, SelectAttribute, Join, Semijoin, Antijoin, Divide, Unite, Intersect, Subtract, Tally}
 use Rattle.plan_reading.proofs.JudgeLaws.{width-arm, join-narrow}
 use Rattle.plan_reading.proofs.legal.width_of.Statement.{statement}
 use Rattle.plan_reading.proofs.legal.width_of.Tie as tie
@@ -57,6 +57,9 @@ enum-told-10 c = search needs
 enum-told-11 : tie.Need-enum-told-11
 enum-told-11 c = search needs
 
+enum-told-12 : tie.Need-enum-told-12
+enum-told-12 c = search needs
+
 returns : tie.Need-returns
 returns c = let s = c .before .before .before .before .before .before .before in width-arm (columnsOf (s .args .catalogue .now)) (s .args .widths .now) (s .args .node) Load (c .before .before .enum-told .given .1) (c .wide .ensures ∙ c .before .columns-of .ensures)
 
@@ -93,6 +96,9 @@ returns-11 c = let s = c .before .before .before .before .before in width-arm (c
 returns-12 : tie.Need-returns-12
 returns-12 c = let s = c .before .before .before .before .before in width-arm (columnsOf (s .args .catalogue .now)) (s .args .widths .now) (s .args .node) Subtract (c .enum-told11 .given .1) (c .before .before .width-at .ensures)
 
+returns-13 : tie.Need-returns-13
+returns-13 c = let s = c .before .before .before .before .before in width-arm (columnsOf (s .args .catalogue .now)) (s .args .widths .now) (s .args .node) Tally (c .enum-told12 .given .1) (c .before .before .width-at .ensures)
+
 pub width-of-spec : {M : Type 1} → statement M
 width-of-spec =
     tie.close
@@ -113,6 +119,7 @@ width-of-spec =
     enum-told-9
     enum-told-10
     enum-told-11
+    enum-told-12
     returns
     returns-2
     returns-3
@@ -124,4 +131,5 @@ width-of-spec =
     returns-9
     returns-10
     returns-11
-    returns-12)
+    returns-12
+    returns-13)

@@ -8,11 +8,11 @@ use lib.ListN.{getD, take, drop}
 use borrow.Author.Tests.{ne-eqb}
 use borrow.Author.Needs.{needs}
 use Rattle.relations.specs.PlanWords.{readTriples, readPairs}
-use Rattle.relations.specs.Nodes.{load, project, selectConstant, selectAttribute, join, semijoin, antijoin, divide, unite, intersect, subtract, selectingConstant, selectingAttribute}
+use Rattle.relations.specs.Nodes.{load, project, selectConstant, selectAttribute, join, semijoin, antijoin, divide, unite, intersect, subtract, tally, selectingConstant, selectingAttribute}
 use Rattle.relations.specs.Columns.{attribute, constant}
 use Rattle.relations.specs.Comparison.{operatorOf}
 use Rattle.relations.specs.Limits.{headWords}
-use Rattle.plan_reading.specs.declared.nodes.Operation.the-variants.{Load, Project, SelectConstant, SelectAttribute, Join, Semijoin, Antijoin, Divide, Unite, Intersect, Subtract}
+use Rattle.plan_reading.specs.declared.nodes.Operation.the-variants.{Load, Project, SelectConstant, SelectAttribute, Join, Semijoin, Antijoin, Divide, Unite, Intersect, Subtract, Tally}
 use Rattle.plan_reading.specs.Decoding.{operatorsKnown, headDecoded}
 use Rattle.plan_reading.proofs.DecodeLaws.{decoded-as, decoded-plain, parts-if, operators-read, operator-alone}
 use Rattle.plan_reading.proofs.ShapeLaws.{count-most, count-least}
@@ -55,6 +55,9 @@ decode-plain-requires-5 c κs = search needs
 decode-plain-requires-6 : tie.Need-decode-plain-requires-6
 decode-plain-requires-6 c κs = search needs
 
+decode-plain-requires-7 : tie.Need-decode-plain-requires-7
+decode-plain-requires-7 c κs = search needs
+
 returns : tie.Need-returns
 returns c = let w = c .before .before .before .before .args .words .now in ap headDecoded (c .decode-plain .ensures) ∙ decoded-plain Load w (c .before .before .before .before .pre) (c .before .match .keys1) (load (getD w 1 0), refl, refl)
 
@@ -94,7 +97,10 @@ returns-11 : tie.Need-returns-11
 returns-11 c = let w = c .before .before .before .before .args .words .now in ap headDecoded (c .decode-plain6 .ensures) ∙ decoded-plain Subtract w (c .before .before .before .before .pre) (c .before .match .keys11) (subtract (getD w 1 0) (getD w 2 0), refl, refl)
 
 returns-12 : tie.Need-returns-12
-returns-12 c = simp (ne-eqb _ _ (c .match .rest .1), ne-eqb _ _ (c .match .rest .0 .1), ne-eqb _ _ (c .match .rest .0 .0 .1), ne-eqb _ _ (c .match .rest .0 .0 .0 .1), ne-eqb _ _ (c .match .rest .0 .0 .0 .0 .1), ne-eqb _ _ (c .match .rest .0 .0 .0 .0 .0 .1), ne-eqb _ _ (c .match .rest .0 .0 .0 .0 .0 .0 .1), ne-eqb _ _ (c .match .rest .0 .0 .0 .0 .0 .0 .0 .1), ne-eqb _ _ (c .match .rest .0 .0 .0 .0 .0 .0 .0 .0 .1), ne-eqb _ _ (c .match .rest .0 .0 .0 .0 .0 .0 .0 .0 .0 .1), ne-eqb _ _ (c .match .rest .0 .0 .0 .0 .0 .0 .0 .0 .0 .0 .1))
+returns-12 c = let w = c .before .before .before .before .args .words .now in ap headDecoded (c .decode-plain7 .ensures) ∙ decoded-plain Tally w (c .before .before .before .before .pre) (c .before .match .keys12) (tally (getD w 1 0) (getD w 2 0) (getD (drop headWords w) 0 0), refl, refl)
+
+returns-13 : tie.Need-returns-13
+returns-13 c = simp (ne-eqb _ _ (c .match .rest .1), ne-eqb _ _ (c .match .rest .0 .1), ne-eqb _ _ (c .match .rest .0 .0 .1), ne-eqb _ _ (c .match .rest .0 .0 .0 .1), ne-eqb _ _ (c .match .rest .0 .0 .0 .0 .1), ne-eqb _ _ (c .match .rest .0 .0 .0 .0 .0 .1), ne-eqb _ _ (c .match .rest .0 .0 .0 .0 .0 .0 .1), ne-eqb _ _ (c .match .rest .0 .0 .0 .0 .0 .0 .0 .1), ne-eqb _ _ (c .match .rest .0 .0 .0 .0 .0 .0 .0 .0 .1), ne-eqb _ _ (c .match .rest .0 .0 .0 .0 .0 .0 .0 .0 .0 .1), ne-eqb _ _ (c .match .rest .0 .0 .0 .0 .0 .0 .0 .0 .0 .0 .1), ne-eqb _ _ (c .match .rest .0 .0 .0 .0 .0 .0 .0 .0 .0 .0 .0 .1))
 
 pub decode-node-spec : {M : Type 1} → statement M
 decode-node-spec =
@@ -112,6 +118,7 @@ decode-node-spec =
     decode-plain-requires-4
     decode-plain-requires-5
     decode-plain-requires-6
+    decode-plain-requires-7
     returns
     returns-2
     returns-3
@@ -123,4 +130,5 @@ decode-node-spec =
     returns-9
     returns-10
     returns-11
-    returns-12)
+    returns-12
+    returns-13)

@@ -70,6 +70,12 @@ enum-told-11 c = search needs
 uses-requires-11 : tie.Need-uses-requires-11
 uses-requires-11 c κs = search needs
 
+enum-told-12 : tie.Need-enum-told-12
+enum-told-12 c = search needs
+
+uses-requires-12 : tie.Need-uses-requires-12
+uses-requires-12 c κs = search needs
+
 returns : tie.Need-returns
 returns c = rw (c .uses .ensures, c .before .enum-told .given .1)
 
@@ -103,6 +109,9 @@ returns-10 c = rw (c .uses10 .ensures, c .before .enum-told10 .given .1)
 returns-11 : tie.Need-returns-11
 returns-11 c = rw (c .uses11 .ensures, c .before .enum-told11 .given .1)
 
+returns-12 : tie.Need-returns-12
+returns-12 c = rw (c .uses12 .ensures, c .before .enum-told12 .given .1)
+
 pub shape-of-spec : {M : Type 1} → statement M
 shape-of-spec =
     tie.close
@@ -129,6 +138,8 @@ shape-of-spec =
     uses-requires-10
     enum-told-11
     uses-requires-11
+    enum-told-12
+    uses-requires-12
     returns
     returns-2
     returns-3
@@ -139,4 +150,5 @@ shape-of-spec =
     returns-8
     returns-9
     returns-10
-    returns-11)
+    returns-11
+    returns-12)

@@ -64,6 +64,9 @@ returns-3 c = let s = c .before .before .before .before .before .before .before 
     let f : Condition = conditionAt (s .args .words .now) (s .args .condition) in
     sym (every-way (s .args .short) (s .args .wanted) (s .args .x) f (c .before .before .before .before .enum-told4 .given .1) (tested (s .args .short) (c .before .before .before .rule-fits2 .ensures) (c .before .before .if2 .left)) (tested (s .args .short) (c .before .rule-fits3 .ensures) (c .if3 .taken)))
 
+enum-told-5 : tie.Need-enum-told-5
+enum-told-5 c = search needs
+
 returns-4 : tie.Need-returns-4
 returns-4 c = let s = c .before .before .before .before .before .before .before in
     let f : Condition = conditionAt (s .args .words .now) (s .args .condition) in
@@ -84,6 +87,9 @@ returns-7 c = let s = c .before .before .before .before .before .before .before 
     let f : Condition = conditionAt (s .args .words .now) (s .args .condition) in
     sym (every-way (s .args .short) (s .args .wanted) (s .args .x) f (c .before .before .before .before .enum-told4 .given .1) (tested (s .args .short) (c .before .before .before .rule-fits2 .ensures) (c .before .before .if2 .left)) (tested (s .args .short) (c .before .rule-fits3 .ensures) (c .if3 .left)))
 
+returns-8 : tie.Need-returns-8
+returns-8 c = search needs
+
 pub way-of-spec : {M : Type 1} → statement M
 way-of-spec =
     tie.close
@@ -99,7 +105,9 @@ way-of-spec =
     returns-2
     rule-fits-requires-3
     returns-3
+    enum-told-5
     returns-4
     returns-5
     returns-6
-    returns-7)
+    returns-7
+    returns-8)

@@ -33,6 +33,15 @@ project-first-requires-2 c κs = search needs
 pair-requires-2 : tie.Need-pair-requires-2
 pair-requires-2 c κs = search needs
 
+enum-known-quantifier : tie.Need-enum-known-quantifier
+enum-known-quantifier c = search needs
+
+sub-tally : tie.Need-sub-tally
+sub-tally c = search needs
+
+tally-requires : tie.Need-tally-requires
+tally-requires c κs = search needs
+
 same-length : tie.Need-same-length
 same-length c = search needs
 
@@ -49,6 +58,13 @@ returns-2 c = let s = c .before .before .before .before .before .before .before 
     (ap (λ (q : Quantifier). keptNodes q (s .args .columns) (s .args .p) (s .args .q) (s .args .n)) (c .before .before .before .before .before .before .before .before .before .before .before .before .enum-told2 .given .1))
     (written-then (written-then fails (c .before .before .before .before .before .before .project-first2 .ensures)) (written-as (ap (λ (m : ℕ). subtract (s .args .p) m ∷ []) (sym (fails .counted))) (c .before .before .pair2 .ensures)))
 
+same-length-3 : tie.Need-same-length-3
+same-length-3 c = search needs
+
+returns-3 : tie.Need-returns-3
+returns-3 c = let s = c .before .before .before .before .before .before .before .before in
+    written-as (ap (λ (q : Quantifier). keptNodes q (s .args .columns) (s .args .p) (s .args .q) (s .args .n)) (c .before .before .before .before .before .quantifier .given .1)) (c .before .before .tally .ensures)
+
 pub write-kept-spec : {M : Type 1} → statement M
 write-kept-spec =
     tie.close
@@ -61,7 +77,12 @@ write-kept-spec =
     pair-requires
     project-first-requires-2
     pair-requires-2
+    enum-known-quantifier
+    sub-tally
+    tally-requires
     same-length
     returns
     same-length-2
-    returns-2)
+    returns-2
+    same-length-3
+    returns-3)
