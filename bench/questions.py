@@ -67,12 +67,12 @@ def operation(kind):
     return print_all_of([table(0), table(1), (kind, 1, 2, 0, 0, 0)])
 
 
-SOME, EVERY, AND, OR = 13, 14, 10, 11
+SOME, EVERY, SO_MANY, AND, OR = 13, 14, 16, 10, 11
 EQUAL, NOT_EQUAL, LESS, GREATER, AT_LEAST = 1, 2, 3, 5, 6
 
 
-def partner(quantifier, tree, triples, negated=False):
-    """{u : t0(u) : [not] QUANTIFIER t1(x) (x[i] OP u[j] TREE ...)}, a triple being (i, OP, j)"""
+def partner(quantifier, tree, triples, negated=False, least=0):
+    """{u : t0(u) : [not] QUANTIFIER t1(x) (x[i] OP u[j] TREE ...)}, a triple being (i, OP, j); `least` rows of SO_MANY"""
     nodes = [table(0), (4, 0, 1, 0, 0, 0), (3, 0, 0, 0, 0, 0), table(1)]
     condition = None
     for mine, operator, other in triples:
@@ -80,7 +80,7 @@ def partner(quantifier, tree, triples, negated=False):
         if condition:
             nodes.append((tree, condition, len(nodes), 0, 0, 0))
         condition = len(nodes)
-    nodes.append((quantifier, 1, 4, condition, 0, 0))
+    nodes.append((quantifier, 1, 4, condition, least, 0))
     if negated:
         nodes.append((12, len(nodes), 0, 0, 0, 0))
     return nodes + [(2, 3, 2, len(nodes), 0, 0)]
@@ -197,6 +197,10 @@ def heavy(words, chooser):
     yield Question("three bindings", THREE, [one_column(chooser.sample(range(side * 2), side)) for _ in range(3)],
                    "SELECT DISTINCT t0.c1, t1.c1, t2.c1 FROM t0, t1, t2 WHERE t0.c1 = t1.c1 AND t1.c1 = t2.c1",
                    indexes + ["t2(c1)"], "three")
+    side = math.isqrt(words // 3) - 2
+    yield Question("at least three", partner(SO_MANY, AND, [(1, EQUAL, 1)], least=3), [one_column(range(side)), rows_of(chooser, side, side // 3, VALUES)],
+                   "SELECT DISTINCT c1 FROM t0 WHERE c1 IN (SELECT c1 FROM (SELECT DISTINCT c1, c2 FROM t1) GROUP BY c1 HAVING COUNT(*) >= 3)",
+                   ["t0(c1)", "t1(c1, c2)"], "at_least_three")
 
 
 def questions(words):
