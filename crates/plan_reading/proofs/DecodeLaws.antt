@@ -9,10 +9,11 @@ use lib.ListN.{getD, length, drop}
 use lib.Seq.{drop-drop, getD-drop}
 use Rattle.relations.specs.Limits.{planNodeWords, headWords}
 use Rattle.relations.specs.Nodes as nodes
-use Rattle.relations.specs.Nodes.{loading, projecting, selectingConstant, selectingAttribute, joining, semijoining, antijoining, dividing, uniting, intersecting, subtracting, tallying, operationOfNode, operationNumber, operationOf}
+use Rattle.relations.specs.Nodes.{operationOfNode, operationNumber, operationOf}
 use Rattle.relations.specs.Comparison.{operatorOf}
 use Rattle.relations.specs.Legality.{between}
 use Rattle.relations.specs.PlanWords.{readTriples, readParts, readKnown, readNode}
+use Rattle.relations.proofs.PlanWordsBack.{operation-back}
 use Rattle.relations.proofs.PlanWordsOnly.{words-and-back}
 use Rattle.plan_reading.specs.Decoding.{spaced, operatorsKnown, operationIn, fits, headIn, Head, nodeHead, planHead, headDecoded, headRead}
 use Rattle.plan_reading.specs.declared.nodes.Operation.{Operation}
@@ -22,20 +23,6 @@ use Rattle.plan_reading.specs.declared.nodes.Decoded.{Decoded}
 use Rattle.plan_reading.specs.declared.nodes.Decoded.the-variants.{Node, Illegal}
 use Rattle.plan_reading.proofs.WordLaws.{getD-front}
 use Rattle.plan_reading.proofs.OperatorLaws.{ReadIf, operator-read, triples-read}
-
-operation-back : (operation : nodes.Operation) → operationOf (operationNumber operation) ≡ some operation
-operation-back loading = refl
-operation-back projecting = refl
-operation-back selectingConstant = refl
-operation-back selectingAttribute = refl
-operation-back joining = refl
-operation-back semijoining = refl
-operation-back antijoining = refl
-operation-back dividing = refl
-operation-back uniting = refl
-operation-back intersecting = refl
-operation-back subtracting = refl
-operation-back tallying = refl
 
 -- the node that words of a known operation would be, if their shape fits
 abbrev pub partsIn : nodes.Operation → List ℕ → Option nodes.Node

@@ -32,7 +32,7 @@ module _ {A : Type 0} where
   pub howMany-cong : (p q : A → Bool) (xs : List A) → All (λ x. p x ≡ q x) xs → howMany p xs ≡ howMany q xs
   howMany-cong p q xs h = ap length (filter-cong p q xs h)
 
-  pub howMany-none : (xs : List A) → howMany (λ x. false) xs ≡ 0
+  howMany-none : (xs : List A) → howMany (λ x. false) xs ≡ 0
   howMany-none [] = refl
   howMany-none (x ∷ xs) = howMany-none xs
 
@@ -54,7 +54,7 @@ howMany-map q f (x ∷ xs) = go (q (f x)) (howMany-map q f xs)
     go false ih = ih
 
 -- a joined row begins with the rows that equal its left part
-pub begins-joined : (t p r : Row) → length p ≡ length t → begins t (p ++ r) ≡ sameRow t p
+begins-joined : (t p r : Row) → length p ≡ length t → begins t (p ++ r) ≡ sameRow t p
 begins-joined t p r e = ap (sameRow t) (take-at p r (length t) e)
 
 -- Of the rows of a product that pass a test, those that begin with a left row are as many as the right rows that pass beside it: a value has the left row once.

@@ -109,7 +109,7 @@ parts-back (intersect left right) n = refl
 parts-back (subtract left right) n = refl
 parts-back (tally left right least) n = refl
 
-operation-back : (operation : Operation) → operationOf (operationNumber operation) ≡ some operation
+pub operation-back : (operation : Operation) → operationOf (operationNumber operation) ≡ some operation
 operation-back loading = refl
 operation-back projecting = refl
 operation-back selectingConstant = refl
