@@ -1,4 +1,6 @@
 // A bundle's text, read into a catalogue, tables and a question's nodes.
+#![tactic(auto)]
+
 ghost use Rattle.std.specs.Prelude.{◌≡◌, true, ◌+◌, ◌*◌, ◌≤◌, ◌<◌, drop};
 ghost use Rattle.relations.specs.Limits.{catalogue_pair_limit, word_limit, question_node_limit};
 ghost use Rattle.lines.specs.Marks.{relation_key, row_key};

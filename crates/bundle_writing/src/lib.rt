@@ -1,4 +1,6 @@
 // A bundle's text, written from mode, catalogue, tables and nodes.
+#![tactic(auto)]
+
 ghost use Rattle.std.specs.Prelude.{◌≡◌, true, ◌+◌, ◌*◌, ◌/◌, ◌≤◌, length};
 ghost use Rattle.relations.specs.Limits.{question_node_words, question_node_limit};
 ghost use Rattle.catalogue.specs.Judging.{pairs_ok, catalogue_words, tables_ok};

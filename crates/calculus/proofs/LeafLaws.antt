@@ -1,6 +1,6 @@
 -- And-trees and or-trees are known by their leaves; an atom's opposite keeps its form and kind.
 use mathlib.Core.Path.{◌≡◌, refl, sym, ◌∙◌, ap₂}
-use mathlib.Core.Bool.{Bool, true, false, not, ◌&&◌, ◌||◌, So, false≢true, and_true}
+use mathlib.Core.Bool.{Bool, true, false, not, ◌&&◌, ◌||◌, So, false≢true, and-true}
 use mathlib.Core.List.{List, [], ◌∷◌, map}
 use Prim.Native.Nat.{ℕ}
 use Rattle.relations.specs.Lists.{all, All}
@@ -26,7 +26,7 @@ good-leaves columns relations (for_at_least v R f least) s o = tt
 
 pub and_tree_holds : (tables : Tables) (f : Condition) → So (is_and_tree f) → (e : Environment) → condition_holds tables f e ≡ all (λ a. atom_holds a e) (leaves f)
 unfolding condition_holds
-and_tree_holds tables (atom a) h e = sym (and_true (atom_holds a e))
+and_tree_holds tables (atom a) h e = sym (and-true (atom_holds a e))
 and_tree_holds tables (condition_and f g) h e = ap₂ ◌&&◌ (and_tree_holds tables f (and_left (is_and_tree f) (is_and_tree g) h) e) (and_tree_holds tables g (and_right (is_and_tree f) (is_and_tree g) h) e) ∙ sym (all_test_append (λ a. atom_holds a e) (leaves f) (leaves g))
 and_tree_holds tables (condition_or f g) h e = absurd (false≢true h)
 and_tree_holds tables (condition_not f) h e = absurd (false≢true h)
@@ -41,7 +41,7 @@ not_or false b = refl
 -- an or-tree fails where all its atoms, turned, hold
 pub or_tree_fails : (tables : Tables) (f : Condition) → So (is_or_tree f) → (e : Environment) → not (condition_holds tables f e) ≡ all (λ a. atom_holds (opposite_atom a) e) (leaves f)
 unfolding condition_holds
-or_tree_fails tables (atom a) h e = sym (opposite_atom-holds a e) ∙ sym (and_true (atom_holds (opposite_atom a) e))
+or_tree_fails tables (atom a) h e = sym (opposite_atom-holds a e) ∙ sym (and-true (atom_holds (opposite_atom a) e))
 or_tree_fails tables (condition_and f g) h e = absurd (false≢true h)
 or_tree_fails tables (condition_or f g) h e = not_or (condition_holds tables f e) (condition_holds tables g e) ∙ (ap₂ ◌&&◌ (or_tree_fails tables f (and_left (is_or_tree f) (is_or_tree g) h) e) (or_tree_fails tables g (and_right (is_or_tree f) (is_or_tree g) h) e) ∙ sym (all_test_append (λ a. atom_holds (opposite_atom a) e) (leaves f) (leaves g)))
 or_tree_fails tables (condition_not f) h e = absurd (false≢true h)

@@ -6,7 +6,7 @@ use mathlib.Core.List.{List, [], ◌∷◌, ◌++◌}
 use native.Mathlib.Omega.{arith}
 use lib.ListN.{length}
 use lib.Seq.{sets}
-use borrow.Author.Tests.{ltb-false, not_false}
+use borrow.Author.Tests.{ltb-false, not-false}
 use Rattle.relations.specs.Lists.{flat}
 use Rattle.relations.specs.PlanWords.{node_words}
 use Rattle.catalogue.specs.Judging.{catalogue_ok, tables_ok}
@@ -43,7 +43,7 @@ module _ (catalogue tables question : List ℕ) (mode : ℕ) (plan work output :
   -- and what they leave
   module _ (none : NoneGiven front_lines) where
     tables-good : tables_ok catalogue tables ≡ true
-    tables-good = not_false (tables_ok catalogue tables) none.0
+    tables-good = not-false (tables_ok catalogue tables) none.0
 
     accepted : judged_question catalogue question ≡ Accepted
     accepted = accepted_by_lines catalogue question (none.1.0, none.1.1.1)
@@ -66,7 +66,7 @@ module _ (catalogue tables question : List ℕ) (mode : ℕ) (plan work output :
   unfolding answer_outcome
   translated_lines =
       outcome-behind (wrong_tables catalogue tables ∷ []) refusal (translated_outcome catalogue tables question mode plan work output (translate_outcome catalogue question mode plan)) _
-      (λ none. translated (catalogue_ok_lem catalogue tables (not_false (tables_ok catalogue tables) none.0)))
+      (λ none. translated (catalogue_ok_lem catalogue tables (not-false (tables_ok catalogue tables) none.0)))
     where
       translated : catalogue_ok catalogue ≡ true → translated_outcome catalogue tables question mode plan work output (translate_outcome catalogue question mode plan)
           ≡ outcome_by (wrong_count question ∷ short_plan plan ∷ question_lines question catalogue) refusal (translated_outcome catalogue tables question mode plan work output (written catalogue question mode plan))

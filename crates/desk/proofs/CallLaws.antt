@@ -7,7 +7,7 @@ use native.Mathlib.Omega.{arith}
 use lib.Dec.{ltb}
 use lib.ListN.{length, take}
 use lib.Seq.{length-sets}
-use borrow.Author.Tests.{ne_eqb, ltb-false, not_false}
+use borrow.Author.Tests.{ne_eqb, ltb-false, not-false}
 use Rattle.relations.specs.Limits.{plan_node_words, plan_node_limit}
 use Rattle.relations.specs.Lists.{flat}
 use Rattle.relations.specs.PlanWords.{node_words}
@@ -104,7 +104,7 @@ module _ (catalogue question : List ℕ) (mode : ℕ) (plan : List ℕ) where
       tested Leaves (not (catalogue_ok catalogue)) (λ wrong. refusal_leaves 7 0 (λ e. omega (arith, e)))
       (λ right. tested Leaves (not (count_ok question)) (λ wrong. refusal_leaves 1 0 (λ e. omega (arith, e)))
       (λ counted. tested Leaves (ltb (length plan) plan_buffer_words) (λ wrong. refusal_leaves 8 0 (λ e. omega (arith, e)))
-      (λ long. judged (not_false (catalogue_ok catalogue) right) (ltb-false (length plan) plan_buffer_words long) (judged_question catalogue question) refl numbered)))
+      (λ long. judged (not-false (catalogue_ok catalogue) right) (ltb-false (length plan) plan_buffer_words long) (judged_question catalogue question) refl numbered)))
     where
       judged : catalogue_ok catalogue ≡ true → plan_buffer_words ≤ length plan → (judgement : Judgement) → judged_question catalogue question ≡ judgement → Numbered judgement
           → Leaves (judged_outcome catalogue question mode plan judgement)

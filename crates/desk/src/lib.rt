@@ -1,4 +1,6 @@
 // The desk: a question answered. Read specs/ beside document 01, "Refusal numbers" and its examples, then proofs/.
+#![tactic(auto)]
+
 ghost use Rattle.std.specs.Prelude.{◌≡◌};
 ghost use Rattle.running.specs.RunCall.{run_numbers};
 ghost use Rattle.running.specs.RunBounds.{Bounded};

@@ -1,7 +1,7 @@
 -- S1: whether a list of attributes is all columns in order, compared one by one. Assumes nothing.
 use Prim.Native.Nat.{ℕ, suc, ◌+◌, ◌-◌, ◌≤◌, ◌<◌}
 use mathlib.Core.Path.{◌≡◌, refl, sym, ap, ap₂, ◌∙◌}
-use mathlib.Core.Bool.{Bool, true, false, cond, ◌&&◌, and_false}
+use mathlib.Core.Bool.{Bool, true, false, cond, ◌&&◌, and-false}
 use mathlib.Core.List.{List, [], ◌∷◌}
 use native.Mathlib.Omega.{arith}
 use native.Mathlib.Numerals.{add-one}
@@ -21,14 +21,14 @@ different : (listed others : List Attribute) → (length listed ≡ length other
 different [] [] h = absurd (h refl)
 different [] (b ∷ others) h = refl
 different (a ∷ listed) [] h = refl
-different (a ∷ listed) (b ∷ others) h = ap (λ rest. eqb a.number b.number && rest) (different listed others (λ e. h (ap suc e))) ∙ and_false (eqb a.number b.number)
+different (a ∷ listed) (b ∷ others) h = ap (λ rest. eqb a.number b.number && rest) (different listed others (λ e. h (ap suc e))) ∙ and-false (eqb a.number b.number)
 
 -- Behind a product with a range that has a column, P's columns are never all columns: S1 leaves the project of a plain "some" or "every" as it is.
 pub plain_project : (short : Bool) (s : Scope) (x width p : ℕ) → 1 ≤ width → project_nodes short (columns_in (extend s x width)) p (all_columns (columns_in s)) ≡ project p (all_columns (columns_in s)) ∷ []
 plain_project short s x width p some =
     let fewer : short_rule1_fits (columns_in (extend s x width)) (all_columns (columns_in s)) ≡ false =
     different (all_columns (columns_in s)) (all_columns (columns_in (extend s x width))) (λ e. omega (arith, e, some, columns_length (columns_in s) 1, columns_length (columns_in (extend s x width)) 1, columns_extend s x width)) in
-    ap (λ b. cond (short && b) [] (project p (all_columns (columns_in s)) ∷ [])) fewer ∙ ap (λ b. cond b [] (project p (all_columns (columns_in s)) ∷ [])) (and_false short)
+    ap (λ b. cond (short && b) [] (project p (all_columns (columns_in s)) ∷ [])) fewer ∙ ap (λ b. cond b [] (project p (all_columns (columns_in s)) ∷ [])) (and-false short)
 
 module _ (width : ℕ) (attributes : NodeList) (few : attributes.used ≤ length attributes.words) where
   abbrev listed : List Attribute

@@ -1,2 +1,4 @@
 // Operation 5: a left row beside the right rows that it meets.
+#![tactic(auto)]
+
 pub mod join;

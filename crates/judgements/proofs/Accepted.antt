@@ -6,7 +6,7 @@ use mathlib.Core.Logic.{◌⊎◌, inl, inr}
 use Prim.Native.Nat.{ℕ, zero, suc, ◌+◌, ◌-◌, ◌≤◌, ◌<◌}
 use native.Mathlib.Omega.{arith}
 use lib.Dec.{ltb, eqb}
-use borrow.Author.Tests.{ltb-false, eqb-true, eqb-false, eq-eqb, not_false}
+use borrow.Author.Tests.{ltb-false, eqb-true, eqb-false, eq-eqb, not-false}
 use Rattle.relations.specs.Limits.{question_node_limit}
 use Rattle.relations.proofs.BoolLaws.{true_or_false}
 use Rattle.calculus.specs.Question.{range_nodes}
@@ -117,7 +117,7 @@ searched_right catalogue words count formed once alpha known =
     record {
       count = count;
       formed = none_below (λ i. is_ill_formed (node_at words i).form) n formed;
-      once = λ j l. eqb-true (seen (references_to words n) j) 1 (not_false (eqb (seen (references_to words n) j) 1) (none_below (not_once (references_to words n)) (last_node words) once j l));
+      once = λ j l. eqb-true (seen (references_to words n) j) 1 (not-false (eqb (seen (references_to words n) j) 1) (none_below (not_once (references_to words n)) (last_node words) once j l));
       alpha = alpha;
       known = none_below (λ i. is_unknown (relations_of catalogue) (node_at words i).form) n known;
     }

@@ -6,7 +6,7 @@ use Prim.Native.Nat.{ℕ, zero, suc, ◌+◌, ◌≤◌, ◌<◌, min}
 use native.Mathlib.Omega.{arith}
 use lib.Dec.{ltb, leb, eqb}
 use lib.ListN.{length}
-use borrow.Author.Tests.{ltb-true, ltb-false, leb-true, eqb-true, eqb-false, ne_eqb, not_false}
+use borrow.Author.Tests.{ltb-true, ltb-false, leb-true, eqb-true, eqb-false, ne_eqb, not-false}
 use Rattle.relations.specs.Limits.{column_limit, question_node_limit, variable_count}
 use Rattle.relations.specs.Lists.{All}
 use Rattle.relations.specs.Comparison.{Operator, operator_named}
@@ -189,7 +189,7 @@ module _ (columns : ℕ → ℕ) (relations : ℕ) where
       }
 
   same_widths : {a b : calculus.Range} {v w : ℕ} → RangeGood a v → RangeGood b w → not (eqb v w) ≡ false → width_of_range columns a ≡ width_of_range columns b
-  same_widths {v = v} {w = w} r t h = r.wide ∙ eqb-true v w (not_false (eqb v w) h) ∙ sym t.wide
+  same_widths {v = v} {w = w} r t h = r.wide ∙ eqb-true v w (not-false (eqb v w) h) ∙ sym t.wide
 
   module _ (has-columns : (relation : ℕ) → relation < relations → 1 ≤ columns relation) where
     mutual

@@ -1,3 +1,5 @@
 // The rules for numbers and lines, read and written.
+#![tactic(auto)]
+
 pub mod reading;
 pub mod writing;

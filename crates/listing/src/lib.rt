@@ -1,4 +1,6 @@
 // The listing that `desk` prints: an answer's numbers and rows, or a refusal.
+#![tactic(auto)]
+
 ghost use Rattle.std.specs.Prelude.{◌+◌, ◌≤◌, length};
 ghost use Rattle.lines.specs.Put.{Put, furthest};
 ghost use Rattle.listing.specs.Listing.{number_line, head_text, listing_text, Listable, refusal_text};

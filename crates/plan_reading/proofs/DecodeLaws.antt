@@ -1,7 +1,7 @@
 -- What 36 words are decoded to. The words of a node that reads are the node's own words, so its head words are its parts. Assumes nothing.
 use Prim.Native.Nat.{ℕ, ◌+◌, ◌-◌}
 use mathlib.Core.Path.{◌≡◌, refl, sym, ap, subst, ◌∙◌}
-use mathlib.Core.Bool.{Bool, true, false, cond, ◌&&◌, So, and_true}
+use mathlib.Core.Bool.{Bool, true, false, cond, ◌&&◌, So, and-true}
 use mathlib.Core.List.{List, [], ◌∷◌}
 use mathlib.Core.Option.{Option, some, none, map}
 use native.Mathlib.Omega.{arith}
@@ -66,7 +66,7 @@ decoded_as operation words size number known parts = go (fits (operation_in oper
 pub decoded_plain : (operation : Operation) (words : List ℕ) → length words ≡ plan_node_words → get_or words 0 0 ≡ operation_number (operation_in operation)
     → PartsIf operation words true → head_decoded (cond (fits (operation_in operation) words) (Node (head_in operation words)) Illegal) ≡ head_read (read_node words)
 decoded_plain operation words size number parts =
-    ap (λ (b : Bool). head_decoded (cond b (Node (head_in operation words)) Illegal)) (sym (and_true (fits (operation_in operation) words))) ∙ decoded_as operation words size number true (λ f. parts)
+    ap (λ (b : Bool). head_decoded (cond b (Node (head_in operation words)) Illegal)) (sym (and-true (fits (operation_in operation) words))) ∙ decoded_as operation words size number true (λ f. parts)
 
 -- parts that are made of one thing that may not be read
 pub parts_if : {A : Type 0} (operation : Operation) (words : List ℕ) (make : A → nodes.Node) (read : Option A) (known : Bool) → ReadIf read known
@@ -82,7 +82,7 @@ pub operator_alone : (words : List ℕ) → get_or words 3 0 ≡ 1 → ReadIf (o
 unfolding spaced
 operator_alone words one =
     let here : get_or (drop (head_words + 1) words) 0 0 ≡ get_or (drop head_words words) 1 0 = get_d_front words (head_words + 1) ∙ sym (get_or-drop head_words words 1 0) in
-    let known : operators_known words ≡ between 1 6 (get_or (drop head_words words) 1 0) = rw (one, here) (and_true (between 1 6 (get_or (drop head_words words) 1 0))) in
+    let known : operators_known words ≡ between 1 6 (get_or (drop head_words words) 1 0) = rw (one, here) (and-true (between 1 6 (get_or (drop head_words words) 1 0))) in
     rw known (operator_read (get_or (drop head_words words) 1 0))
 
 -- A decoded node stands for the node that its words read as.

@@ -1,7 +1,7 @@
 -- Legality of a decoded node, asked of its words: an arm of `legal_node` for each law. Assumes nothing.
 use Prim.Native.Nat.{ℕ, ◌+◌, ◌≤◌}
 use mathlib.Core.Path.{◌≡◌, refl, sym, ap, ap₂, ◌∙◌}
-use mathlib.Core.Bool.{Bool, ◌&&◌, So, and_true}
+use mathlib.Core.Bool.{Bool, ◌&&◌, So, and-true}
 use mathlib.Core.List.{List, map}
 use mathlib.Core.Option
 use mathlib.Core.Option.{Option, some, none}
@@ -75,7 +75,7 @@ module _ (relations : ℕ) (made : List ℕ) (words : List ℕ) (plan : PlanNode
   legal_select_constant o =
       let make : Operator → nodes.Node = λ operator. select_constant plan.left (attribute (get_or (drop head_words words) 0 0)) operator (constant (get_or (drop head_words words) 2 0)) in
       let found : (operator : Operator) × (operator_of (get_or (drop head_words words) 1 0) ≡ some operator) = made_of make (operator_of (get_or (drop head_words words) 1 0)) stood.node (rw o at stood.parts) in
-      legal_parts SelectConstant o ∙ rw found.1 (ap (λ b. lower made plan.left && b) (sym (and_true (between 1 (width_at made plan.left) (get_or (drop head_words words) 0 0)))))
+      legal_parts SelectConstant o ∙ rw found.1 (ap (λ b. lower made plan.left && b) (sym (and-true (between 1 (width_at made plan.left) (get_or (drop head_words words) 0 0)))))
 
   pub legal_select_attribute : plan.operation ≡ SelectAttribute → legal_read relations made (read_node words) ≡ (lower made plan.left && (all (between 1 (width_at made plan.left)) (spaced 3 1 (drop head_words words)) && all (between 1 (width_at made plan.left)) (spaced 3 1 (drop (head_words + 2) words))))
   unfolding spaced
@@ -84,7 +84,7 @@ module _ (relations : ℕ) (made : List ℕ) (words : List ℕ) (plan : PlanNode
       let found : (operator : Operator) × (operator_of (get_or (drop head_words words) 1 0) ≡ some operator) = made_of make (operator_of (get_or (drop head_words words) 1 0)) stood.node (rw o at stood.parts) in
       let test : ℕ → Bool = between 1 (width_at made plan.left) in
       let second : get_or (drop (head_words + 2) words) 0 0 ≡ get_or (drop head_words words) 2 0 = ap (λ (l : List ℕ). get_or l 0 0) (sym (drop-drop 2 head_words words)) ∙ get_d_front (drop head_words words) 2 in
-      legal_parts SelectAttribute o ∙ rw (found.1, second) (ap₂ (λ a b. lower made plan.left && (a && b)) (sym (and_true (test (get_or (drop head_words words) 0 0)))) (sym (and_true (test (get_or (drop head_words words) 2 0)))))
+      legal_parts SelectAttribute o ∙ rw (found.1, second) (ap₂ (λ a b. lower made plan.left && (a && b)) (sym (and-true (test (get_or (drop head_words words) 0 0)))) (sym (and-true (test (get_or (drop head_words words) 2 0)))))
 
   -- 5, 6 and 7
   legal_of_triples : (triples : List Triple) → plan.count ≤ triple_limit → read_triples plan.count (drop head_words words) ≡ some triples → legal_triples made plan.left plan.right triples ≡ triples_legal made plan words

@@ -1,7 +1,7 @@
 -- A node's words against its operation's shape: each of the decoder's tests, and the room that the list then has. Assumes nothing.
 use Prim.Native.Nat.{ℕ, ◌+◌, ◌*◌, ◌≤◌, ◌<◌}
 use mathlib.Core.Path.{◌≡◌, sym, ap, ◌∙◌}
-use mathlib.Core.Bool.{false, ◌&&◌, ◌||◌, So, and_false}
+use mathlib.Core.Bool.{false, ◌&&◌, ◌||◌, So, and-false}
 use mathlib.Core.List.{List}
 use native.Mathlib.Omega.{arith}
 use lib.Dec.{leb, eqb}
@@ -26,10 +26,10 @@ module _ (operation : Operation) (shape : Shape) (is : shape_in shape ≡ shape_
       ∙ ap (λ (n : ℕ). shape_fits (shape_in shape) (get_or words 2 0) n (drop head_words words)) (sym read)
 
   pub fits_too_few : count < shape.least → fits operation words ≡ false
-  fits_too_few h = asked ∙ rw (lt-leb shape.least count h) (and_false (shape.right || eqb (get_or words 2 0) 0))
+  fits_too_few h = asked ∙ rw (lt-leb shape.least count h) (and-false (shape.right || eqb (get_or words 2 0) 0))
 
   pub fits_too_many : shape.least ≤ count → shape.most < count → fits operation words ≡ false
-  fits_too_many l h = asked ∙ rw (le-leb shape.least count l, lt-leb count shape.most h) (and_false (shape.right || eqb (get_or words 2 0) 0))
+  fits_too_many l h = asked ∙ rw (le-leb shape.least count l, lt-leb count shape.most h) (and-false (shape.right || eqb (get_or words 2 0) 0))
 
   pub fits_rest : shape.least ≤ count → count ≤ shape.most → fits operation words ≡ ((shape.right || eqb (get_or words 2 0) 0) && all_zero (drop (head_words + shape.unit * count) words))
   fits_rest l h = asked ∙ rw (le-leb shape.least count l, le-leb count shape.most h, drop-drop (shape.unit * count) head_words words)

@@ -1,6 +1,6 @@
 -- Counting the elements that pass a test, and the rows that begin with a row: what operation 13 rests on.
 use mathlib.Core.Path.{◌≡◌, refl, sym, ◌∙◌, ap, ap₂, subst}
-use mathlib.Core.Bool.{Bool, true, false, ◌&&◌, ◌||◌, cond, and_true, and_false}
+use mathlib.Core.Bool.{Bool, true, false, ◌&&◌, ◌||◌, cond, and-true, and-false}
 use mathlib.Core.Logic.{◌⊎◌, inl, inr}
 use mathlib.Core.List.{List, [], ◌∷◌, ◌++◌, map}
 use Prim.Native.Nat.{suc, ◌+◌}
@@ -69,10 +69,10 @@ how_many_product F R t (p ∷ P) a h = how_many-append (λ q. F q && begins t q)
     go (inl e) =
         let same : t ≡ p = same_row-equal t p e in
         let once : member t P ≡ false = subst (λ z. member z P ≡ false) (sym same) (after_not_member p P a.0) in
-        let all_pass : how_many (λ r. F (p ++ r) && same_row t p) R ≡ how_many (λ r. F (t ++ r)) R = how_many_same (λ r. F (p ++ r) && same_row t p) (λ r. F (t ++ r)) (λ r. ap (λ b. F (p ++ r) && b) e ∙ (and_true (F (p ++ r)) ∙ ap (λ z. F (z ++ r)) (sym same))) R in
+        let all_pass : how_many (λ r. F (p ++ r) && same_row t p) R ≡ how_many (λ r. F (t ++ r)) R = how_many_same (λ r. F (p ++ r) && same_row t p) (λ r. F (t ++ r)) (λ r. ap (λ b. F (p ++ r) && b) e ∙ (and-true (F (p ++ r)) ∙ ap (λ z. F (z ++ r)) (sym same))) R in
         rw (all_pass, e, once) (add-zero (how_many (λ r. F (t ++ r)) R))
     go (inr e) =
-        let none_pass : how_many (λ r. F (p ++ r) && same_row t p) R ≡ 0 = how_many_same (λ r. F (p ++ r) && same_row t p) (λ r. false) (λ r. ap (λ b. F (p ++ r) && b) e ∙ and_false (F (p ++ r))) R ∙ how_many_none R in
+        let none_pass : how_many (λ r. F (p ++ r) && same_row t p) R ≡ 0 = how_many_same (λ r. F (p ++ r) && same_row t p) (λ r. false) (λ r. ap (λ b. F (p ++ r) && b) e ∙ and-false (F (p ++ r))) R ∙ how_many_none R in
         rw (none_pass, e) (zero-add (cond (member t P) (how_many (λ r. F (t ++ r)) R) 0))
 
 -- with k = 1 operation 13 keeps the left rows that begin some right row

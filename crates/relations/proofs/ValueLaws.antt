@@ -1,6 +1,6 @@
 -- Values: membership, and that an ascending list is known by its members; `canonical` makes the ascending list of the same members.
 use mathlib.Core.Path.{◌≡◌, refl, sym, ◌∙◌, ap, ap₂, subst}
-use mathlib.Core.Bool.{Bool, true, false, ◌&&◌, ◌||◌, cond, So, and_true, and_false}
+use mathlib.Core.Bool.{Bool, true, false, ◌&&◌, ◌||◌, cond, So, and-true, and-false}
 use mathlib.Core.Logic.{◌⊎◌, inl, inr}
 use mathlib.Core.List.{List, [], ◌∷◌, ◌++◌, map}
 use Rattle.relations.specs.Lists.{any, filter, All}
@@ -159,8 +159,8 @@ pub any_at : (g : Row → Bool) (t : Row) (P : Rows) → any (λ l. g l && same_
 any_at g t P = any_same (λ l. g l && same_row t l) (λ l. same_row t l && g t) (λ l. go l (true_or_false (same_row t l))) P ∙ any_and_right (same_row t) (g t) P
   where
     go : (l : Row) → (same_row t l ≡ true) ⊎ (same_row t l ≡ false) → (g l && same_row t l) ≡ (same_row t l && g t)
-    go l (inl e) = rw (e, and_true) (sym (same_row_cong g t l e))
-    go l (inr e) = rw (e, and_false)
+    go l (inl e) = rw (e, and-true) (sym (same_row_cong g t l e))
+    go l (inr e) = rw (e, and-false)
 
 -- a filtered value is in order as it is
 pub canonical-filter : (p : Row → Bool) (xs : Rows) → Ascending xs → canonical (filter p xs) ≡ filter p xs

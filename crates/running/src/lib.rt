@@ -1,4 +1,6 @@
 // A plan from anyone, judged and run over lent tables.
+#![tactic(auto)]
+
 ghost use Rattle.std.specs.Prelude.{◌≡◌, true, length, replicate};
 ghost use Rattle.catalogue.specs.Judging.{tables_ok};
 ghost use Rattle.plan_reading.specs.Judging.{plan_judgement, nodes_of_plan};

@@ -1,7 +1,7 @@
 -- When the short rules fit a node's condition. Assumes nothing.
 use Prim.Native.Nat.{ℕ, ◌-◌, ◌≤◌, ◌<◌}
 use mathlib.Core.Path.{◌≡◌, refl, sym, ap, ◌∙◌}
-use mathlib.Core.Bool.{Bool, true, false, ◌||◌, or_false, true≢false}
+use mathlib.Core.Bool.{Bool, true, false, ◌||◌, or-false, true≢false}
 use mathlib.Core.Logic.{◌⊎◌, inl, inr}
 use mathlib.Core.List.{List}
 use native.Mathlib.Omega.{arith}
@@ -67,7 +67,7 @@ abbrev pub opposite_fits : Condition → Bool
 opposite_fits f = short_rule3_fits f || short_rule6_fits f
 
 pub some-opposite : {x : ℕ} {range : Range} {f g : Condition} → g ≡ for_some x range f → opposite_fits g ≡ short_rule2_fits x f
-some-opposite {x} {range} {f} e = ap opposite_fits e ∙ or_false (short_rule2_fits x f)
+some-opposite {x} {range} {f} e = ap opposite_fits e ∙ or-false (short_rule2_fits x f)
 
 -- what is no "some": S5 does not fit it, and S3 or S6 if it is an atom
 pub not_divided : (y : ℕ) (form : Form) (a b c : Reading) → VariablesFit form → variable_count ≤ some_variable form → short_rule5_fits y (reading_of form a b c).condition ≡ false

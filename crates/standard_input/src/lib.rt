@@ -1,4 +1,6 @@
 // Standard input, read as a bundle into lent buffers.
+#![tactic(auto)]
+
 ghost use Rattle.io.specs.Counts.{IsPrefixLen};
 
 use bundle_reading::Reading;

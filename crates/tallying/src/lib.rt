@@ -1,5 +1,7 @@
 // Operation 13: the left rows that begin at least so many right rows. Both sides ascend, so the right rows that a left row begins stand together, behind those of
 // the left rows before it: one pass over both sides.
+#![tactic(auto)]
+
 ghost use Rattle.std.specs.Prelude.{◌+◌, ◌≤◌, ◌<◌, length};
 ghost use Rattle.relations.specs.Values.{Ascending};
 ghost use Rattle.relations.specs.Operations.{tally_candidates};

@@ -1,3 +1,3 @@
 // A column's number, from 1.
-#[derive(Drop)]
+#[derive(Clone, Copy)]
 pub struct Attribute(pub u32);

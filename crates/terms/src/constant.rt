@@ -1,3 +1,3 @@
 // A number that a question or a plan spells out.
-#[derive(Drop)]
+#[derive(Clone, Copy)]
 pub struct Constant(pub u32);

@@ -3,7 +3,7 @@ ghost use Rattle.std.specs.Prelude.{◌≡◌};
 ghost use Rattle.relations.specs.Comparison as comparison;
 ghost use Rattle.terms.specs.Terms.{operator_in};
 
-#[derive(Drop)]
+#[derive(Clone, Copy)]
 pub enum Operator {
     Equal,
     NotEqual,

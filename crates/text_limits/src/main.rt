@@ -1,4 +1,6 @@
 // What no bundle on standard input can show: buffers that are one word or one byte too small, and calls that `write` refuses.
+#![tactic(auto)]
+
 use bundle_reading::{Reading, read};
 use bundle_writing::{Writing, write};
 use libc::STDOUT_FILENO;

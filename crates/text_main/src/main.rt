@@ -1,4 +1,6 @@
 // Reads a bundle from standard input, and writes it back from what it read; or prints status= and place= lines.
+#![tactic(auto)]
+
 use bundle_writing::Writing;
 use libc::{STDERR_FILENO, STDOUT_FILENO};
 use relations::limits::{CATALOGUE_WORDS, QUESTION_WORDS, TEXT_BYTES, WORDS};

@@ -1,2 +1,4 @@
 // Translation: an accepted question's node table becomes exactly the plan words that the rules name.
+#![tactic(auto)]
+
 pub mod call;

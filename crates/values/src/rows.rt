@@ -4,14 +4,14 @@ ghost use Rattle.values.specs.Words.{held, row_in};
 ghost use Rattle.values.specs.Orders.{order_of};
 
 // A value: so many rows of a width, from the word `base` of the work area on.
-#[derive(Drop)]
+#[derive(Clone, Copy)]
 pub struct Value {
     pub base: usize,
     pub rows: usize,
     pub width: usize,
 }
 
-#[derive(Drop)]
+#[derive(Clone, Copy)]
 pub enum Order {
     Less,
     Equal,

@@ -1,4 +1,6 @@
 // The left rows that meet triples with some right row, or with none: each has a sieve, and right rows between its bounds are tried.
+#![tactic(auto)]
+
 ghost use Rattle.std.specs.Prelude.{◌≡◌, ◌&&◌, [], ◌∷◌, ◌+◌, ◌-◌, ◌*◌, ◌≤◌, ◌<◌, eqb, length};
 ghost use Rattle.relations.specs.Limits.{triple_limit};
 ghost use Rattle.relations.specs.Lists.{any};

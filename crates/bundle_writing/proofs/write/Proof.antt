@@ -5,7 +5,7 @@ use mathlib.Core.Path.{◌≡◌, sym, ◌∙◌}
 use mathlib.Core.Bool.{true}
 use native.Mathlib.Omega.{arith}
 use borrow.Author.Rules.{rules}
-use borrow.Author.Tests.{not-true, not_false, eq-eqb, ne_eqb, le-leb, lt-leb}
+use borrow.Author.Tests.{not-true, not-false, eq-eqb, ne_eqb, le-leb, lt-leb}
 use lib.ListN.{length}
 use Rattle.relations.specs.Limits.{question_node_words, question_node_limit, byte_limit}
 use Rattle.catalogue.specs.Judging.{tables_ok}
@@ -24,7 +24,7 @@ calls = (tables-ok-reads.Asked, tables-ok-reads.Learnt, count-bytes-reads.Asked,
 
 -- what is known behind refusal 7, and behind refusal 1
 tables-passed : (c : lts.Else1 calls reads.Pre reads.Post) → tables_ok c.before.before.before.before.before.before.args.catalogue.now c.before.before.before.before.before.before.args.tables.now ≡ true
-tables-passed c = sym c.before.tables_ok_lem.ensures ∙ not_false _ c.if1.false
+tables-passed c = sym c.before.tables_ok_lem.ensures ∙ not-false _ c.if1.false
 
 nodes-passed : (c : lts.Else4 calls reads.Pre reads.Post) → nodes_ok c.before.before.before.before.before.before.before.before.before.args.nodes.now ≡ true
 nodes-passed c =

@@ -5,7 +5,7 @@ use mathlib.Core.Bool.{true}
 use mathlib.Core.List.{List}
 use lib.ListN.{length}
 use lib.Seq.{length-take-le}
-use borrow.Author.Tests.{not-true, not_false}
+use borrow.Author.Tests.{not-true, not-false}
 use Rattle.relations.specs.Limits.{plan_node_words}
 use Rattle.catalogue.specs.Judging.{tables_ok}
 use Rattle.translation.specs.TranslateCall.{translate_numbers, translate_refusal, translate_outcome}
@@ -31,7 +31,7 @@ module _ (a : lts.After-translate (tables-ok-reads.Asked, tables-ok-reads.Learnt
   start = a.before.before.before.before.before.before.before.before.before.before
 
   good : tables_ok start.args.catalogue.now start.args.tables.now ≡ true
-  good = sym a.before.before.before.tables_ok_lem.ensures ∙ not_false _ a.before.before.if1.left
+  good = sym a.before.before.before.tables_ok_lem.ensures ∙ not-false _ a.before.before.if1.left
 
   abbrev left : List ℕ
   left = a.translate.last.1.1.1.0

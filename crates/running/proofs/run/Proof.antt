@@ -6,7 +6,7 @@ use Rattle.plan_reading.specs.Judging.{nodes_of_plan}
 use Rattle.running.specs.RunCall.{fit_within}
 use lib.Seq.{length-take-le}
 use mathlib.Core.Path.{sym, ◌∙◌}
-use borrow.Author.Tests.{not-true, not_false}
+use borrow.Author.Tests.{not-true, not-false}
 use native.Mathlib.Omega.{arith}
 use borrow.Author.Rules.{rules}
 use Rattle.running.proofs.run.Statement.{statement}
@@ -44,7 +44,7 @@ slice-aggregate-run-legal c = sym (length-take-le c.before.capacity-of.result c.
 
 -- src/lib.rt:131:13
 run-legal-requires : tie.Need-run-legal-requires
-run-legal-requires c κs = let s = c.before.before.before.before.before.before.before.before.before.before.before.before.before.before.before.args in (sym c.before.before.before.before.before.before.before.before.before.tables_ok_lem.ensures ∙ not_false _ c.before.before.before.before.before.before.before.before.if1.false, plan_judged s.catalogue.now s.plan.now c.before.before.before.before.before.before.before.judge-plan.ensures c.before.before.before.before.before.nodes.given.1)
+run-legal-requires c κs = let s = c.before.before.before.before.before.before.before.before.before.before.before.before.before.before.before.args in (sym c.before.before.before.before.before.before.before.before.before.tables_ok_lem.ensures ∙ not-false _ c.before.before.before.before.before.before.before.before.if1.false, plan_judged s.catalogue.now s.plan.now c.before.before.before.before.before.before.before.judge-plan.ensures c.before.before.before.before.before.nodes.given.1)
 
 -- src/lib.rt:133:28
 enum-known-place : tie.Need-enum-known-place
@@ -61,14 +61,14 @@ same-length-2 c = search rules
 -- src/lib.rt:122:1
 returns-2 : tie.Need-returns-2
 returns-2 c = let s = c.before.before.before.before.before.before.before.before.before.before.before.before.before.before.before.before.before.before.before.before.args in
-    outcome_ran s.catalogue.now s.tables.now s.plan.now s.work.now s.output.now (sym c.before.before.before.before.before.before.before.before.before.before.before.before.before.before.tables_ok_lem.ensures ∙ not_false _ c.before.before.before.before.before.before.before.before.before.before.before.before.before.if1.false) (plan_judged s.catalogue.now s.plan.now c.before.before.before.before.before.before.before.before.before.before.before.before.judge-plan.ensures c.before.before.before.before.before.before.before.before.before.before.nodes.given.1) c.before.before.before.before.before.before.before.capacity-of.ensures
+    outcome_ran s.catalogue.now s.tables.now s.plan.now s.work.now s.output.now (sym c.before.before.before.before.before.before.before.before.before.before.before.before.before.before.tables_ok_lem.ensures ∙ not-false _ c.before.before.before.before.before.before.before.before.before.before.before.before.before.if1.false) (plan_judged s.catalogue.now s.plan.now c.before.before.before.before.before.before.before.before.before.before.before.before.judge-plan.ensures c.before.before.before.before.before.before.before.before.before.before.nodes.given.1) c.before.before.before.before.before.before.before.capacity-of.ensures
     (ran_with s.catalogue.now s.tables.now (nodes_of_plan s.plan.now) (λ l. l ++ drop c.before.before.before.before.before.before.before.capacity-of.result s.work.now) (replicate (length (take c.before.before.before.before.before.before.before.capacity-of.result s.work.now)) 0) s.output.now
     (fit_within s.catalogue.now s.tables.now (nodes_of_plan s.plan.now) (length (take c.before.before.before.before.before.before.before.capacity-of.result s.work.now))) c.before.before.before.before.run-legal.ensures)
 
 -- src/lib.rt:122:1
 returns-3 : tie.Need-returns-3
 returns-3 c = let s = c.before.before.before.before.before.before.before.before.before.before.before.args in
-    outcome-illegal s.catalogue.now s.tables.now s.plan.now s.work.now s.output.now (sym c.before.before.before.before.before.tables_ok_lem.ensures ∙ not_false _ c.before.before.before.before.if1.false) (plan_judged s.catalogue.now s.plan.now c.before.before.before.judge-plan.ensures c.before.place.given.1)
+    outcome-illegal s.catalogue.now s.tables.now s.plan.now s.work.now s.output.now (sym c.before.before.before.before.before.tables_ok_lem.ensures ∙ not-false _ c.before.before.before.before.if1.false) (plan_judged s.catalogue.now s.plan.now c.before.before.before.judge-plan.ensures c.before.place.given.1)
 
 pub run_spec : {M : Type 1} → statement M
 run_spec =

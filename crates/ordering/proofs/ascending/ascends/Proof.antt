@@ -2,7 +2,7 @@ use Prim.Native.Nat.{ℕ, ◌≤◌, ◌-◌, ◌+◌, ◌*◌}
 use mathlib.Core.Path.{◌≡◌, refl, sym, ap, ◌∙◌}
 use mathlib.Core.List.{List}
 use mathlib.Core.Bool.{Bool, true, false}
-use borrow.Author.Tests.{not-true, not_false}
+use borrow.Author.Tests.{not-true, not-false}
 use Rattle.relations.specs.Rows.{row_before}
 use Rattle.values.specs.Words.{row_in}
 use Rattle.values.proofs.RowsLaws.{times_inside}
@@ -71,7 +71,7 @@ loop-less c = omega arith
 
 -- src/ascending.rt:27:5
 loop-again : tie.Need-loop-preserved invariant-loop decreases-loop
-loop-again c = let s = c.before.before.before.before.before.before.before.args in let v = s.value in let l = s.words.now in let k = c.before.before.before.before.loop in let f : ahead l v.base v.width (k.left - 1) ≡ true = before-next l v.base (k.left - 1) v.width c.before.before.row.result.now c.before.stands-before.result c.before.before.row.ensures c.before.stands-before.ensures ∙ not_false _ c.if2.false in
+loop-again c = let s = c.before.before.before.before.before.before.before.args in let v = s.value in let l = s.words.now in let k = c.before.before.before.before.loop in let f : ahead l v.base v.width (k.left - 1) ≡ true = before-next l v.base (k.left - 1) v.width c.before.before.row.result.now c.before.stands-before.result c.before.before.row.ensures c.before.stands-before.ensures ∙ not-false _ c.if2.false in
     (omega arith, k.invariant.1 ∙ all_turn (ahead l v.base v.width) k.left (omega arith) ∙ rw f refl)
 
 -- src/ascending.rt:16:1

@@ -1,7 +1,7 @@
 use Rattle.relations.specs.Limits.{triple_limit}
 use Prim.Native.Nat.{ℕ, ◌+◌, ◌≤◌}
 use lib.Dec.{leb}
-use mathlib.Core.Bool.{false, and_true, ◌&&◌, ◌||◌}
+use mathlib.Core.Bool.{false, and-true, ◌&&◌, ◌||◌}
 use Rattle.short_rules.proofs.LeafSteps.{rest, all_next, count_next}
 use Rattle.conditions.specs.Leaves.{leaf_count, atoms_of}
 use Rattle.calculus.specs.Leaves.{alone_on, compares_with_other}
@@ -68,7 +68,7 @@ returns : tie.Need-returns invariant-loop decreases-loop
 returns c = let l = c.before.loop in
     let e : l.left ≡ 0 = omega arith in
     let k : l.comparing ≡ length (filter (compares_with_other c.before.before.before.before.args.x) (atoms_of c.before.before.before.before.args.words.now false c.before.before.before.before.args.leaves.now)) = omega (arith, rw e at l.invariant.3) in
-    ap₂ ◌&&◌ (sym (and_true l.fits) ∙ rw e at l.invariant.2) (ap (λ (n : ℕ). leb n triple_limit) k)
+    ap₂ ◌&&◌ (sym (and-true l.fits) ∙ rw e at l.invariant.2) (ap (λ (n : ℕ). leb n triple_limit) k)
 
 pub short-rule-2-atoms-spec : {M : Type 1} → statement M
 short-rule-2-atoms-spec =

@@ -5,7 +5,7 @@ use Rattle.calculus.specs.Leaves.{alone_on, equates_with, equates_outside}
 use Rattle.relations.specs.Lists.{all, filter}
 use Rattle.relations.specs.Legality.{between}
 use lib.ListN.{length}
-use mathlib.Core.Bool.{false, ◌&&◌, ◌||◌, and_true}
+use mathlib.Core.Bool.{false, ◌&&◌, ◌||◌, and-true}
 use mathlib.Core.Path.{◌≡◌, refl, ap, ap₂, sym, ◌∙◌}
 use Prim.Native.Nat.{ℕ, ◌+◌, ◌≤◌}
 use native.Mathlib.Omega.{arith}
@@ -85,7 +85,7 @@ returns c = let s = c.before.before.before.before in
     let e : l.left ≡ 0 = omega arith in
     let k : l.shared ≡ length (filter (equates_with s.args.z s.args.y) atoms) = omega (arith, rw e at l.invariant.4) in
     let m : l.outside ≡ length (filter (equates_outside s.args.z s.args.y) atoms) = omega (arith, rw e at l.invariant.5) in
-    ap₂ ◌&&◌ (sym (and_true l.fits) ∙ rw e at l.invariant.3) (ap₂ (λ (x y : ℕ). between 1 pair_limit x && between 1 triple_limit y) k m)
+    ap₂ ◌&&◌ (sym (and-true l.fits) ∙ rw e at l.invariant.3) (ap₂ (λ (x y : ℕ). between 1 pair_limit x && between 1 triple_limit y) k m)
 
 pub short-rule-5-atoms-spec : {M : Type 1} → statement M
 short-rule-5-atoms-spec =

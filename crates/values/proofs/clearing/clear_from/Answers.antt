@@ -1,0 +1,7 @@
+use Rattle.values.proofs.ClearLaws.{clear_all}
+use mathlib.Core.Path.{◌∙◌}
+use borrow.Author.Rules.{rules}
+use Rattle.values.proofs.clearing.clear_from.Goals as goal
+
+pub returns : goal.returns
+returns c = c.clear_words.ensures ∙ clear_all c.args.work.now c.args.out c.requires
