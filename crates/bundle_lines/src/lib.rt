@@ -16,7 +16,7 @@ use relations::limits::{QUESTION_NODE_WORDS, QUESTION_NODES, WORDS};
 
 // The text, the position of the byte that comes next, and the number of its line, from 1. At the text's end that is one line after
 // the last, so whatever is missing there is wrong at the reader's own line.
-#[derive(Drop)]
+#[derive(Clone, Copy)]
 pub struct Reader<'a> {
     pub text: &'a [u8],
     pub at: usize,
@@ -25,7 +25,7 @@ pub struct Reader<'a> {
 
 // The line that must come next. A line that passes a limit is the wrong one, so a relation knows the words of the tables before it,
 // and a node the nodes before it.
-#[derive(Drop)]
+#[derive(Clone, Copy)]
 pub enum Line {
     Mode,
     Relation { total: usize },

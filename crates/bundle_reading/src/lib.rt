@@ -20,21 +20,21 @@ use relations::limits::{
 };
 
 // How much was read, and where that ends.
-#[derive(Drop)]
+#[derive(Clone, Copy)]
 pub struct TablesRead {
     pub pairs: usize,
     pub words: usize,
     pub step: Step,
 }
 
-#[derive(Drop)]
+#[derive(Clone, Copy)]
 pub struct NodesRead {
     pub nodes: usize,
     pub step: Step,
 }
 
 // A bundle was read, or the line of that number is wrong.
-#[derive(Drop)]
+#[derive(Clone, Copy)]
 pub enum Lines {
     Read {
         mode: u32,
@@ -46,7 +46,7 @@ pub enum Lines {
 }
 
 // What reading a bundle answers: its numbers; refusal 12 at a line; or refusal 14.
-#[derive(Drop)]
+#[derive(Clone, Copy)]
 pub enum Reading {
     Bundle {
         mode: u32,

@@ -14,7 +14,7 @@ use lines::writing::{put_bytes, put_lines, put_numbers};
 use relations::limits::{QUESTION_NODE_WORDS, QUESTION_NODES, TEXT_BYTES};
 
 // What writing a bundle answers: its bytes; or refusal 7, 1 or 13.
-#[derive(Drop)]
+#[derive(Clone, Copy)]
 pub enum Writing {
     Bytes(usize),
     WrongTables,

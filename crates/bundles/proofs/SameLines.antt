@@ -258,7 +258,7 @@ module _ (end : ℕ) where
       go (goes_on line xs) h = omega (arith, h, f line xs)
       go (wrong_at line) h = h
 
-  lift : {a b : Next} {line : ℕ} → NextSame (end - (line + 1)) line a b → Along end a b
+  lift : {line : ℕ} {a b : Next} → NextSame (end - (line + 1)) line a b → Along end a b
   lift (both_on s) = on s
   lift both_wrong = wrong
 

@@ -5,7 +5,7 @@ ghost use Rattle.catalogue.specs.Judging.{pair_ok, tables_ok, catalogue_numbers,
 use relations::limits::{CATALOGUE_WORDS, STORED_COLUMNS, STORED_ROWS, WORDS};
 
 // The number of words that the tables have, or refusal 7.
-#[derive(Drop)]
+#[derive(Clone, Copy)]
 pub enum Judged {
     Words(usize),
     Wrong,

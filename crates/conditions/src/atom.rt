@@ -95,7 +95,7 @@ pub fn equates_outside(z: u32, y: u32, atom: Atom) -> bool
 }
 
 // An atom that compares z with another variable: z's attribute, the other variable, and its attribute.
-#[derive(Drop)]
+#[derive(Clone, Copy)]
 pub struct Sides {
     pub own: Attribute,
     pub variable: u32,

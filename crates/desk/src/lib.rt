@@ -13,7 +13,7 @@ use translation::call::{Translated, translate};
 
 pub mod console;
 
-#[derive(Drop)]
+#[derive(Clone, Copy)]
 pub enum Answered {
     Done {
         nodes: u32,

@@ -75,7 +75,7 @@ pub fn project_first(plan: &mut [u32], n: u32, left: u32, columns: u32) -> u32
 }
 
 // What a select compares an attribute with (operations 4 and 3).
-#[derive(Drop)]
+#[derive(Clone, Copy)]
 pub enum Comparand {
     Attribute(Attribute),
     Constant(Constant),
@@ -139,7 +139,7 @@ pub fn pair(plan: &mut [u32], n: u32, how: Combination, left: u32, right: u32) -
 }
 
 // The operations on two values with a list of triples, or of pairs.
-#[derive(Drop)]
+#[derive(Clone, Copy)]
 pub enum Linking {
     Semijoin,
     Antijoin,

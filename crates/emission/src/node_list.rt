@@ -7,7 +7,7 @@ ghost use Rattle.emission.specs.NodeLists.{node_list, grown_by, numbers_of};
 use relations::limits::LIST_WORDS;
 
 // A node's list: the words used so far, then zeros.
-#[derive(Drop)]
+#[derive(Clone, Copy)]
 pub struct NodeList {
     pub words: [u32; LIST_WORDS],
     pub used: u32,

@@ -10,21 +10,21 @@ use relations::limits::GREATEST_WORD;
 
 // Where a reader stands, as a plain value: the position of the byte that comes next, and the number of its line, from 1.
 // A step hands it back, since no enum can hold a reader; a loop carries it to the next line.
-#[derive(Drop)]
+#[derive(Clone, Copy)]
 pub struct Cursor {
     pub at: usize,
     pub line: usize,
 }
 
 // A number and the position behind it.
-#[derive(Drop)]
+#[derive(Clone, Copy)]
 pub enum Number {
     Value(u32, usize),
     Wrong,
 }
 
 // Lines were read up to the cursor, or the line of that number is wrong.
-#[derive(Drop)]
+#[derive(Clone, Copy)]
 pub enum Step {
     Next(Cursor),
     Wrong(usize),

@@ -38,7 +38,7 @@ use values::placing::Placed;
 use values::rows::Value;
 
 // What a node's value has, and 1 where its operation is heavy, else 0; or that there is no room for it.
-#[derive(Drop)]
+#[derive(Clone, Copy)]
 pub enum Made {
     Value {
         width: usize,

@@ -9,7 +9,7 @@ use native.Mathlib.Nat.{mod-lt, mod-eq_of_lt, div-eq_of_lt, div_self, div-one, e
 use native.Mathlib.Numerals.{add-one}
 use lib.Arith.{digits_mod, dbl_pred}
 use lib.Pow.{pow_pos, pow-lt, pow-add, shl-shr, shr-shr, ones_split, ones_lt, high}
-use lib.Bits.{bit_and_lem, bit_or_lem, bit_xor_lem, differ, and_shr, or_shr, xor_shr, and_step, or_step, xor_step, xor_add_and, and_mask, shifted_even}
+use lib.Bits.{bit_and, bit_or, bit_xor, differ, and_shr, or_shr, xor_shr, and_step, or_step, xor_step, xor_add_and, and_mask, shifted_even}
 use lib.Count.{count_trailing_zeros, under}
 use lib.Dec.{eqb}
 use borrow.Author.Tests.{eq-eqb, ne_eqb}
@@ -25,17 +25,17 @@ differ_lt zero y h k = k
 differ_lt (suc x) zero h k = h
 differ_lt (suc x) (suc y) h k = differ_lt x y (omega arith) (omega arith)
 
-pub bit_or_lem : (a b j : ℕ) → bit (bit_or_lem a b) j ≡ max (bit a j) (bit b j)
+pub bit_or_lem : (a b j : ℕ) → bit (bit_or a b) j ≡ max (bit a j) (bit b j)
 bit_or_lem a b j =
     ap (λ (x : ℕ). x % 2) (or_shr a b j ∙ or_step (a / 2 ^ j) (b / 2 ^ j))
     ∙ digits_mod _ (omega (arith, bit_lt a j, bit_lt b j))
 
-pub bit_and_lem : (a b j : ℕ) → bit (bit_and_lem a b) j ≡ min (bit a j) (bit b j)
+pub bit_and_lem : (a b j : ℕ) → bit (bit_and a b) j ≡ min (bit a j) (bit b j)
 bit_and_lem a b j =
     ap (λ (x : ℕ). x % 2) (and_shr a b j ∙ and_step (a / 2 ^ j) (b / 2 ^ j))
     ∙ digits_mod _ (omega (arith, bit_lt a j, bit_lt b j))
 
-pub bit_xor_lem : (a b j : ℕ) → bit (bit_xor_lem a b) j ≡ differ (bit a j) (bit b j)
+pub bit_xor_lem : (a b j : ℕ) → bit (bit_xor a b) j ≡ differ (bit a j) (bit b j)
 bit_xor_lem a b j =
     ap (λ (x : ℕ). x % 2) (xor_shr a b j ∙ xor_step (a / 2 ^ j) (b / 2 ^ j))
     ∙ digits_mod _ (differ_lt (bit a j) (bit b j) (bit_lt a j) (bit_lt b j))
@@ -73,7 +73,7 @@ ones_bit i j =
     ap (λ (x : ℕ). x / 2 ^ j % 2) (ones_split (suc i) j) ∙ ap (λ (x : ℕ). x % 2) (high (2 ^ suc i - 1) j (ones_lt j))
     ∙ ap (λ (x : ℕ). (x - 1) % 2) (ap (λ (y : ℕ). 2 ^ y) (sym (add-one i)) ∙ pow-add 2 i 1) ∙ ap (λ (x : ℕ). x % 2) (dbl_pred (pow_pos i)) ∙ digits_mod (2 ^ i - 1) (omega arith)
 
-not_is_xor : (k x : ℕ) → x < 2 ^ k → 2 ^ k - 1 - x ≡ bit_xor_lem x (2 ^ k - 1)
+not_is_xor : (k x : ℕ) → x < 2 ^ k → 2 ^ k - 1 - x ≡ bit_xor x (2 ^ k - 1)
 not_is_xor k x h = omega (arith, xor_add_and x (2 ^ k - 1), and_mask x k, mod-eq_of_lt h)
 
 pub bit_not : (k x j : ℕ) → x < 2 ^ k → j < k → bit (2 ^ k - 1 - x) j ≡ differ (bit x j) 1
@@ -128,13 +128,13 @@ skipped o t w e =
     let z : (j : ℕ) → hit w j ≡ 0 = λ j. simp (ne_eqb w (suc j) (λ f. omega arith)) in
     record { once = λ j. omega (arith, z j); twice = λ j. omega (arith, z j) }
 
-pub stepped : (o t w b : ℕ) → 0 < w → b ≡ 2 ^ (w - 1) → Stepped o t w (bit_or_lem o b) (bit_or_lem t (bit_and_lem o b))
+pub stepped : (o t w b : ℕ) → 0 < w → b ≡ 2 ^ (w - 1) → Stepped o t w (bit_or o b) (bit_or t (bit_and o b))
 stepped o t w b p e =
     let q : suc (w - 1) ≡ w = omega arith in
     let h : (j : ℕ) → bit b j ≡ hit w j = λ j. ap (λ (x : ℕ). bit x j) e ∙ bit_pow (w - 1) j ∙ ap (λ (x : ℕ). hit x j) q in
     record {
       once = λ j. bit_or_lem o b j ∙ ap (max (bit o j)) (h j);
-      twice = λ j. bit_or_lem t (bit_and_lem o b) j ∙ ap (max (bit t j)) (bit_and_lem o b j ∙ ap (min (bit o j)) (h j));
+      twice = λ j. bit_or_lem t (bit_and o b) j ∙ ap (max (bit t j)) (bit_and_lem o b j ∙ ap (min (bit o j)) (h j));
     }
 
 one_top : (h : ℕ) → max 1 (min 1 h) ≡ 1
@@ -180,14 +180,14 @@ unfolding seen
 none_marked = record { once = λ j. zero_bit j; twice = λ j. zero_bit j }
 
 -- the place
-pub placed : (ws : List ℕ) (o t : ℕ) → bit_xor_lem o t < 2 ^ 64 → Marks o t ws → count_trailing_zeros 64 (2 ^ 64 - 1 - bit_xor_lem o t) ≡ lowest (not_once ws) 64
+pub placed : (ws : List ℕ) (o t : ℕ) → bit_xor o t < 2 ^ 64 → Marks o t ws → count_trailing_zeros 64 (2 ^ 64 - 1 - bit_xor o t) ≡ lowest (not_once ws) 64
 placed ws o t h m =
-    let x : ℕ = 2 ^ 64 - 1 - bit_xor_lem o t in
+    let x : ℕ = 2 ^ 64 - 1 - bit_xor o t in
     let a : count_trailing_zeros 64 x ≡ count_trailing_zeros 64 (x / 2 ^ 0) + 0 = sym (add-zero _ ∙ ap (count_trailing_zeros 64) (div-one x)) in
     a ∙ trailing 64 x 0
     ∙ first_same _ _ 64 0
     (λ i l. ap (λ (b : ℕ). eqb b 1)
-    (bit_not 64 (bit_xor_lem o t) i h (omega arith)
+    (bit_not 64 (bit_xor o t) i h (omega arith)
     ∙ ap (λ (d : ℕ). differ d 1) (bit_xor_lem o t i ∙ ap (λ (d : ℕ). differ d (bit t i)) (m.once i) ∙ ap (differ (min 1 (seen ws i))) (m.twice i)))
     ∙ exactly (seen ws i))
 

@@ -2,7 +2,7 @@
 ghost use Rattle.std.specs.Prelude.{◌≡◌};
 ghost use Rattle.nodes.specs.Kinds.{is_of, reference_in, one, two, three, five, fields_of};
 
-#[derive(Drop)]
+#[derive(Clone, Copy)]
 pub enum Sort {
     Target,
     Binding,
@@ -10,7 +10,7 @@ pub enum Sort {
     Condition,
 }
 
-#[derive(Drop)]
+#[derive(Clone, Copy)]
 pub enum Field {
     Unused,
     // A relation or a constant.
@@ -28,7 +28,7 @@ pub enum Field {
 }
 
 // The words a to e behind the kind.
-#[derive(Drop)]
+#[derive(Clone, Copy)]
 pub struct Fields {
     pub a: Field,
     pub b: Field,

@@ -10,13 +10,13 @@ use relations::limits::{ATTRIBUTES, OPERATORS, QUESTION_NODE_WORDS, VARIABLES};
 use terms::attribute::Attribute;
 use terms::constant::Constant;
 
-#[derive(Drop)]
+#[derive(Clone, Copy)]
 pub enum Operand {
     Of { variable: u32, attribute: Attribute },
     Fixed(Constant),
 }
 
-#[derive(Drop)]
+#[derive(Clone, Copy)]
 pub struct Atom {
     pub variable: u32,
     pub attribute: Attribute,
@@ -25,7 +25,7 @@ pub struct Atom {
 }
 
 // Of two ranges, 5, 6 and 7: the rows of either, of both, of the left one and not the right.
-#[derive(Drop)]
+#[derive(Clone, Copy)]
 pub enum Combination {
     Or,
     And,
@@ -33,7 +33,7 @@ pub enum Combination {
 }
 
 // Of conditions: 10, 11, 12.
-#[derive(Drop)]
+#[derive(Clone, Copy)]
 pub enum Connective {
     And,
     Or,
@@ -41,7 +41,7 @@ pub enum Connective {
 }
 
 // 13, 14, 16: of the rows of b some, every one, or at least so many meet c.
-#[derive(Drop)]
+#[derive(Clone, Copy)]
 pub enum Quantifier {
     Some,
     Every,
@@ -49,14 +49,14 @@ pub enum Quantifier {
 }
 
 // What binds a variable to the rows of b: a binding, whose c is the next one, or a quantifier, whose c is its condition.
-#[derive(Drop)]
+#[derive(Clone, Copy)]
 pub enum Binder {
     Binding,
     Quantifies(Quantifier),
 }
 
 // What a node is, but for the nodes that it refers to. Kinds that stand in a scope alike share a case.
-#[derive(Drop)]
+#[derive(Clone, Copy)]
 pub enum Form {
     // 1: the rows of a relation.
     Table(u32),
@@ -76,7 +76,7 @@ pub enum Form {
 }
 
 // A reference is a node's number plus one; 0 names no node. No kind has one in d or e.
-#[derive(Drop)]
+#[derive(Clone, Copy)]
 pub struct Node {
     pub form: Form,
     pub a: u32,

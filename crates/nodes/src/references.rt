@@ -7,7 +7,7 @@ ghost use Rattle.nodes.specs.Marks.{Marks, Stepped};
 use crate::node::decode;
 
 // Nodes referred to once or more, and nodes referred to twice or more.
-#[derive(Drop)]
+#[derive(Clone, Copy)]
 pub struct Seen {
     pub once: u64,
     pub twice: u64,

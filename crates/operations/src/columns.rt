@@ -11,7 +11,7 @@ use terms::operator::{Operator, operator_of};
 pub const NO_WORDS: [u32; 0] = [];
 
 // A comparison of a left row's attribute with a right row's.
-#[derive(Drop)]
+#[derive(Clone, Copy)]
 pub struct Triple {
     pub left: Attribute,
     pub operator: Operator,
@@ -19,7 +19,7 @@ pub struct Triple {
 }
 
 // A left attribute that must equal a right one.
-#[derive(Drop)]
+#[derive(Clone, Copy)]
 pub struct Pair {
     pub left: Attribute,
     pub right: Attribute,

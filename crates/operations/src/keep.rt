@@ -18,7 +18,7 @@ use values::rows::{Value, row};
 use values::search::has_row;
 
 // Which left rows are kept: by a comparison of their own columns, or by whether the right value has them.
-#[derive(Drop)]
+#[derive(Clone, Copy)]
 pub enum Test {
     Constant(Attribute, Operator, Constant),
     Attribute(Attribute, Operator, Attribute),

@@ -6,7 +6,7 @@ use crate::sieve::{NO_WORD, likely_entry};
 use relations::limits::TRIPLES;
 
 // The words that no such row stands before, and the words that stand before the first columns of none.
-#[derive(Drop)]
+#[derive(Clone, Copy)]
 pub struct Bounds {
     pub lows: [u32; TRIPLES],
     pub least: usize,

@@ -19,7 +19,7 @@ pub const SIEVE_WORDS: usize = 4 * TRIPLES;
 pub const NO_WORD: usize = GREATEST_WORD as usize + 1;
 
 // The words from the least to the greatest, without one.
-#[derive(Drop)]
+#[derive(Clone, Copy)]
 pub struct Span {
     pub low: usize,
     pub high: usize,

@@ -9,14 +9,14 @@ use crate::nodes::{Decoded, decode_node};
 use relations::limits::{PLAN_NODE_WORDS, PLAN_NODES};
 
 // The width of a legal node.
-#[derive(Drop)]
+#[derive(Clone, Copy)]
 pub enum Width {
     Of(usize),
     Illegal,
 }
 
 // A legal plan has so many nodes; an illegal one is refused at that place.
-#[derive(Drop)]
+#[derive(Clone, Copy)]
 pub enum PlanJudgement {
     Legal(usize),
     Illegal(usize),

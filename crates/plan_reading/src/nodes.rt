@@ -11,7 +11,7 @@ use relations::limits::{COLUMNS, HEAD_WORDS, OPERATORS, PAIR_WORDS, PAIRS, TRIPL
 
 const LAST_OPERATOR: usize = OPERATORS as usize;
 
-#[derive(Drop)]
+#[derive(Clone, Copy)]
 pub enum Operation {
     Load,
     Project,
@@ -28,7 +28,7 @@ pub enum Operation {
 }
 
 // A node without its list. A load's relation is its `left`.
-#[derive(Drop)]
+#[derive(Clone, Copy)]
 pub struct PlanNode {
     pub operation: Operation,
     pub left: usize,
@@ -36,14 +36,14 @@ pub struct PlanNode {
     pub count: usize,
 }
 
-#[derive(Drop)]
+#[derive(Clone, Copy)]
 pub enum Decoded {
     Node(PlanNode),
     Illegal,
 }
 
 // Which words of a node its operation uses: `unit` list words for each one counted.
-#[derive(Drop)]
+#[derive(Clone, Copy)]
 pub struct Shape {
     pub right: bool,
     pub least: usize,

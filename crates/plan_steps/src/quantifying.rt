@@ -11,7 +11,7 @@ use nodes::node::{Combination, Quantifier};
 use short_rules::fits::{ShortRule, rule_fits};
 
 // What the node above wants of a condition: the rows that meet it; those that don't (S3, S6); the division of S5 by y, whose range is node k.
-#[derive(Drop)]
+#[derive(Clone, Copy)]
 pub enum Wanted {
     Itself,
     Opposite,
@@ -38,7 +38,7 @@ pub fn opposite_if(test: bool) -> Wanted
 }
 
 // How a quantifier's nodes are made: by S2, S3 or S4; by S5, below "every y", whose range is node k; by S5 of the "some" below it; or plainly.
-#[derive(Drop)]
+#[derive(Clone, Copy)]
 pub enum Way {
     ByRule(ShortRule),
     AsDivisor { y: u32, k: u32 },

@@ -10,7 +10,7 @@ use nodes::node::{Binder, Form};
 use relations::limits::VARIABLES;
 
 // How many nodes the plan has behind a range, and the range's width.
-#[derive(Drop)]
+#[derive(Clone, Copy)]
 pub struct MadeRange {
     pub count: u32,
     pub width: u32,

@@ -13,7 +13,7 @@ use nodes::node::{Form, form_at};
 use nodes::references::lowest_not_once;
 use relations::limits::{QUESTION_NODE_WORDS, QUESTION_NODES};
 
-#[derive(Drop)]
+#[derive(Clone, Copy)]
 pub enum Judgement {
     Accepted,
     Refused { status: u32, place: u32 },

@@ -16,7 +16,7 @@ use values::clearing::clear_from;
 use values::placing::write_row;
 use values::rows::Value;
 
-#[derive(Drop)]
+#[derive(Clone, Copy)]
 pub enum Ran {
     Done {
         nodes: usize,
@@ -32,7 +32,7 @@ pub enum Ran {
 }
 
 // The answer of a plan whose values all have room, and what it took; or the node whose value has none.
-#[derive(Drop)]
+#[derive(Clone, Copy)]
 pub enum Worked {
     Answer {
         value: Value,

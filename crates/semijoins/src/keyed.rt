@@ -21,7 +21,7 @@ use values::rows::Value;
 use wanted_rows::keep_by_rows;
 
 // Some right columns, by their numbers.
-#[derive(Drop)]
+#[derive(Clone, Copy)]
 struct Columns {
     numbers: [u32; COLUMNS],
     count: usize,

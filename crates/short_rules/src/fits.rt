@@ -144,7 +144,7 @@ fn division_fits(words: &[u32], y: u32, reference: u32) -> bool
 }
 
 // The short rules that stand above a condition, by their names in document 01. S3 answers for S6 too: both stand under a "not".
-#[derive(Drop)]
+#[derive(Clone, Copy)]
 pub enum ShortRule {
     S2,
     S3,

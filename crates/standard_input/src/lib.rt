@@ -8,14 +8,14 @@ use libc::STDIN_FILENO;
 use relations::limits::{QUESTION_NODE_WORDS, TEXT_BYTES};
 
 // How many bytes were read, and whether they ended in a read that failed.
-#[derive(Drop)]
+#[derive(Clone, Copy)]
 pub struct TextRead {
     pub bytes: usize,
     pub failed: bool,
 }
 
 // What standard input was read as: a read that failed; a refusal's status and place; or a bundle's mode and how many words of each buffer are its own.
-#[derive(Drop)]
+#[derive(Clone, Copy)]
 pub struct Input {
     pub failed: bool,
     pub status: u32,

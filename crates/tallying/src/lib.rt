@@ -14,7 +14,7 @@ use values::placing::Placed;
 use values::rows::{Order, Value, compare_rows, row};
 
 // Whether a left row begins enough right rows; and the right rows that are left for the next one: from where, and how many.
-#[derive(Drop)]
+#[derive(Clone, Copy)]
 pub struct Counted {
     pub enough: bool,
     pub from: usize,

@@ -11,7 +11,7 @@ use plan_writing::translate::translate_range;
 use question::judgement::{Judgement, judge, judge_count};
 use relations::limits::{PLAN_WORDS, QUESTION_NODE_WORDS};
 
-#[derive(Drop)]
+#[derive(Clone, Copy)]
 pub enum Translated {
     Done { nodes: u32, heavy: u32 },
     WrongCatalogue,

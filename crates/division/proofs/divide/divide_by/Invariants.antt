@@ -1,0 +1,25 @@
+use Rattle.division.proofs.DivisionLaws.{quotient_step, quotient_now}
+use Rattle.operations.proofs.FillSteps.{builds_by, builds_there, builds_made, there_by}
+use Rattle.operations.proofs.RowSteps.{no_rows}
+use Rattle.division.specs.Divisions.{quotient}
+use Rattle.values.proofs.FillLaws.{Filled, filled_rows, filled_none, filled_on, filled_off, filled_end}
+use Rattle.values.proofs.RowsLaws.{times_step}
+use Rattle.values.specs.Words.{row_in, rows_at, rows_of}
+use Rattle.relations.specs.PlanWords.{read_pairs}
+use Rattle.relations.specs.Values.{member}
+use Rattle.relations.specs.Lists.{All}
+use lib.ListN.{length}
+use Prim.Native.Nat.{◌+◌, ◌*◌, ◌≤◌, ◌<◌, ◌-◌}
+use mathlib.Core.List.{[], ◌∷◌}
+use mathlib.Core.Bool.{So}
+use borrow.Author.Rules.{rules}
+use native.Mathlib.Omega.{arith}
+use Rattle.division.proofs.divide.divide_by.Given as goal
+
+abbrev pub invariant-loop-more : goal.invariant-loop-more
+invariant-loop-more l = (l.at + l.more * l.width ≤ l.out) × (l.last ≤ l.at)
+    × (l.last < l.at → All (λ row. So (member row (rows_at (length l.columns) l.made l.out l.work))) (quotient l.columns (read_pairs l.count l.list) (rows_of l.left l.initial.work) (rows_of l.right l.initial.work) (row_in l.initial.work l.last l.width ∷ [])))
+    × Filled (length l.columns) l.out 0 l.made (quotient l.columns (read_pairs l.count l.list) (rows_of l.left l.initial.work) (rows_of l.right l.initial.work) (rows_at l.width l.initial.more l.initial.at l.initial.work)) (quotient l.columns (read_pairs l.count l.list) (rows_of l.left l.initial.work) (rows_of l.right l.initial.work) (rows_at l.width l.more l.at l.initial.work)) l.initial.work l.work
+
+abbrev pub decreases-loop-more : goal.decreases-loop-more
+decreases-loop-more l = l.more

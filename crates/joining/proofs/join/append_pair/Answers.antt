@@ -1,0 +1,17 @@
+use Prim.Native.Nat.{◌+◌, ◌*◌, ◌-◌}
+use mathlib.Core.List.{◌++◌}
+use Rattle.values.specs.Words.{row_in}
+use Rattle.values.proofs.RowsLaws.{times_least}
+use Rattle.joining.proofs.JoinLaws.{put_last, full_last, written_pair, pair_wide}
+use native.Mathlib.Omega.{arith}
+use borrow.Author.Rules.{rules}
+use Rattle.joining.proofs.join.append_pair.Goals as goal
+
+pub returns-then-work-end : goal.returns-then-work-end
+returns-then-work-end c = let s = c.args in let p = c.requires in let l = s.work.now in
+    full_last s.out s.made (s.width + s.more) (row_in l s.a s.width ++ row_in l s.b s.more) l (pair_wide l s.a s.b s.width s.more (omega arith) (omega arith)) p.3 p.4 p.5 (omega arith)
+
+pub returns : goal.returns
+returns c = let s = c.args in let p = c.requires in let l = s.work.now in
+    put_last s.out s.made (s.width + s.more) (row_in l s.a s.width ++ row_in l s.b s.more) l (pair_wide l s.a s.b s.width s.more (omega arith) (omega arith)) p.3 p.4 p.5 (omega arith) _
+    (written_pair l _ _ (s.out + s.made * (s.width + s.more)) s.a s.b s.width s.more (omega arith) (omega arith) (omega arith) c.write_row.ensures c.write_row-2.ensures)

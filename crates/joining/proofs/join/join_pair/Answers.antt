@@ -1,0 +1,18 @@
+use mathlib.Core.Path.{◌≡◌, sym, ap, ◌∙◌}
+use mathlib.Core.Bool.{true, false}
+use Prim.Native.Nat.{◌+◌}
+use Rattle.values.specs.Words.{row_in}
+use Rattle.values.proofs.FillLaws.{filled_still}
+use Rattle.partners.specs.Sieves.{sifts}
+use borrow.Author.Rules.{rules}
+use Rattle.joining.proofs.join.join_pair.Goals as goal
+
+pub returns-then-lets_through : goal.returns-then-lets_through
+returns-then-lets_through c = let s = c.args in
+    let e : sifts s.entries s.sieve.now (row_in s.work.now s.b s.more) ≡ true = ap (sifts s.entries s.sieve.now) (sym c.row.ensures) ∙ sym c.lets_through.ensures ∙ c.if-lets_through.true in
+    rw e c.place_pair.ensures
+
+pub returns-else-lets_through : goal.returns-else-lets_through
+returns-else-lets_through c = let s = c.args in let p = c.requires in
+    let e : sifts s.entries s.sieve.now (row_in s.work.now s.b s.more) ≡ false = ap (sifts s.entries s.sieve.now) (sym c.row.ensures) ∙ sym c.lets_through.ensures ∙ c.if-lets_through.false in
+    rw e (filled_still (s.width + s.more) s.out s.made s.work.now p.5 p.6)

@@ -1,0 +1,5 @@
+use borrow.Author.Rules.{rules}
+use Rattle.nodes.proofs.node.form_at.Goals as goal
+
+pub returns : goal.returns
+returns c = simp c.decode-node.ensures

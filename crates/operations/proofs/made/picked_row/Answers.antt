@@ -1,0 +1,20 @@
+use Rattle.operations.proofs.MadeLaws.{pick_suc}
+use Rattle.relations.specs.Columns.{attribute, pick}
+use Rattle.operations.specs.Aside.{aside}
+use Rattle.relations.specs.Limits.{column_limit}
+use lib.ListN.{length, take, length-set}
+use Prim.Native.Nat.{◌≤◌, ◌-◌}
+use mathlib.Core.List.{map}
+use mathlib.Core.Path.{◌≡◌, refl}
+use native.Mathlib.Omega.{arith}
+use Rattle.operations.proofs.made.picked_row.Goals as goal
+
+pub loop-i-init : goal.loop-i-init
+loop-i-init c = (omega arith, refl, refl)
+
+pub loop-i-preserved : goal.loop-i-preserved
+loop-i-preserved c = let s = c.args in let l = c.loop-i in
+    (omega arith, simp length-set (omega arith), pick_suc l.made s.columns.now s.row.now l.i c.column_of.result (omega arith) l.invariant.2 c.column_of.ensures)
+
+pub returns : goal.returns
+returns c = let e : c.loop-i.i ≡ c.args.count = omega arith in rw (← e) c.loop-i.invariant.2

@@ -1,0 +1,5 @@
+use borrow.Author.Rules.{rules}
+use Rattle.plan_reading.proofs.legal.legal_tally.Goals as goal
+
+pub returns : goal.returns
+returns c = rw (c.width_at.ensures, c.width_at-2.ensures)
