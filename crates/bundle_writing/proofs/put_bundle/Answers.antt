@@ -15,11 +15,6 @@ use Rattle.catalogue.proofs.Judgements.{good-tables}
 use Rattle.bundle_writing.proofs.WritingSteps.{bundle_parts, bundle_fits}
 use Rattle.bundle_writing.proofs.put_bundle.Goals as goal
 
--- `bundle_writing::put_bundle` meets its contract: the mode's line, the tables and the nodes are put one behind another, and they are the bundle's text.
--- Such a text is short enough for every position (`bundle_fits`). Assumes nothing.
-abbrev calls : lts.Claims
-calls = (put-mode-reads.Asked, put-mode-reads.Learnt, put-tables-reads.Asked, put-tables-reads.Learnt, put-lines-reads.Asked, put-lines-reads.Learnt)
-
 pub put_tables-nodes_at-requires : goal.put_tables-nodes_at-requires
 put_tables-nodes_at-requires c = 
     let good = good-tables c.args.catalogue.now c.args.tables.now c.requires.0 in

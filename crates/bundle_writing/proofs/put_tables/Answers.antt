@@ -14,9 +14,6 @@ use Rattle.catalogue.proofs.PairLaws.{pair_whole}
 use Rattle.bundle_writing.proofs.WritingSteps.{TableTurn, table_turn}
 use Rattle.bundle_writing.proofs.put_tables.Goals as goal
 
-abbrev calls : lts.Claims
-calls = (wide-reads.Asked, wide-reads.Learnt, put-bytes-reads.Asked, put-bytes-reads.Learnt, put-numbers-reads.Asked, put-numbers-reads.Learnt, put-lines-reads.Asked, put-lines-reads.Learnt)
-
 pub loop-pair-init : goal.loop-pair-init
 loop-pair-init c = (c.requires.0, omega (arith, c.requires.1), refl, put_start _ _ _)
 
@@ -63,9 +60,6 @@ loop-pair-preserved c =
       put_on ((lines_text row_key c.wide-columns.result c.wide-rows.result (drop c.loop-pair.place c.args.tables.now))) ((tables_text (drop (c.loop-pair.pair + 2) c.args.catalogue.now) (drop (c.loop-pair.place + c.wide-columns.result * c.wide-rows.result) c.args.tables.now))) ((let the-fact : (StillToPut c.args.at (tables_text c.args.catalogue.now c.args.tables.now) c.args.text.now) c.put_numbers-rows_at.result ((lines_text row_key c.wide-columns.result c.wide-rows.result (drop c.loop-pair.place c.args.tables.now)) ++ (tables_text (drop (c.loop-pair.pair + 2) c.args.catalogue.now) (drop (c.loop-pair.place + c.wide-columns.result * c.wide-rows.result) c.args.tables.now))) c.put_numbers-rows_at.new.text = put_on ((numbers_text (take 2 (drop c.loop-pair.pair c.args.catalogue.now)))) ((lines_text row_key c.wide-columns.result c.wide-rows.result (drop c.loop-pair.place c.args.tables.now)) ++ (tables_text (drop (c.loop-pair.pair + 2) c.args.catalogue.now) (drop (c.loop-pair.place + c.wide-columns.result * c.wide-rows.result) c.args.tables.now))) ((let the-fact : (StillToPut c.args.at (tables_text c.args.catalogue.now c.args.tables.now) c.args.text.now) c.put_bytes-behind.result ((numbers_text (take 2 (drop c.loop-pair.pair c.args.catalogue.now))) ++ ((lines_text row_key c.wide-columns.result c.wide-rows.result (drop c.loop-pair.place c.args.tables.now)) ++ (tables_text (drop (c.loop-pair.pair + 2) c.args.catalogue.now) (drop (c.loop-pair.place + c.wide-columns.result * c.wide-rows.result) c.args.tables.now)))) c.put_bytes-behind.new.text = put_on relation_key ((numbers_text (take 2 (drop c.loop-pair.pair c.args.catalogue.now))) ++ ((lines_text row_key c.wide-columns.result c.wide-rows.result (drop c.loop-pair.place c.args.tables.now)) ++ (tables_text (drop (c.loop-pair.pair + 2) c.args.catalogue.now) (drop (c.loop-pair.place + c.wide-columns.result * c.wide-rows.result) c.args.tables.now)))) c.loop-pair.invariant.3 ((let the-fact : TableTurn c.args.catalogue.now c.args.tables.now c.loop-pair.pair c.loop-pair.place c.wide-columns.result c.wide-rows.result = table_turn c.args.catalogue.now c.args.tables.now c.loop-pair.pair c.loop-pair.place c.wide-columns.result c.wide-rows.result
     (omega arith) c.loop-pair.invariant.0 c.wide-columns.ensures c.wide-rows.ensures in the-fact)).text c.put_bytes-behind.ensures in the-fact)) refl c.put_numbers-rows_at.ensures in the-fact)) refl c.put_lines-end.ensures,
     )
-
-pub shape_of-text : goal.shape_of-text
-shape_of-text c = c.loop-pair.invariant.2
 
 pub returns : goal.returns
 unfolding tables_text

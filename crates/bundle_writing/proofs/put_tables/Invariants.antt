@@ -18,10 +18,10 @@ use Rattle.bundle_writing.proofs.put_tables.Given as goal
 -- those pairs are ok, and their words are there. Each turn puts a pair's line and its table's lines (`turn` says what they are).
 -- The measure is what is left of the catalogue. Assumes nothing.
 abbrev pub invariant-loop-pair : goal.invariant-loop-pair
-invariant-loop-pair l = (pairs_ok (drop pair l.catalogue) ≡ true)
-    × (place + catalogue_words (drop pair l.catalogue) ≤ length l.tables)
-    × (length l.pair ≡ length l.initial.text)
-    × StillToPut l.at (tables_text l.catalogue l.tables) l.initial.text l.place (tables_text (drop pair l.catalogue) (drop place l.tables)) l.pair
+invariant-loop-pair l = (pairs_ok (drop l.pair l.catalogue) ≡ true)
+    × (l.place + catalogue_words (drop l.pair l.catalogue) ≤ length l.tables)
+    × (length l.text ≡ length l.initial.text)
+    × StillToPut l.at (tables_text l.catalogue l.tables) l.initial.text l.end (tables_text (drop l.pair l.catalogue) (drop l.place l.tables)) l.text
 
 abbrev pub decreases-loop-pair : goal.decreases-loop-pair
-decreases-loop-pair l = length l.catalogue - pair
+decreases-loop-pair l = length l.catalogue - l.pair

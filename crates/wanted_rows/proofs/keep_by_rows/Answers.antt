@@ -20,9 +20,6 @@ pub keep_row-requires : goal.keep_row-requires
 keep_row-requires c = let s = c.args in let p = c.requires in let l = c.loop-more in
     (omega arith, omega (arith, times_step l.more s.left.width (omega arith)), p.4, p.3, l.invariant.1.fits, l.invariant.1.ascending, rw (filled_rows l.invariant.1 s.right.width s.right.rows s.right.base p.3) p.5, p.6)
 
-pub shape_of-work-in-Full : goal.shape_of-work-in-Full
-shape_of-work-in-Full c = omega (arith, c.keep_row.auto, c.loop-more.invariant.1.size)
-
 pub returns-in-Full : goal.returns-in-Full
 returns-in-Full c = let s = c.args in let l = c.loop-more in let w = s.left.width in
     let ahead : l.at + w ≤ s.out = omega (arith, times_step l.more w (omega arith)) in
@@ -41,9 +38,6 @@ loop-more-preserved c = let s = c.args in let l = c.loop-more in let w = s.left.
           (filter_step w l.more l.at s.work.now (omega arith) (omega arith) (wanted_row s.wanted (triples_in s.count s.list.now) (rows_of s.right s.work.now)))
           (builds_by (wanted_now l.invariant.1 s.wanted (triples_in s.count s.list.now) l.at w s.right ahead c.requires.3) c.keep_row.ensures) c.in-Rows.rows c.in-Rows.is,
     )
-
-pub shape_of-work : goal.shape_of-work
-shape_of-work c = omega (arith, c.loop-more.invariant.1.size)
 
 pub returns : goal.returns
 returns c = let s = c.args in let l = c.loop-more in

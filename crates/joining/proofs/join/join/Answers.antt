@@ -21,9 +21,6 @@ pub join_row-requires : goal.join_row-requires
 join_row-requires c = let s = c.args in let l = c.loop-more in
     (c.requires.0, c.requires.1, c.requires.2, omega (arith, times_step l.more s.left.width (omega arith)), c.requires.4, l.invariant.1.fits, l.invariant.1.ascending, rw (filled_rows l.invariant.1 s.right.width s.right.rows s.right.base c.requires.4) c.requires.6, c.requires.7)
 
-pub shape_of-work-in-Full : goal.shape_of-work-in-Full
-shape_of-work-in-Full c = omega (arith, c.join_row.auto, c.loop-more.invariant.1.size)
-
 pub returns-in-Full : goal.returns-in-Full
 returns-in-Full c = let s = c.args in let l = c.loop-more in let w = s.left.width in let ts = triples_in s.count s.list.now in
     let ahead : l.at + w ≤ s.out = omega (arith, times_step l.more w (omega arith)) in
@@ -42,9 +39,6 @@ loop-more-preserved c = let s = c.args in let l = c.loop-more in let w = s.left.
           (flat_step w l.more l.at s.work.now (omega arith) (omega arith) (λ t. joined (meets ts t) t (rows_of s.right s.work.now)))
           (builds_by (joined_now l.invariant.1 l.at w ahead ts s.right c.requires.4) c.join_row.ensures) c.in-Rows.rows c.in-Rows.is,
     )
-
-pub shape_of-work : goal.shape_of-work
-shape_of-work c = omega (arith, c.loop-more.invariant.1.size)
 
 pub returns : goal.returns
 returns c = let s = c.args in let l = c.loop-more in

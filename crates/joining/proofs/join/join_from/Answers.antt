@@ -31,9 +31,6 @@ loop-left-init c = let s = c.args in let p = c.requires in let v = s.right in (
   filled_start (s.width + v.width) s.out s.made (joined (sifts s.entries s.sieve.now) (row_in s.work.now s.a s.width) (rows_at v.width (v.rows - s.number) (v.base + s.number * v.width) s.work.now)) s.work.now p.5 p.6,
     )
 
-pub shape_of-work-then-stands_behind : goal.shape_of-work-then-stands_behind
-shape_of-work-then-stands_behind c = omega (arith, c.loop-left.invariant.2.size)
-
 pub returns-then-stands_behind : goal.returns-then-stands_behind
 returns-then-stands_behind c = let s = c.args in let p = c.requires in let l = c.loop-left in let m = s.right.width in let high = s.high.now in
     let ahead : l.at + length high ≤ s.out = omega (arith, times_step l.left m (omega arith)) in
@@ -43,9 +40,6 @@ returns-then-stands_behind c = let s = c.args in let p = c.requires in let l = c
 pub join_pair-requires : goal.join_pair-requires
 join_pair-requires c = let s = c.args in let p = c.requires in let l = c.loop-left in
     (p.0, p.1, p.2, p.3, omega (arith, times_step l.left s.right.width (omega arith)), l.invariant.2.fits, l.invariant.2.ascending)
-
-pub shape_of-work-in-Full : goal.shape_of-work-in-Full
-shape_of-work-in-Full c = omega (arith, c.join_pair.auto, c.loop-left.invariant.2.size)
 
 pub returns-in-Full : goal.returns-in-Full
 returns-in-Full c = let s = c.args in let l = c.loop-left in let m = s.right.width in
@@ -66,9 +60,6 @@ loop-left-preserved c = let s = c.args in let l = c.loop-left in let m = s.right
           (joined_step (sifts s.entries s.sieve.now) (row_in s.work.now s.a s.width) m l.left l.at s.work.now (omega arith) (omega (arith, l.invariant.2.fits, l.invariant.2.size)))
           (builds_by (pair_now l.invariant.2 s.a s.width c.requires.3 (sifts s.entries s.sieve.now) l.at m ahead) c.join_pair.ensures) c.in-Rows.rows c.in-Rows.is,
     )
-
-pub shape_of-work : goal.shape_of-work
-shape_of-work c = omega (arith, c.loop-left.invariant.2.size)
 
 pub returns : goal.returns
 returns c = let s = c.args in let l = c.loop-left in

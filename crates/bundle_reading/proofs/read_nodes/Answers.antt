@@ -1,0 +1,64 @@
+use Rattle.lines.proofs.Carries.{Carries, carries_start, carries_by, carries_lines, carries_off, carries_done, placed_at}
+use Rattle.bundle_reading.proofs.ReadingSteps.{text-ended, text_goes_on}
+use Rattle.bundle_lines.proofs.OneLine.{node_read}
+use Rattle.bundle_reading.proofs.BehindLines.{node_step, node_cut}
+use Rattle.lines.specs.Answers.{standing}
+use Rattle.bundle_lines.specs.OneLine.{one_line}
+use Rattle.bundle_lines.specs.declared.Line.TheVariants.{Node}
+use Rattle.lines.specs.Reading.{Read}
+use Rattle.bundles.specs.Reading.{unless_ended, nodes_of}
+use Rattle.relations.specs.Limits.{question_node_limit, question_node_words}
+use lib.ListN.{length, drop}
+use mathlib.Core.Path.{◌≡◌, refl, ap, ◌∙◌}
+use Prim.Native.Nat.{◌<◌, ◌≤◌, ◌-◌, ◌+◌, ◌*◌}
+use borrow.Author.Rules.{rules}
+use native.Mathlib.Omega.{arith}
+use Rattle.bundle_reading.proofs.read_nodes.Goals as goal
+
+pub loop-next-init : goal.loop-next-init
+loop-next-init c = (omega arith, c.requires.0, c.requires.1, refl, carries_start _ _ _)
+
+pub overflow_mul-nodes : goal.overflow_mul-nodes
+overflow_mul-nodes c = omega (arith, c.loop-next.invariant.0)
+
+pub next_line-requires : goal.next_line-requires
+next_line-requires c = let l = c.loop-next in (tt, omega (arith, l.invariant.0), (l.invariant.1, l.invariant.2))
+
+pub returns-in-Wrong : goal.returns-in-Wrong
+returns-in-Wrong c = let l = c.loop-next in let t = c.args.text.now in let read = c.next_line.ensures in let e = c.in-Wrong.is in
+    record {
+      lines = carries_off l.invariant.4 (λ after rest. unless_ended after rest (nodes_of (question_node_limit - l.nodes - 1) after rest)) (node_step l.nodes l.line (drop l.at t)) read e;
+      counted = omega (arith, l.invariant.4.counts, node_cut l.nodes l.line (drop l.at t) (read.means ∙ ap (standing t) e));
+    }
+
+pub overflow_add-nodes : goal.overflow_add-nodes
+overflow_add-nodes c = omega (arith, ((c.before.before.before.before.before.before.before)).loop.invariant.0)
+
+pub returns-then-text-at : goal.returns-then-text-at
+returns-then-text-at c = let t = c.args.text.now in let k = c.in-Next.next in let o = (let the-fact : Carries (nodes_of question_node_limit ((c.before.before.before.before.before.before.before.before.before.before)).args.start.line (drop ((c.before.before.before.before.before.before.before.before.before.before)).args.start.at ((c.before.before.before.before.before.before.before.before.before.before)).args.text.now))     (unless_ended c.in-Next.next.line (drop c.in-Next.next.at ((c.before.before.before.before.before.before.before.before.before.before)).args.text.now)     (nodes_of (question_node_limit - ((c.before.before.before.before.before.before.before)).loop.nodes - 1) c.in-Next.next.line (drop c.in-Next.next.at ((c.before.before.before.before.before.before.before.before.before.before)).args.text.now)))     0 (question_node_words * ((c.before.before.before.before.before.before.before)).loop.nodes + question_node_words) ((c.before.before.before.before.before.before.before.before.before.before)).args.question.now ((c.before.before.before.before.before)).next-line.new.1.1.1.1.0 = let l = ((c.before.before.before.before.before.before.before)).loop in
+    carries_lines l.inv.4 question_node_words (λ after rest. unless_ended after rest (nodes_of (question_node_limit - l.nodes - 1) after rest))
+    (node_step l.nodes l.line (drop l.at ((c.before.before.before.before.before.before.before.before.before.before)).args.text.now)) ((c.before.before.before.before.before)).next-line.ensures c.in-Next.is ((let the-fact : (((c.before.before.before.before.before.before.before)).loop.nodes < question_node_limit)     × (length (one_line (Node ((c.before.before.before.before.before.before.before)).loop.nodes) ((c.before.before.before.before.before.before.before)).loop.line (drop ((c.before.before.before.before.before.before.before)).loop.at ((c.before.before.before.before.before.before.before.before.before.before)).args.text.now)).words ≡ question_node_words) = let l = ((c.before.before.before.before.before.before.before)).loop in
+    let t = ((c.before.before.before.before.before.before.before.before.before.before)).args.text.now in
+    node_read l.nodes l.line (drop l.at t) (((c.before.before.before.before.before)).next-line.ensures.means ∙ ap (standing t) c.in-Next.is) in the-fact)).1 in the-fact) in
+    let ended = text-ended t k.line k.at (nodes_of (question_node_limit - c.loop-next.nodes - 1) k.line (drop k.at t)) c.if-text-at.true in
+    record {
+      lines = carries_done o {text = t} k ended (placed_at c.next_line.ensures c.in-Next.is);
+      counted = omega (arith, o.counts, ap (λ (x : Read). length x.words) ended);
+    }
+
+pub loop-next-smaller : goal.loop-next-smaller
+loop-next-smaller c = omega (arith, c.loop-next.invariant.0)
+
+pub loop-next-preserved : goal.loop-next-preserved
+loop-next-preserved c = let t = c.args.text.now in let k = c.in-Next.next in let l = c.loop-next in
+    let placed = placed_at c.next_line.ensures c.in-Next.is in
+    let on = carries_by ((let the-fact : Carries (nodes_of question_node_limit ((c.before.before.before.before.before.before.before.before.before.before)).args.start.line (drop ((c.before.before.before.before.before.before.before.before.before.before)).args.start.at ((c.before.before.before.before.before.before.before.before.before.before)).args.text.now))     (unless_ended c.in-Next.next.line (drop c.in-Next.next.at ((c.before.before.before.before.before.before.before.before.before.before)).args.text.now)     (nodes_of (question_node_limit - ((c.before.before.before.before.before.before.before)).loop.nodes - 1) c.in-Next.next.line (drop c.in-Next.next.at ((c.before.before.before.before.before.before.before.before.before.before)).args.text.now)))     0 (question_node_words * ((c.before.before.before.before.before.before.before)).loop.nodes + question_node_words) ((c.before.before.before.before.before.before.before.before.before.before)).args.question.now ((c.before.before.before.before.before)).next-line.new.1.1.1.1.0 = let l = ((c.before.before.before.before.before.before.before)).loop in
+    carries_lines l.inv.4 question_node_words (λ after rest. unless_ended after rest (nodes_of (question_node_limit - l.nodes - 1) after rest))
+    (node_step l.nodes l.line (drop l.at ((c.before.before.before.before.before.before.before.before.before.before)).args.text.now)) ((c.before.before.before.before.before)).next-line.ensures c.in-Next.is ((let the-fact : (((c.before.before.before.before.before.before.before)).loop.nodes < question_node_limit)     × (length (one_line (Node ((c.before.before.before.before.before.before.before)).loop.nodes) ((c.before.before.before.before.before.before.before)).loop.line (drop ((c.before.before.before.before.before.before.before)).loop.at ((c.before.before.before.before.before.before.before.before.before.before)).args.text.now)).words ≡ question_node_words) = let l = ((c.before.before.before.before.before.before.before)).loop in
+    let t = ((c.before.before.before.before.before.before.before.before.before.before)).args.text.now in
+    node_read l.nodes l.line (drop l.at t) (((c.before.before.before.before.before)).next-line.ensures.means ∙ ap (standing t) c.in-Next.is) in the-fact)).1 in the-fact)) (text_goes_on t k.line k.at (nodes_of (question_node_limit - l.nodes - 1) k.line (drop k.at t)) c.if-text-at.false) in
+    let left : question_node_limit - l.nodes - 1 ≡ question_node_limit - (l.nodes + 1) = omega arith in
+    let place : question_node_words * l.nodes + question_node_words ≡ question_node_words * (l.nodes + 1) = omega arith in
+    (omega (arith, ((let the-fact : (((c.before.before.before.before.before.before.before)).loop.nodes < question_node_limit)     × (length (one_line (Node ((c.before.before.before.before.before.before.before)).loop.nodes) ((c.before.before.before.before.before.before.before)).loop.line (drop ((c.before.before.before.before.before.before.before)).loop.at ((c.before.before.before.before.before.before.before.before.before.before)).args.text.now)).words ≡ question_node_words) = let l = ((c.before.before.before.before.before.before.before)).loop in
+    let t = ((c.before.before.before.before.before.before.before.before.before.before)).args.text.now in
+    node_read l.nodes l.line (drop l.at t) (((c.before.before.before.before.before)).next-line.ensures.means ∙ ap (standing t) c.in-Next.is) in the-fact)).0), placed.0, placed.1, c.next_line.auto.words ∙ l.invariant.3, rw (left, place) at on)
