@@ -1,0 +1,5 @@
+use borrow.Author.Rules.{rules}
+use Rattle.conditions.proofs.atom.are_both.Goals as goal
+
+pub returns-in-Of : goal.returns-in-Of
+returns-in-Of c = rw c.in-Of.is
