@@ -9,8 +9,6 @@ use lib.Dec.{ltb, leb}
 use lib.ListN.{length, get_or, take, drop, set, replicate, length-set, length-append, length-map, length-replicate, get_or-append}
 use lib.Seq.{sets, length-sets, sets-eq, set-set, set_comm, set-get_or, get_or-set_same, get_or-set_other, get_or-append-add, length-take-le}
 use borrow.Author.Tests.{leb-true}
-use denote.Enum.Declared.{tag_of}
-use types.Run.{OneOf, miss}
 use Rattle.relations.specs.Limits.{column_limit, question_node_limit, question_node_words, variable_count, operator_count}
 use Rattle.relations.specs.Comparison.{operator_number, operator_named}
 use Rattle.relations.specs.Lists.{All}
@@ -82,13 +80,13 @@ atom-narrow (Compares atom) h =
 atom-narrow (Connects connective) h = empty_narrow
 atom-narrow IllFormed h = empty_narrow
 
-pub no_atom : (form : Form) → OneOf (0 ∷ 1 ∷ 2 ∷ 3 ∷ 4 ∷ 6 ∷ 7 ∷ []) (tag_of the_type form) → empty_atom ≡ atom_in form
+pub no_atom : (form : Form) → ((atom : Atom) → form ≡ Compares atom → ⊥) → empty_atom ≡ atom_in form
 no_atom (Table relation) h = refl
 no_atom Alpha h = refl
 no_atom (Target variable attribute) h = refl
 no_atom (Binds variable binder) h = refl
 no_atom (Combines combination) h = refl
-no_atom (Compares atom) h = absurd (miss (0 ∷ 1 ∷ 2 ∷ 3 ∷ 4 ∷ 6 ∷ 7 ∷ []) 5 tt h)
+no_atom (Compares atom) h = absurd (h atom refl)
 no_atom (Connects connective) h = refl
 no_atom IllFormed h = refl
 

@@ -4,8 +4,6 @@ use mathlib.Core.Path.{◌≡◌, refl}
 use mathlib.Core.Bool.{Bool, true, false, cond}
 use mathlib.Core.List.{List, [], ◌∷◌}
 use native.Mathlib.Omega.{arith}
-use denote.Enum.Declared.{tag_of}
-use types.Run.{OneOf, miss}
 use Rattle.calculus.specs.Question as calculus
 use Rattle.calculus.specs.Question.{table, on_condition}
 use Rattle.calculus.specs.Scope as scopes
@@ -15,44 +13,48 @@ use Rattle.nodes.specs.declared.node.Quantifier.TheVariants.{Some, Every, AtLeas
 use Rattle.nodes.specs.declared.node.Binder.TheVariants.{Binding, Quantifies}
 use Rattle.nodes.specs.declared.node.Form.{Form}
 use Rattle.nodes.specs.declared.node.Form.TheVariants.{Table, Alpha, Target, Binds, Combines, Compares, Connects, IllFormed}
-use Rattle.nodes.specs.contracts.node.Form.{the_type}
+use Rattle.nodes.specs.declared.node.Atom.{Atom}
+use Rattle.nodes.specs.declared.node.Binder.{Binder}
+use Rattle.nodes.specs.declared.node.Combination.{Combination}
+use Rattle.nodes.specs.declared.node.Connective.{Connective}
+use Rattle.terms.specs.declared.attribute.Attribute.{Attribute}
 use Rattle.conditions.specs.Readings.{restriction_at, condition_at}
 use Rattle.conditions.specs.Leaves.{numbers_below, is_tree}
 
 -- a node that is no range reads as relation 0
-pub no_range : (form : Form) (a b c : Reading) → OneOf (2 ∷ 3 ∷ 5 ∷ 6 ∷ 7 ∷ []) (tag_of the_type form) → (reading_of form a b c).range ≡ table 0
-no_range (Table relation) a b c h = absurd (miss (2 ∷ 3 ∷ 5 ∷ 6 ∷ 7 ∷ []) 0 tt h)
-no_range Alpha a b c h = absurd (miss (2 ∷ 3 ∷ 5 ∷ 6 ∷ 7 ∷ []) 1 tt h)
-no_range (Target variable attribute) a b c h = refl
-no_range (Binds variable Binding) a b c h = refl
-no_range (Binds variable (Quantifies quantifier)) a b c h = refl
-no_range (Combines combination) a b c h = absurd (miss (2 ∷ 3 ∷ 5 ∷ 6 ∷ 7 ∷ []) 4 tt h)
-no_range (Compares atom) a b c h = refl
-no_range (Connects connective) a b c h = refl
-no_range IllFormed a b c h = refl
+pub no_range : (form : Form) (a b c : Reading) → ((relation : ℕ) → form ≡ Table relation → ⊥) → (form ≡ Alpha → ⊥) → ((combination : Combination) → form ≡ Combines combination → ⊥) → (reading_of form a b c).range ≡ table 0
+no_range (Table relation) a b c no_table no_alpha no_ranges = absurd (no_table relation refl)
+no_range Alpha a b c no_table no_alpha no_ranges = absurd (no_alpha refl)
+no_range (Target variable attribute) a b c no_table no_alpha no_ranges = refl
+no_range (Binds variable Binding) a b c no_table no_alpha no_ranges = refl
+no_range (Binds variable (Quantifies quantifier)) a b c no_table no_alpha no_ranges = refl
+no_range (Combines combination) a b c no_table no_alpha no_ranges = absurd (no_ranges combination refl)
+no_range (Compares atom) a b c no_table no_alpha no_ranges = refl
+no_range (Connects connective) a b c no_table no_alpha no_ranges = refl
+no_range IllFormed a b c no_table no_alpha no_ranges = refl
 
 -- a node that is no target reads as none
-pub no_targets : (form : Form) (a b c : Reading) → OneOf (0 ∷ 1 ∷ 3 ∷ 4 ∷ 5 ∷ 6 ∷ 7 ∷ []) (tag_of the_type form) → (reading_of form a b c).targets ≡ []
-no_targets (Table relation) a b c h = refl
-no_targets Alpha a b c h = refl
-no_targets (Target variable attribute) a b c h = absurd (miss (0 ∷ 1 ∷ 3 ∷ 4 ∷ 5 ∷ 6 ∷ 7 ∷ []) 2 tt h)
-no_targets (Binds variable Binding) a b c h = refl
-no_targets (Binds variable (Quantifies quantifier)) a b c h = refl
-no_targets (Combines combination) a b c h = refl
-no_targets (Compares atom) a b c h = refl
-no_targets (Connects connective) a b c h = refl
-no_targets IllFormed a b c h = refl
+pub no_targets : (form : Form) (a b c : Reading) → ((variable : ℕ) (attribute : Attribute) → form ≡ Target variable attribute → ⊥) → (reading_of form a b c).targets ≡ []
+no_targets (Table relation) a b c no_target = refl
+no_targets Alpha a b c no_target = refl
+no_targets (Target variable attribute) a b c no_target = absurd (no_target variable attribute refl)
+no_targets (Binds variable Binding) a b c no_target = refl
+no_targets (Binds variable (Quantifies quantifier)) a b c no_target = refl
+no_targets (Combines combination) a b c no_target = refl
+no_targets (Compares atom) a b c no_target = refl
+no_targets (Connects connective) a b c no_target = refl
+no_targets IllFormed a b c no_target = refl
 
 -- a node that is neither an atom, joined nor a binder reads as no condition
-pub no_restriction : (form : Form) (a b c : Reading) → OneOf (0 ∷ 1 ∷ 2 ∷ 4 ∷ 7 ∷ []) (tag_of the_type form) → (reading_of form a b c).restriction ≡ calculus.no_condition
-no_restriction (Table relation) a b c h = refl
-no_restriction Alpha a b c h = refl
-no_restriction (Target variable attribute) a b c h = refl
-no_restriction (Binds variable binder) a b c h = absurd (miss (0 ∷ 1 ∷ 2 ∷ 4 ∷ 7 ∷ []) 3 tt h)
-no_restriction (Combines combination) a b c h = refl
-no_restriction (Compares atom) a b c h = absurd (miss (0 ∷ 1 ∷ 2 ∷ 4 ∷ 7 ∷ []) 5 tt h)
-no_restriction (Connects connective) a b c h = absurd (miss (0 ∷ 1 ∷ 2 ∷ 4 ∷ 7 ∷ []) 6 tt h)
-no_restriction IllFormed a b c h = refl
+pub no_restriction : (form : Form) (a b c : Reading) → ((variable : ℕ) (binder : Binder) → form ≡ Binds variable binder → ⊥) → ((atom : Atom) → form ≡ Compares atom → ⊥) → ((connective : Connective) → form ≡ Connects connective → ⊥) → (reading_of form a b c).restriction ≡ calculus.no_condition
+no_restriction (Table relation) a b c no_binder no_atom not_joined = refl
+no_restriction Alpha a b c no_binder no_atom not_joined = refl
+no_restriction (Target variable attribute) a b c no_binder no_atom not_joined = refl
+no_restriction (Binds variable binder) a b c no_binder no_atom not_joined = absurd (no_binder variable binder refl)
+no_restriction (Combines combination) a b c no_binder no_atom not_joined = refl
+no_restriction (Compares atom) a b c no_binder no_atom not_joined = absurd (no_atom atom refl)
+no_restriction (Connects connective) a b c no_binder no_atom not_joined = absurd (not_joined connective refl)
+no_restriction IllFormed a b c no_binder no_atom not_joined = refl
 
 -- a condition that has no leaves and is no tree
 pub record NoLeaves (f : calculus.Condition) : Type 0 where
@@ -67,18 +69,18 @@ pub not_leaves : (f : calculus.Condition) → NoLeaves (calculus.condition_not f
 not_leaves f = record { no_numbers = λ number first second. refl; no_tree = neither }
 
 -- as one that is neither an atom nor joined is
-pub no_leaves : (form : Form) (a b c : Reading) → OneOf (0 ∷ 1 ∷ 2 ∷ 3 ∷ 4 ∷ 7 ∷ []) (tag_of the_type form) → NoLeaves (reading_of form a b c).condition
-no_leaves (Table relation) a b c h = not_leaves _
-no_leaves Alpha a b c h = not_leaves _
-no_leaves (Target variable attribute) a b c h = not_leaves _
-no_leaves (Binds variable Binding) a b c h = not_leaves _
-no_leaves (Binds variable (Quantifies Some)) a b c h = record { no_numbers = λ number first second. refl; no_tree = neither }
-no_leaves (Binds variable (Quantifies Every)) a b c h = record { no_numbers = λ number first second. refl; no_tree = neither }
-no_leaves (Binds variable (Quantifies (AtLeast least))) a b c h = record { no_numbers = λ number first second. refl; no_tree = neither }
-no_leaves (Combines combination) a b c h = not_leaves _
-no_leaves (Compares atom) a b c h = absurd (miss (0 ∷ 1 ∷ 2 ∷ 3 ∷ 4 ∷ 7 ∷ []) 5 tt h)
-no_leaves (Connects connective) a b c h = absurd (miss (0 ∷ 1 ∷ 2 ∷ 3 ∷ 4 ∷ 7 ∷ []) 6 tt h)
-no_leaves IllFormed a b c h = not_leaves _
+pub no_leaves : (form : Form) (a b c : Reading) → ((atom : Atom) → form ≡ Compares atom → ⊥) → ((connective : Connective) → form ≡ Connects connective → ⊥) → NoLeaves (reading_of form a b c).condition
+no_leaves (Table relation) a b c no_atom not_joined = not_leaves _
+no_leaves Alpha a b c no_atom not_joined = not_leaves _
+no_leaves (Target variable attribute) a b c no_atom not_joined = not_leaves _
+no_leaves (Binds variable Binding) a b c no_atom not_joined = not_leaves _
+no_leaves (Binds variable (Quantifies Some)) a b c no_atom not_joined = record { no_numbers = λ number first second. refl; no_tree = neither }
+no_leaves (Binds variable (Quantifies Every)) a b c no_atom not_joined = record { no_numbers = λ number first second. refl; no_tree = neither }
+no_leaves (Binds variable (Quantifies (AtLeast least))) a b c no_atom not_joined = record { no_numbers = λ number first second. refl; no_tree = neither }
+no_leaves (Combines combination) a b c no_atom not_joined = not_leaves _
+no_leaves (Compares atom) a b c no_atom not_joined = absurd (no_atom atom refl)
+no_leaves (Connects connective) a b c no_atom not_joined = absurd (not_joined connective refl)
+no_leaves IllFormed a b c no_atom not_joined = not_leaves _
 
 -- A condition of good form is read from a condition's node: the others read as "not" of an atom without a column.
 module _ (columns : ℕ → ℕ) (relations : ℕ) (s : scopes.Scope) where

@@ -75,4 +75,4 @@ pub returns-in_default : goal.returns-in_default
 returns-in_default t c = 
     let words = c.args.words.now in
     let node = c.decode-node.result in
-    collected_none c.args.words.now c.requires.named c.args.disjoined c.args.leaves.now c.decode-node.ensures c.requires.whole (no_leaves node.form (reading_at words node.a) (reading_at words node.b) (reading_at words node.c) c.in_default.in_default-own.keys3)
+    collected_none c.args.words.now c.requires.named c.args.disjoined c.args.leaves.now c.decode-node.ensures c.requires.whole (no_leaves node.form (reading_at words node.a) (reading_at words node.b) (reading_at words node.c) c.in_default.not-Compares c.in_default.not-Connects)

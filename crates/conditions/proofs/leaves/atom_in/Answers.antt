@@ -3,4 +3,4 @@ use borrow.Author.Rules.{rules}
 use Rattle.conditions.proofs.leaves.atom_in.Goals as goal
 
 pub returns-in_default : goal.returns-in_default
-returns-in_default c = no_atom c.args.form c.in_default.in_default-own.keys2
+returns-in_default c = no_atom c.args.form c.in_default.not-Compares
