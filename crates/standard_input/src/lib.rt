@@ -3,8 +3,9 @@
 
 ghost use Rattle.io.specs.Counts.{IsPrefixLen};
 
+use std::io::Read;
+
 use bundle_reading::Reading;
-use libc::STDIN_FILENO;
 use relations::limits::{QUESTION_NODE_WORDS, TEXT_BYTES};
 
 // How many bytes were read, and whether they ended in a read that failed.
@@ -26,34 +27,47 @@ pub struct Input {
     pub question: usize,
 }
 
-// Reads until the text is full or the input ends; `io::read_full` wouldn't tell a failed read from the end.
-fn read_text(text: &mut [u8]) -> TextRead
+// Reads until the text is full or the input ends. A read that a signal interrupts counts as one that failed.
+fn read_text<R: Read>(input: &mut R, text: &mut [u8]) -> TextRead
     ensures { IsPrefixLen result.bytes text.new }
 {
     let mut bytes = 0;
     while bytes < text.len() {
-        let got = libc::read(STDIN_FILENO, &mut text[bytes..]);
-        let more = io::count(got, &text[bytes..]);
-        if more == 0 {
-            return TextRead {
-                bytes: bytes,
-                failed: got < 0,
-            };
+        match input.read(&mut text[bytes..]) {
+            Ok(0) => {
+                return TextRead {
+                    bytes,
+                    failed: false,
+                };
+            }
+            Ok(more) => {
+                bytes += more;
+            }
+            Err(_) => {
+                return TextRead {
+                    bytes,
+                    failed: true,
+                };
+            }
         }
-        bytes += more;
     }
     TextRead {
-        bytes: bytes,
+        bytes,
         failed: false,
     }
 }
 
 // Reads a bundle into the three buffers. One byte more than a text may have is asked for, so that `read` can tell an over-long one.
-pub fn read_bundle(catalogue: &mut [u32], tables: &mut [u32], question: &mut [u32]) -> Input
+pub fn read_bundle<R: Read>(
+    from: &mut R,
+    catalogue: &mut [u32],
+    tables: &mut [u32],
+    question: &mut [u32],
+) -> Input
     ensures { IsPrefixLen result.catalogue catalogue.new × IsPrefixLen result.tables tables.new × IsPrefixLen result.question question.new }
 {
     let mut text = [0u8; TEXT_BYTES + 1];
-    let taken = read_text(&mut text);
+    let taken = read_text(from, &mut text);
     let bytes = taken.bytes;
     let mut input = Input {
         failed: taken.failed,
