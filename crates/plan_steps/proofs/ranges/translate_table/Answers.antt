@@ -7,7 +7,7 @@ pub load-count-requires : goal.load-count-requires
 load-count-requires c = c.requires
 
 pub shape_of-plan : goal.shape_of-plan
-shape_of-plan c = c.load-count.kept.0
+shape_of-plan c = c.load-count.auto.plan
 
 pub returns : goal.returns
 unfolding translate_range width_of_range

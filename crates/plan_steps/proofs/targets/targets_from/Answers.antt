@@ -27,7 +27,7 @@ loop-at-preserved-in-Target c = targets_on c.loop-at.invariant (omega arith) (ma
 
 pub loop-at-preserved : goal.loop-at-preserved
 loop-at-preserved c = let words = c.args.words.now in
-    targets_end c.loop-at.invariant (targets_is words c.loop-at.at c.decode-node.result (omega arith) c.decode-node.ensures ∙ no_targets c.decode-node.result.form (reading_at words c.decode-node.result.a) (reading_at words c.decode-node.result.b) (reading_at words c.decode-node.result.c) c.in_default.in_default-own.keys2)
+    targets_end c.loop-at.invariant (targets_is words c.loop-at.at c.decode-node.result (omega arith) c.decode-node.ensures ∙ no_targets c.decode-node.result.form (reading_at words c.decode-node.result.a) (reading_at words c.decode-node.result.b) (reading_at words c.decode-node.result.c) c.in_default.not-Target)
 
 pub returns : goal.returns
 returns c = targets-done c.loop-at.invariant (omega arith)
