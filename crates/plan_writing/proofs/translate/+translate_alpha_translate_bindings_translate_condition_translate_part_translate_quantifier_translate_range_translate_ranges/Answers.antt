@@ -18,14 +18,7 @@ use borrow.Author.Rules.{rules}
 use native.Mathlib.Omega.{arith}
 use Prim.Native.Nat.{ℕ, ◌<◌}
 use borrow.Fn.Kinds.{In}
-use Rattle.plan_writing.proofs.translate.+translate_alpha_translate_bindings_translate_condition_translate_part_translate_quantifier_translate_range_translate_ranges.{
 use Rattle.plan_writing.proofs.translate.+translate_alpha_translate_bindings_translate_condition_translate_part_translate_quantifier_translate_range_translate_ranges.Goals as goal
-
--- The cycle of translation meets its contracts. Each need is the law of proofs/RangeSteps, BindingSteps, AlphaSteps, ConditionSteps or QuantifierSteps that takes what the calls before it gave. Assumes nothing.
-  statement,
-    }
-  close,
-    }
 
 pub translate_alpha-overflow_sub-binding : goal.translate_alpha-overflow_sub-binding
 translate_alpha-overflow_sub-binding t c = c.requires.1.0
@@ -34,31 +27,31 @@ pub translate_alpha-decode-node-requires : goal.translate_alpha-decode-node-requ
 translate_alpha-decode-node-requires t c = omega (arith, c.requires.1.0, c.requires.1.1)
 
 pub translate_alpha-translate_range-first-requires : goal.translate_alpha-translate_range-first-requires
-translate_alpha-translate_range-first-requires t c = call_first (alpha_asked c.args.words.now c.args.target c.args.condition (binding_made c.args.words.now c.args.binding c.decode-node.ensures c.binding_variable-variable.ensures c.if-variable-lt-VARIABLES.taken) c.requires)
+translate_alpha-translate_range-first-requires t c = call_first (alpha_asked c.args.words.now c.args.target c.args.condition (binding_made c.args.words.now c.args.binding c.decode-node.ensures c.binding_variable-variable.ensures c.if-variable-lt-VARIABLES.true) (c.decreases, c.requires))
 
 pub translate_alpha-extend-requires : goal.translate_alpha-extend-requires
-translate_alpha-extend-requires t c = scope_starts (alpha_asked c.args.words.now c.args.target c.args.condition (binding_made c.args.words.now c.args.binding c.decode-node.ensures c.binding_variable-variable.ensures c.if-variable-lt-VARIABLES.taken) c.requires) c.translate_range-first.ensures
+translate_alpha-extend-requires t c = scope_starts (alpha_asked c.args.words.now c.args.target c.args.condition (binding_made c.args.words.now c.args.binding c.decode-node.ensures c.binding_variable-variable.ensures c.if-variable-lt-VARIABLES.true) (c.decreases, c.requires)) c.translate_range-first.ensures
 
 pub translate_alpha-overflow_sub-p : goal.translate_alpha-overflow_sub-p
 translate_alpha-overflow_sub-p t c = omega (arith, c.translate_range-first.ensures.more)
 
 pub translate_alpha-translate_bindings-joined-requires : goal.translate_alpha-translate_bindings-joined-requires
-translate_alpha-translate_bindings-joined-requires t c = call_rest (alpha_asked c.args.words.now c.args.target c.args.condition (binding_made c.args.words.now c.args.binding c.decode-node.ensures c.binding_variable-variable.ensures c.if-variable-lt-VARIABLES.taken) c.requires) c.translate_range-first.ensures c.extend.ensures
+translate_alpha-translate_bindings-joined-requires t c = call_rest (alpha_asked c.args.words.now c.args.target c.args.condition (binding_made c.args.words.now c.args.binding c.decode-node.ensures c.binding_variable-variable.ensures c.if-variable-lt-VARIABLES.true) (c.decreases, c.requires)) c.translate_range-first.ensures c.extend.ensures
 
 pub translate_alpha-overflow_sub-joined : goal.translate_alpha-overflow_sub-joined
-translate_alpha-overflow_sub-joined t c = some-joined (alpha_asked c.args.words.now c.args.target c.args.condition (binding_made c.args.words.now c.args.binding c.decode-node.ensures c.binding_variable-variable.ensures c.if-variable-lt-VARIABLES.taken) c.requires) c.translate_range-first.ensures c.extend.ensures c.translate_bindings-joined.ensures
+translate_alpha-overflow_sub-joined t c = some-joined (alpha_asked c.args.words.now c.args.target c.args.condition (binding_made c.args.words.now c.args.binding c.decode-node.ensures c.binding_variable-variable.ensures c.if-variable-lt-VARIABLES.true) (c.decreases, c.requires)) c.translate_range-first.ensures c.extend.ensures c.translate_bindings-joined.ensures
 
 pub translate_alpha-translate_condition-kept-requires : goal.translate_alpha-translate_condition-kept-requires
-translate_alpha-translate_condition-kept-requires t c = call_condition (alpha_asked c.args.words.now c.args.target c.args.condition (binding_made c.args.words.now c.args.binding c.decode-node.ensures c.binding_variable-variable.ensures c.if-variable-lt-VARIABLES.taken) c.requires) c.translate_range-first.ensures c.extend.ensures c.translate_bindings-joined.ensures
+translate_alpha-translate_condition-kept-requires t c = call_condition (alpha_asked c.args.words.now c.args.target c.args.condition (binding_made c.args.words.now c.args.binding c.decode-node.ensures c.binding_variable-variable.ensures c.if-variable-lt-VARIABLES.true) (c.decreases, c.requires)) c.translate_range-first.ensures c.extend.ensures c.translate_bindings-joined.ensures
 
 pub translate_alpha-write_targets-requires : goal.translate_alpha-write_targets-requires
-translate_alpha-write_targets-requires t c = call_targets (alpha_asked c.args.words.now c.args.target c.args.condition (binding_made c.args.words.now c.args.binding c.decode-node.ensures c.binding_variable-variable.ensures c.if-variable-lt-VARIABLES.taken) c.requires) c.translate_range-first.ensures c.extend.ensures c.translate_bindings-joined.ensures c.translate_condition-kept.ensures
+translate_alpha-write_targets-requires t c = call_targets (alpha_asked c.args.words.now c.args.target c.args.condition (binding_made c.args.words.now c.args.binding c.decode-node.ensures c.binding_variable-variable.ensures c.if-variable-lt-VARIABLES.true) (c.decreases, c.requires)) c.translate_range-first.ensures c.extend.ensures c.translate_bindings-joined.ensures c.translate_condition-kept.ensures
 
 pub translate_alpha-shape_of-plan-then-variable-lt-VARIABLES : goal.translate_alpha-shape_of-plan-then-variable-lt-VARIABLES
 translate_alpha-shape_of-plan-then-variable-lt-VARIABLES t c = ((c.write_targets.auto.plan ∙ c.translate_condition-kept.auto.plan) ∙ c.translate_bindings-joined.auto.plan) ∙ c.translate_range-first.auto.plan
 
 pub translate_alpha-returns-then-variable-lt-VARIABLES : goal.translate_alpha-returns-then-variable-lt-VARIABLES
-translate_alpha-returns-then-variable-lt-VARIABLES t c = alpha-done (alpha_asked c.args.words.now c.args.target c.args.condition (binding_made c.args.words.now c.args.binding c.decode-node.ensures c.binding_variable-variable.ensures c.if-variable-lt-VARIABLES.taken) c.requires) c.translate_range-first.ensures c.extend.ensures c.translate_bindings-joined.ensures c.translate_condition-kept.ensures c.write_targets.ensures
+translate_alpha-returns-then-variable-lt-VARIABLES t c = alpha-done (alpha_asked c.args.words.now c.args.target c.args.condition (binding_made c.args.words.now c.args.binding c.decode-node.ensures c.binding_variable-variable.ensures c.if-variable-lt-VARIABLES.true) (c.decreases, c.requires)) c.translate_range-first.ensures c.extend.ensures c.translate_bindings-joined.ensures c.translate_condition-kept.ensures c.write_targets.ensures
 
 pub translate_alpha-translate_table-requires : goal.translate_alpha-translate_table-requires
 translate_alpha-translate_table-requires t c = room_one c.requires.3
@@ -67,77 +60,77 @@ pub translate_alpha-shape_of-plan : goal.translate_alpha-shape_of-plan
 translate_alpha-shape_of-plan t c = c.translate_table.auto.plan
 
 pub translate_alpha-returns : goal.translate_alpha-returns
-translate_alpha-returns t c = done_as (no_alpha c.args.words.now c.args.target c.args.binding c.args.condition (none_bound c.args.words.now c.args.binding c.decode-node.ensures c.binding_variable-variable.ensures c.requires.1.0 c.if-variable-lt-VARIABLES.left)) c.translate_table.ensures
+translate_alpha-returns t c = done_as (no_alpha c.args.words.now c.args.target c.args.binding c.args.condition (none_bound c.args.words.now c.args.binding c.decode-node.ensures c.binding_variable-variable.ensures c.requires.1.0 c.if-variable-lt-VARIABLES.false)) c.translate_table.ensures
 
 pub translate_bindings-returns-then-reference-eq0 : goal.translate_bindings-returns-then-reference-eq0
-translate_bindings-returns-then-reference-eq0 t c = no_more-done (bindings_none c.args.words.now c.if-reference-eq0.taken) c.requires.1.fits
+translate_bindings-returns-then-reference-eq0 t c = no_more-done (bindings_none c.args.words.now c.if-reference-eq0.true) c.requires.1.fits
 
 pub translate_bindings-overflow_sub-reference : goal.translate_bindings-overflow_sub-reference
-translate_bindings-overflow_sub-reference t c = named c.if-reference-eq0.left
+translate_bindings-overflow_sub-reference t c = named c.if-reference-eq0.false
 
 pub translate_bindings-decode-node-requires : goal.translate_bindings-decode-node-requires
-translate_bindings-decode-node-requires t c = let h = named c.if-reference-eq0.left in omega (arith, h, c.requires.0)
+translate_bindings-decode-node-requires t c = let h = named c.if-reference-eq0.false in omega (arith, h, c.requires.0)
 
 pub translate_bindings-translate_range-made-requires : goal.translate_bindings-translate_range-made-requires
-translate_bindings-translate_range-made-requires t c = call_bound (chain c.args.words.now (named c.if-reference-eq0.left) (binding_made c.args.words.now c.args.reference c.decode-node.ensures c.binding_variable-variable.ensures c.if-variable-lt-VARIABLES.taken)) c.requires
+translate_bindings-translate_range-made-requires t c = call_bound (chain c.args.words.now (named c.if-reference-eq0.false) (binding_made c.args.words.now c.args.reference c.decode-node.ensures c.binding_variable-variable.ensures c.if-variable-lt-VARIABLES.true)) (c.decreases, c.requires)
 
 pub translate_bindings-overflow_sub-q : goal.translate_bindings-overflow_sub-q
 translate_bindings-overflow_sub-q t c = omega (arith, c.translate_range-made.ensures.more)
 
 pub translate_bindings-product-count-requires : goal.translate_bindings-product-count-requires
-translate_bindings-product-count-requires t c = room_product (chain c.args.words.now (named c.if-reference-eq0.left) (binding_made c.args.words.now c.args.reference c.decode-node.ensures c.binding_variable-variable.ensures c.if-variable-lt-VARIABLES.taken)) c.requires c.translate_range-made.ensures
+translate_bindings-product-count-requires t c = room_product (chain c.args.words.now (named c.if-reference-eq0.false) (binding_made c.args.words.now c.args.reference c.decode-node.ensures c.binding_variable-variable.ensures c.if-variable-lt-VARIABLES.true)) (c.decreases, c.requires) c.translate_range-made.ensures
 
 pub translate_bindings-extend-requires : goal.translate_bindings-extend-requires
-translate_bindings-extend-requires t c = scope_grows (chain c.args.words.now (named c.if-reference-eq0.left) (binding_made c.args.words.now c.args.reference c.decode-node.ensures c.binding_variable-variable.ensures c.if-variable-lt-VARIABLES.taken)) c.requires c.translate_range-made.ensures
+translate_bindings-extend-requires t c = scope_grows (chain c.args.words.now (named c.if-reference-eq0.false) (binding_made c.args.words.now c.args.reference c.decode-node.ensures c.binding_variable-variable.ensures c.if-variable-lt-VARIABLES.true)) (c.decreases, c.requires) c.translate_range-made.ensures
 
 pub translate_bindings-translate_bindings-requires : goal.translate_bindings-translate_bindings-requires
-translate_bindings-translate_bindings-requires t c = call_next (chain c.args.words.now (named c.if-reference-eq0.left) (binding_made c.args.words.now c.args.reference c.decode-node.ensures c.binding_variable-variable.ensures c.if-variable-lt-VARIABLES.taken)) c.requires c.translate_range-made.ensures c.product-count.ensures c.extend.ensures
+translate_bindings-translate_bindings-requires t c = call_next (chain c.args.words.now (named c.if-reference-eq0.false) (binding_made c.args.words.now c.args.reference c.decode-node.ensures c.binding_variable-variable.ensures c.if-variable-lt-VARIABLES.true)) (c.decreases, c.requires) c.translate_range-made.ensures c.product-count.ensures c.extend.ensures
 
 pub translate_bindings-shape_of-plan-then-variable-lt-VARIABLES : goal.translate_bindings-shape_of-plan-then-variable-lt-VARIABLES
 translate_bindings-shape_of-plan-then-variable-lt-VARIABLES t c = (c.translate_bindings.auto.plan ∙ c.product-count.auto.plan) ∙ c.translate_range-made.auto.plan
 
 pub translate_bindings-returns-then-variable-lt-VARIABLES : goal.translate_bindings-returns-then-variable-lt-VARIABLES
-translate_bindings-returns-then-variable-lt-VARIABLES t c = bindings-done (chain c.args.words.now (named c.if-reference-eq0.left) (binding_made c.args.words.now c.args.reference c.decode-node.ensures c.binding_variable-variable.ensures c.if-variable-lt-VARIABLES.taken)) c.requires c.translate_range-made.ensures c.product-count.ensures c.extend.ensures c.translate_bindings.ensures
+translate_bindings-returns-then-variable-lt-VARIABLES t c = bindings-done (chain c.args.words.now (named c.if-reference-eq0.false) (binding_made c.args.words.now c.args.reference c.decode-node.ensures c.binding_variable-variable.ensures c.if-variable-lt-VARIABLES.true)) (c.decreases, c.requires) c.translate_range-made.ensures c.product-count.ensures c.extend.ensures c.translate_bindings.ensures
 
 pub translate_bindings-returns : goal.translate_bindings-returns
-translate_bindings-returns t c = no_more-done (none_bound c.args.words.now c.args.reference c.decode-node.ensures c.binding_variable-variable.ensures (named c.if-reference-eq0.left) c.if-variable-lt-VARIABLES.left) c.requires.1.fits
+translate_bindings-returns t c = no_more-done (none_bound c.args.words.now c.args.reference c.decode-node.ensures c.binding_variable-variable.ensures (named c.if-reference-eq0.false) c.if-variable-lt-VARIABLES.false) c.requires.1.fits
 
 pub translate_condition-returns-then-reference-eq0 : goal.translate_condition-returns-then-reference-eq0
-translate_condition-returns-then-reference-eq0 t c = written_none (columns_of c.args.catalogue.now) c.args.short (wanted_in c.args.wanted) (scope_of c.args.scope.now) c.args.p c.args.plan.now c.args.n (restriction_none c.args.words.now c.if-reference-eq0.taken)
+translate_condition-returns-then-reference-eq0 t c = written_none (columns_of c.args.catalogue.now) c.args.short (wanted_in c.args.wanted) (scope_of c.args.scope.now) c.args.p c.args.plan.now c.args.n (restriction_none c.args.words.now c.if-reference-eq0.true)
 
 pub translate_condition-overflow_sub-reference : goal.translate_condition-overflow_sub-reference
-translate_condition-overflow_sub-reference t c = named c.if-reference-eq0.left
+translate_condition-overflow_sub-reference t c = named c.if-reference-eq0.false
 
 pub translate_condition-decode-node-requires : goal.translate_condition-decode-node-requires
-translate_condition-decode-node-requires t c = let h = named c.if-reference-eq0.left in omega (arith, h, c.requires.0)
+translate_condition-decode-node-requires t c = let h = named c.if-reference-eq0.false in omega (arith, h, c.requires.0)
 
 pub translate_condition-enum_known-form : goal.translate_condition-enum_known-form
 translate_condition-enum_known-form t c = c.in-Compares.in-Compares-own.keys1
 
 pub translate_condition-write_atom-requires : goal.translate_condition-write_atom-requires
-translate_condition-write_atom-requires t c = let b = atom_step (wanted_in c.args.wanted) (named c.if-reference-eq0.left, c.requires.0) c.requires.1 (made_is c.args.words.now (c.args.reference - 1) c.in-Compares.is c.decode-node.ensures) in
+translate_condition-write_atom-requires t c = let b = atom_step (wanted_in c.args.wanted) (named c.if-reference-eq0.false, c.requires.0) c.requires.1 (made_is c.args.words.now (c.args.reference - 1) c.in-Compares.is c.decode-node.ensures) in
     (c.requires.1.fits, b.narrow, b.room)
 
 pub translate_condition-enum_known-form-in-Connects-1 : goal.translate_condition-enum_known-form-in-Connects-1
 translate_condition-enum_known-form-in-Connects-1 t c = c.in-Connects.in-Connects-own.keys2
 
 pub translate_condition-translate_part-first-requires : goal.translate_condition-translate_part-first-requires
-translate_condition-translate_part-first-requires t c = let b = and_step (wanted_in c.args.wanted) (named c.if-reference-eq0.left, c.requires.0) c.requires.1 (made_is c.args.words.now (c.args.reference - 1) (c.in-Connects.is ∙ ap Connects c.in-And.is) c.decode-node.ensures) in
+translate_condition-translate_part-first-requires t c = let b = and_step (wanted_in c.args.wanted) (named c.if-reference-eq0.false, c.requires.0) c.requires.1 (made_is c.args.words.now (c.args.reference - 1) (c.in-Connects.is ∙ ap Connects c.in-And.is) c.decode-node.ensures) in
     (omega (arith, c.decreases, b.parts.0.1), (b.parts.0.0.1, left_ready b))
 
 pub translate_condition-overflow_sub-first : goal.translate_condition-overflow_sub-first
 translate_condition-overflow_sub-first t c = omega (arith, c.requires.1.some-nodes, c.translate_part-first.ensures.counted)
 
 pub translate_condition-translate_part-requires : goal.translate_condition-translate_part-requires
-translate_condition-translate_part-requires t c = let b = and_step (wanted_in c.args.wanted) (named c.if-reference-eq0.left, c.requires.0) c.requires.1 (made_is c.args.words.now (c.args.reference - 1) (c.in-Connects.is ∙ ap Connects c.in-And.is) c.decode-node.ensures) in
+translate_condition-translate_part-requires t c = let b = and_step (wanted_in c.args.wanted) (named c.if-reference-eq0.false, c.requires.0) c.requires.1 (made_is c.args.words.now (c.args.reference - 1) (c.in-Connects.is ∙ ap Connects c.in-And.is) c.decode-node.ensures) in
     (omega (arith, c.decreases, b.parts.1.1), (b.parts.1.0.1, right_ready b c.args.short c.args.p c.translate_part-first.ensures))
 
 pub translate_condition-translate_part-first-requires-in-Or : goal.translate_condition-translate_part-first-requires-in-Or
-translate_condition-translate_part-first-requires-in-Or t c = let b = or_step (wanted_in c.args.wanted) (named c.if-reference-eq0.left, c.requires.0) c.requires.1 (made_is c.args.words.now (c.args.reference - 1) (c.in-Connects.is ∙ ap Connects c.in-Or.is) c.decode-node.ensures) in
+translate_condition-translate_part-first-requires-in-Or t c = let b = or_step (wanted_in c.args.wanted) (named c.if-reference-eq0.false, c.requires.0) c.requires.1 (made_is c.args.words.now (c.args.reference - 1) (c.in-Connects.is ∙ ap Connects c.in-Or.is) c.decode-node.ensures) in
     (omega (arith, c.decreases, b.parts.0.1), (b.parts.0.0.1, left_ready b))
 
 pub translate_condition-translate_part-second-requires : goal.translate_condition-translate_part-second-requires
-translate_condition-translate_part-second-requires t c = let b = or_step (wanted_in c.args.wanted) (named c.if-reference-eq0.left, c.requires.0) c.requires.1 (made_is c.args.words.now (c.args.reference - 1) (c.in-Connects.is ∙ ap Connects c.in-Or.is) c.decode-node.ensures) in
+translate_condition-translate_part-second-requires t c = let b = or_step (wanted_in c.args.wanted) (named c.if-reference-eq0.false, c.requires.0) c.requires.1 (made_is c.args.words.now (c.args.reference - 1) (c.in-Connects.is ∙ ap Connects c.in-Or.is) c.decode-node.ensures) in
     (omega (arith, c.decreases, b.parts.1.1), (b.parts.1.0.1, right_ready b c.args.short c.args.p c.translate_part-first-in-Or.ensures))
 
 pub translate_condition-overflow_sub-first-in-Or : goal.translate_condition-overflow_sub-first-in-Or
@@ -147,60 +140,60 @@ pub translate_condition-overflow_sub-second : goal.translate_condition-overflow_
 translate_condition-overflow_sub-second t c = omega (arith, c.requires.1.some-nodes, c.translate_part-first-in-Or.ensures.counted, c.translate_part-second.ensures.counted)
 
 pub translate_condition-pair-requires : goal.translate_condition-pair-requires
-translate_condition-pair-requires t c = let b = or_step (wanted_in c.args.wanted) (named c.if-reference-eq0.left, c.requires.0) c.requires.1 (made_is c.args.words.now (c.args.reference - 1) (c.in-Connects.is ∙ ap Connects c.in-Or.is) c.decode-node.ensures) in
+translate_condition-pair-requires t c = let b = or_step (wanted_in c.args.wanted) (named c.if-reference-eq0.false, c.requires.0) c.requires.1 (made_is c.args.words.now (c.args.reference - 1) (c.in-Connects.is ∙ ap Connects c.in-Or.is) c.decode-node.ensures) in
     room-behind_both b c.args.short c.args.p c.translate_part-first-in-Or.ensures c.args.p c.translate_part-second.ensures
 
 pub translate_condition-rule_fits-requires : goal.translate_condition-rule_fits-requires
-translate_condition-rule_fits-requires t c = let b = not_step (wanted_in c.args.wanted) (named c.if-reference-eq0.left, c.requires.0) c.requires.1 (made_is c.args.words.now (c.args.reference - 1) (c.in-Connects.is ∙ ap Connects c.in-Not.is) c.decode-node.ensures) in
+translate_condition-rule_fits-requires t c = let b = not_step (wanted_in c.args.wanted) (named c.if-reference-eq0.false, c.requires.0) c.requires.1 (made_is c.args.words.now (c.args.reference - 1) (c.in-Connects.is ∙ ap Connects c.in-Not.is) c.decode-node.ensures) in
     (b.part.0, inner_few b)
 
 pub translate_condition-translate_condition-met-requires : goal.translate_condition-translate_condition-met-requires
-translate_condition-translate_condition-met-requires t c = let b = not_step (wanted_in c.args.wanted) (named c.if-reference-eq0.left, c.requires.0) c.requires.1 (made_is c.args.words.now (c.args.reference - 1) (c.in-Connects.is ∙ ap Connects c.in-Not.is) c.decode-node.ensures) in
+translate_condition-translate_condition-met-requires t c = let b = not_step (wanted_in c.args.wanted) (named c.if-reference-eq0.false, c.requires.0) c.requires.1 (made_is c.args.words.now (c.args.reference - 1) (c.in-Connects.is ∙ ap Connects c.in-Not.is) c.decode-node.ensures) in
     (omega (arith, c.decreases, b.part.1), (b.part.0.1, inner_ready b c.args.short c.rule_fits.ensures c.opposite_if.ensures))
 
 pub translate_condition-returns-then-opposite : goal.translate_condition-returns-then-opposite
-translate_condition-returns-then-opposite t c = let b = not_step (wanted_in c.args.wanted) (named c.if-reference-eq0.left, c.requires.0) c.requires.1 (made_is c.args.words.now (c.args.reference - 1) (c.in-Connects.is ∙ ap Connects c.in-Not.is) c.decode-node.ensures) in
-    written-restriction (columns_of c.args.catalogue.now) c.args.short (wanted_in c.args.wanted) (scope_of c.args.scope.now) c.args.p b.reads (opposite-done b c.args.short c.rule_fits.ensures c.opposite_if.ensures c.args.p c.translate_condition-met.ensures (wanted_in c.args.wanted) c.if-opposite.taken)
+translate_condition-returns-then-opposite t c = let b = not_step (wanted_in c.args.wanted) (named c.if-reference-eq0.false, c.requires.0) c.requires.1 (made_is c.args.words.now (c.args.reference - 1) (c.in-Connects.is ∙ ap Connects c.in-Not.is) c.decode-node.ensures) in
+    written-restriction (columns_of c.args.catalogue.now) c.args.short (wanted_in c.args.wanted) (scope_of c.args.scope.now) c.args.p b.reads (opposite-done b c.args.short c.rule_fits.ensures c.opposite_if.ensures c.args.p c.translate_condition-met.ensures (wanted_in c.args.wanted) c.if-opposite.true)
 
 pub translate_condition-overflow_sub-met : goal.translate_condition-overflow_sub-met
 translate_condition-overflow_sub-met t c = omega (arith, c.requires.1.some-nodes, c.translate_condition-met.ensures.counted)
 
 pub translate_condition-pair-requires-in-Not : goal.translate_condition-pair-requires-in-Not
-translate_condition-pair-requires-in-Not t c = let b = not_step (wanted_in c.args.wanted) (named c.if-reference-eq0.left, c.requires.0) c.requires.1 (made_is c.args.words.now (c.args.reference - 1) (c.in-Connects.is ∙ ap Connects c.in-Not.is) c.decode-node.ensures) in
-    room-behind_inner b c.args.short c.rule_fits.ensures c.opposite_if.ensures c.args.p c.translate_condition-met.ensures c.if-opposite.left
+translate_condition-pair-requires-in-Not t c = let b = not_step (wanted_in c.args.wanted) (named c.if-reference-eq0.false, c.requires.0) c.requires.1 (made_is c.args.words.now (c.args.reference - 1) (c.in-Connects.is ∙ ap Connects c.in-Not.is) c.decode-node.ensures) in
+    room-behind_inner b c.args.short c.rule_fits.ensures c.opposite_if.ensures c.args.p c.translate_condition-met.ensures c.if-opposite.false
 
 pub translate_condition-enum_known-form-in-Binds-1 : goal.translate_condition-enum_known-form-in-Binds-1
 translate_condition-enum_known-form-in-Binds-1 t c = c.in-Binds.in-Binds-own.keys3
 
 pub translate_condition-translate_quantifier-requires : goal.translate_condition-translate_quantifier-requires
-translate_condition-translate_quantifier-requires t c = let b = quantifier_step (wanted_in c.args.wanted) (named c.if-reference-eq0.left, c.requires.0) c.requires.1 (made_is c.args.words.now (c.args.reference - 1) (c.in-Binds.is ∙ ap (Binds c.in-Binds.variable) c.in-Quantifies.is) c.decode-node.ensures) in
+translate_condition-translate_quantifier-requires t c = let b = quantifier_step (wanted_in c.args.wanted) (named c.if-reference-eq0.false, c.requires.0) c.requires.1 (made_is c.args.words.now (c.args.reference - 1) (c.in-Binds.is ∙ ap (Binds c.in-Binds.variable) c.in-Quantifies.is) c.decode-node.ensures) in
     (omega (arith, c.decreases, b.parts.0.1, b.parts.1.1), (b.known, b.parts.0.0, b.parts.1.0, b.ready))
 
 pub translate_condition-returns-in-Compares : goal.translate_condition-returns-in-Compares
-translate_condition-returns-in-Compares t c = let b = atom_step (wanted_in c.args.wanted) (named c.if-reference-eq0.left, c.requires.0) c.requires.1 (made_is c.args.words.now (c.args.reference - 1) c.in-Compares.is c.decode-node.ensures) in
+translate_condition-returns-in-Compares t c = let b = atom_step (wanted_in c.args.wanted) (named c.if-reference-eq0.false, c.requires.0) c.requires.1 (made_is c.args.words.now (c.args.reference - 1) c.in-Compares.is c.decode-node.ensures) in
     written-restriction (columns_of c.args.catalogue.now) c.args.short (wanted_in c.args.wanted) (scope_of c.args.scope.now) c.args.p b.reads (atom-written c.args.wanted (atom_of c.in-Compares.atom) (ready_as (sym b.reads) c.requires.1) c.args.short c.args.p c.is_opposite.ensures c.write_atom.ensures)
 
 pub translate_condition-returns-in-And : goal.translate_condition-returns-in-And
-translate_condition-returns-in-And t c = let b = and_step (wanted_in c.args.wanted) (named c.if-reference-eq0.left, c.requires.0) c.requires.1 (made_is c.args.words.now (c.args.reference - 1) (c.in-Connects.is ∙ ap Connects c.in-And.is) c.decode-node.ensures) in
+translate_condition-returns-in-And t c = let b = and_step (wanted_in c.args.wanted) (named c.if-reference-eq0.false, c.requires.0) c.requires.1 (made_is c.args.words.now (c.args.reference - 1) (c.in-Connects.is ∙ ap Connects c.in-And.is) c.decode-node.ensures) in
     written-restriction (columns_of c.args.catalogue.now) c.args.short (wanted_in c.args.wanted) (scope_of c.args.scope.now) c.args.p b.reads (and_written (columns_of c.args.catalogue.now) c.args.short (wanted_in c.args.wanted) (scope_of c.args.scope.now) c.args.p _ (left-written b c.args.short c.args.p c.translate_part-first.ensures) _ (right-written b c.args.short c.args.p c.translate_part-first.ensures (c.translate_part-first.result - 1) c.translate_part.ensures))
 
 pub translate_condition-returns-in-Or : goal.translate_condition-returns-in-Or
-translate_condition-returns-in-Or t c = let b = or_step (wanted_in c.args.wanted) (named c.if-reference-eq0.left, c.requires.0) c.requires.1 (made_is c.args.words.now (c.args.reference - 1) (c.in-Connects.is ∙ ap Connects c.in-Or.is) c.decode-node.ensures) in
+translate_condition-returns-in-Or t c = let b = or_step (wanted_in c.args.wanted) (named c.if-reference-eq0.false, c.requires.0) c.requires.1 (made_is c.args.words.now (c.args.reference - 1) (c.in-Connects.is ∙ ap Connects c.in-Or.is) c.decode-node.ensures) in
     written-restriction (columns_of c.args.catalogue.now) c.args.short (wanted_in c.args.wanted) (scope_of c.args.scope.now) c.args.p b.reads (or_written (columns_of c.args.catalogue.now) c.args.short (wanted_in c.args.wanted) (scope_of c.args.scope.now) c.args.p _ (left-written b c.args.short c.args.p c.translate_part-first-in-Or.ensures) _ (right-written b c.args.short c.args.p c.translate_part-first-in-Or.ensures c.args.p c.translate_part-second.ensures) c.pair.ensures)
 
 pub translate_condition-returns-else-opposite : goal.translate_condition-returns-else-opposite
-translate_condition-returns-else-opposite t c = let b = not_step (wanted_in c.args.wanted) (named c.if-reference-eq0.left, c.requires.0) c.requires.1 (made_is c.args.words.now (c.args.reference - 1) (c.in-Connects.is ∙ ap Connects c.in-Not.is) c.decode-node.ensures) in
-    written-restriction (columns_of c.args.catalogue.now) c.args.short (wanted_in c.args.wanted) (scope_of c.args.scope.now) c.args.p b.reads (not_done b c.args.short c.rule_fits.ensures c.opposite_if.ensures c.args.p c.translate_condition-met.ensures (wanted_in c.args.wanted) c.if-opposite.left c.pair-in-Not.ensures)
+translate_condition-returns-else-opposite t c = let b = not_step (wanted_in c.args.wanted) (named c.if-reference-eq0.false, c.requires.0) c.requires.1 (made_is c.args.words.now (c.args.reference - 1) (c.in-Connects.is ∙ ap Connects c.in-Not.is) c.decode-node.ensures) in
+    written-restriction (columns_of c.args.catalogue.now) c.args.short (wanted_in c.args.wanted) (scope_of c.args.scope.now) c.args.p b.reads (not_done b c.args.short c.rule_fits.ensures c.opposite_if.ensures c.args.p c.translate_condition-met.ensures (wanted_in c.args.wanted) c.if-opposite.false c.pair-in-Not.ensures)
 
 pub translate_condition-returns-in-Quantifies : goal.translate_condition-returns-in-Quantifies
-translate_condition-returns-in-Quantifies t c = let b = quantifier_step (wanted_in c.args.wanted) (named c.if-reference-eq0.left, c.requires.0) c.requires.1 (made_is c.args.words.now (c.args.reference - 1) (c.in-Binds.is ∙ ap (Binds c.in-Binds.variable) c.in-Quantifies.is) c.decode-node.ensures) in
+translate_condition-returns-in-Quantifies t c = let b = quantifier_step (wanted_in c.args.wanted) (named c.if-reference-eq0.false, c.requires.0) c.requires.1 (made_is c.args.words.now (c.args.reference - 1) (c.in-Binds.is ∙ ap (Binds c.in-Binds.variable) c.in-Quantifies.is) c.decode-node.ensures) in
     written-restriction (columns_of c.args.catalogue.now) c.args.short (wanted_in c.args.wanted) (scope_of c.args.scope.now) c.args.p b.reads c.translate_quantifier.ensures
 
 pub translate_condition-returns-in-Binding : goal.translate_condition-returns-in-Binding
-translate_condition-returns-in-Binding t c = written_none (columns_of c.args.catalogue.now) c.args.short (wanted_in c.args.wanted) (scope_of c.args.scope.now) c.args.p c.args.plan.now c.args.n (restriction_is c.args.words.now c.args.reference _ (named c.if-reference-eq0.left) (made_is c.args.words.now (c.args.reference - 1) (c.in-Binds.is ∙ ap (Binds c.in-Binds.variable) c.in-Binding.is) c.decode-node.ensures))
+translate_condition-returns-in-Binding t c = written_none (columns_of c.args.catalogue.now) c.args.short (wanted_in c.args.wanted) (scope_of c.args.scope.now) c.args.p c.args.plan.now c.args.n (restriction_is c.args.words.now c.args.reference _ (named c.if-reference-eq0.false) (made_is c.args.words.now (c.args.reference - 1) (c.in-Binds.is ∙ ap (Binds c.in-Binds.variable) c.in-Binding.is) c.decode-node.ensures))
 
 pub translate_condition-returns-in_default : goal.translate_condition-returns-in_default
-translate_condition-returns-in_default t c = written_none (columns_of c.args.catalogue.now) c.args.short (wanted_in c.args.wanted) (scope_of c.args.scope.now) c.args.p c.args.plan.now c.args.n (restriction_is c.args.words.now c.args.reference _ (named c.if-reference-eq0.left) c.decode-node.ensures ∙ no_restriction c.decode-node.result.form (reading_at c.args.words.now c.decode-node.result.a) (reading_at c.args.words.now c.decode-node.result.b) (reading_at c.args.words.now c.decode-node.result.c) c.in_default.in_default-own.keys4)
+translate_condition-returns-in_default t c = written_none (columns_of c.args.catalogue.now) c.args.short (wanted_in c.args.wanted) (scope_of c.args.scope.now) c.args.p c.args.plan.now c.args.n (restriction_is c.args.words.now c.args.reference _ (named c.if-reference-eq0.false) c.decode-node.ensures ∙ no_restriction c.decode-node.result.form (reading_at c.args.words.now c.decode-node.result.a) (reading_at c.args.words.now c.decode-node.result.b) (reading_at c.args.words.now c.decode-node.result.c) c.in_default.not-Binds c.in_default.not-Compares c.in_default.not-Connects)
 
 pub translate_part-translate_condition-requires : goal.translate_part-translate_condition-requires
 translate_part-translate_condition-requires t c = (omega (arith, c.decreases), c.requires)
@@ -287,13 +280,13 @@ pub translate_range-translate_table-requires : goal.translate_range-translate_ta
 translate_range-translate_table-requires t c = room_one c.requires.1
 
 pub translate_range-translate_alpha-requires : goal.translate_range-translate_alpha-requires
-translate_range-translate_alpha-requires t c = call_alpha _ _ (made_is c.args.words.now (c.args.reference - 1) c.in-Alpha.is c.decode-node.ensures) c.requires
+translate_range-translate_alpha-requires t c = call_alpha _ _ (made_is c.args.words.now (c.args.reference - 1) c.in-Alpha.is c.decode-node.ensures) (c.decreases, c.requires)
 
 pub translate_range-enum_known-form-in-Combines-1 : goal.translate_range-enum_known-form-in-Combines-1
 translate_range-enum_known-form-in-Combines-1 t c = c.in-Combines.in-Combines-own.keys3
 
 pub translate_range-translate_ranges-requires : goal.translate_range-translate_ranges-requires
-translate_range-translate_ranges-requires t c = call_sides _ c.args.catalogue.now c.args.words.now (made_is c.args.words.now (c.args.reference - 1) c.in-Combines.is c.decode-node.ensures) c.requires
+translate_range-translate_ranges-requires t c = call_sides _ c.args.catalogue.now c.args.words.now (made_is c.args.words.now (c.args.reference - 1) c.in-Combines.is c.decode-node.ensures) (c.decreases, c.requires)
 
 pub translate_range-translate_table-requires-in_default : goal.translate_range-translate_table-requires-in_default
 translate_range-translate_table-requires-in_default t c = room_one c.requires.1
@@ -320,13 +313,13 @@ pub translate_range-shape_of-plan-in_default : goal.translate_range-shape_of-pla
 translate_range-shape_of-plan-in_default t c = c.translate_table-in_default.auto.plan
 
 pub translate_range-returns-in_default : goal.translate_range-returns-in_default
-translate_range-returns-in_default t c = done_as (range_is c.args.words.now c.args.reference _ c.requires.0.0 c.decode-node.ensures ∙ no_range c.decode-node.result.form (reading_at c.args.words.now c.decode-node.result.a) (reading_at c.args.words.now c.decode-node.result.b) (reading_at c.args.words.now c.decode-node.result.c) c.in_default.in_default-own.keys4) c.translate_table-in_default.ensures
+translate_range-returns-in_default t c = done_as (range_is c.args.words.now c.args.reference _ c.requires.0.0 c.decode-node.ensures ∙ no_range c.decode-node.result.form (reading_at c.args.words.now c.decode-node.result.a) (reading_at c.args.words.now c.decode-node.result.b) (reading_at c.args.words.now c.decode-node.result.c) c.in_default.not-Table c.in_default.not-Alpha c.in_default.not-Combines) c.translate_table-in_default.ensures
 
 pub translate_ranges-translate_range-first-requires : goal.translate_ranges-translate_range-first-requires
-translate_ranges-translate_range-first-requires t c = call_left c.args.how c.args.words.now c.args.left c.args.right c.requires
+translate_ranges-translate_range-first-requires t c = call_left c.args.how c.args.words.now c.args.left c.args.right (c.decreases, c.requires)
 
 pub translate_ranges-translate_range-second-requires : goal.translate_ranges-translate_range-second-requires
-translate_ranges-translate_range-second-requires t c = call_right c.args.how c.args.words.now c.args.left c.args.right c.requires c.translate_range-first.ensures
+translate_ranges-translate_range-second-requires t c = call_right c.args.how c.args.words.now c.args.left c.args.right (c.decreases, c.requires) c.translate_range-first.ensures
 
 pub translate_ranges-overflow_sub-first : goal.translate_ranges-overflow_sub-first
 translate_ranges-overflow_sub-first t c = omega (arith, c.translate_range-first.ensures.more)
@@ -335,10 +328,10 @@ pub translate_ranges-overflow_sub-second : goal.translate_ranges-overflow_sub-se
 translate_ranges-overflow_sub-second t c = omega (arith, c.translate_range-second.ensures.more)
 
 pub translate_ranges-pair-count-requires : goal.translate_ranges-pair-count-requires
-translate_ranges-pair-count-requires t c = room_last c.args.how c.args.words.now c.args.left c.args.right c.requires c.translate_range-first.ensures c.translate_range-second.ensures
+translate_ranges-pair-count-requires t c = room_last c.args.how c.args.words.now c.args.left c.args.right (c.decreases, c.requires) c.translate_range-first.ensures c.translate_range-second.ensures
 
 pub translate_ranges-shape_of-plan : goal.translate_ranges-shape_of-plan
 translate_ranges-shape_of-plan t c = (c.pair-count.auto.plan ∙ c.translate_range-second.auto.plan) ∙ c.translate_range-first.auto.plan
 
 pub translate_ranges-returns : goal.translate_ranges-returns
-translate_ranges-returns t c = sides_done c.args.how c.args.words.now c.args.left c.args.right c.requires c.translate_range-first.ensures c.translate_range-second.ensures c.pair-count.ensures
+translate_ranges-returns t c = sides_done c.args.how c.args.words.now c.args.left c.args.right (c.decreases, c.requires) c.translate_range-first.ensures c.translate_range-second.ensures c.pair-count.ensures
