@@ -5,36 +5,50 @@
 ghost use Rattle.listing.specs.Listing.{Listable};
 
 use desk::Answered;
-use libc::{STDERR_FILENO, STDOUT_FILENO};
 use relations::limits::{CATALOGUE_WORDS, PLAN_WORDS, QUESTION_WORDS, WORDS};
 use standard_input::read_bundle;
+use std::io::Write;
 
-fn print(text: &[u8]) {
-    if !io::write_all(STDOUT_FILENO, text) {
-        io::write_all(
-            STDERR_FILENO,
-            b"desk: the listing could not be written whole\n",
-        );
+// What can't be told on standard error is not told.
+fn tell(rt: &HostRuntime, text: &[u8]) {
+    match rt.stderr().write_all(text) {
+        Ok(()) => {}
+        Err(_) => {}
     }
 }
 
-fn print_refusal(status: u32, place: u32) {
+fn print(rt: &HostRuntime, text: &[u8]) {
+    match rt.stdout().write_all(text) {
+        Ok(()) => {}
+        Err(_) => tell(rt, b"desk: the listing could not be written whole\n"),
+    }
+}
+
+fn print_refusal(rt: &HostRuntime, status: u32, place: u32) {
     let mut text = [0u8; 35];
     let bytes = listing::put_refusal(status, place, &mut text);
-    print(&text[..bytes]);
+    print(rt, &text[..bytes]);
 }
 
 // The buffer holds the longest listing: as many rows of one word of ten digits as there may be words.
-fn print_listing(nodes: u32, heavy: u32, room: u32, width: u32, rows: u32, words: &[u32])
+fn print_listing(
+    rt: &HostRuntime,
+    nodes: u32,
+    heavy: u32,
+    room: u32,
+    width: u32,
+    rows: u32,
+    words: &[u32],
+)
     requires { Listable width rows words.now }
 {
     let mut text = [0u8; 16 * WORDS];
     let bytes = listing::put_listing(nodes, heavy, room, width, rows, words, &mut text);
-    print(&text[..bytes]);
+    print(rt, &text[..bytes]);
 }
 
 // The question of a bundle that was read.
-fn print_answer(mode: u32, catalogue: &[u32], tables: &[u32], question: &[u32]) {
+fn print_answer(rt: &HostRuntime, mode: u32, catalogue: &[u32], tables: &[u32], question: &[u32]) {
     let mut plan = [0u32; PLAN_WORDS];
     let mut work = [0u32; WORDS];
     let mut output = [0u32; WORDS];
@@ -53,25 +67,26 @@ fn print_answer(mode: u32, catalogue: &[u32], tables: &[u32], question: &[u32]) 
             room,
             width,
             rows,
-        } => print_listing(nodes, heavy, room, width, rows, &output),
-        Answered::Refused { status, place } => print_refusal(status, place),
+        } => print_listing(rt, nodes, heavy, room, width, rows, &output),
+        Answered::Refused { status, place } => print_refusal(rt, status, place),
     }
 }
 
-fn main() {
+fn main(rt: HostRuntime) {
     let mut catalogue = [0u32; CATALOGUE_WORDS];
     let mut tables = [0u32; WORDS];
     let mut question = [0u32; QUESTION_WORDS];
-    let input = read_bundle(&mut catalogue, &mut tables, &mut question);
+    let input = read_bundle(&mut rt.reader(), &mut catalogue, &mut tables, &mut question);
     let pairs = input.catalogue;
     let words = input.tables;
     let nodes = input.question;
     if input.failed {
-        io::write_all(STDERR_FILENO, b"desk: the input could not be read\n");
+        tell(&rt, b"desk: the input could not be read\n");
     } else if input.status != 0 {
-        print_refusal(input.status, input.place);
+        print_refusal(&rt, input.status, input.place);
     } else {
         print_answer(
+            &rt,
             input.mode,
             &catalogue[..pairs],
             &tables[..words],

@@ -3,10 +3,9 @@
 
 ghost use Rattle.io.specs.Counts.{IsPrefixLen};
 
-use std::io::Read;
-
 use bundle_reading::Reading;
 use relations::limits::{QUESTION_NODE_WORDS, TEXT_BYTES};
+use std::io::Read;
 
 // How many bytes were read, and whether they ended in a read that failed.
 #[derive(Clone, Copy)]

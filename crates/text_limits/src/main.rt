@@ -3,44 +3,38 @@
 
 use bundle_reading::{Reading, read};
 use bundle_writing::{Writing, write};
-use libc::STDOUT_FILENO;
 use relations::limits::{CATALOGUE_WORDS, QUESTION_WORDS, WORDS};
+use std::io;
 
-fn line(key: &[u8], number: u64) {
-    io::write_all(STDOUT_FILENO, key);
-    io::print_decimal(STDOUT_FILENO, number);
-    io::write_all(STDOUT_FILENO, b"\n");
+fn show(rt: &HostRuntime, case: &str, status: u32, place: usize) -> io::Result<()> {
+    println!(rt; "{case} status={status}")?;
+    println!(rt; "place={place}")?;
+    Ok(())
 }
 
-fn show(case: &[u8], status: u64, place: usize) {
-    io::write_all(STDOUT_FILENO, case);
-    line(b" status=", status);
-    line(b"place=", place as u64);
-}
-
-fn show_reading(case: &[u8], reading: Reading) {
+fn show_reading(rt: &HostRuntime, case: &str, reading: Reading) -> io::Result<()> {
     match reading {
         Reading::Bundle {
             mode: _,
             pairs: _,
             words: _,
             nodes: _,
-        } => show(case, 0, 0),
-        Reading::WrongLine(line) => show(case, 12, line),
-        Reading::SmallBuffer => show(case, 14, 0),
+        } => show(rt, case, 0, 0),
+        Reading::WrongLine(line) => show(rt, case, 12, line),
+        Reading::SmallBuffer => show(rt, case, 14, 0),
     }
 }
 
-fn show_writing(case: &[u8], writing: Writing) {
+fn show_writing(rt: &HostRuntime, case: &str, writing: Writing) -> io::Result<()> {
     match writing {
-        Writing::Bytes(bytes) => show(case, 0, bytes),
-        Writing::WrongTables => show(case, 7, 0),
-        Writing::WrongNodes => show(case, 1, 0),
-        Writing::SmallBuffer => show(case, 13, 0),
+        Writing::Bytes(bytes) => show(rt, case, 0, bytes),
+        Writing::WrongTables => show(rt, case, 7, 0),
+        Writing::WrongNodes => show(rt, case, 1, 0),
+        Writing::SmallBuffer => show(rt, case, 13, 0),
     }
 }
 
-fn reading_cases() {
+fn reading_cases(rt: &HostRuntime) -> io::Result<()> {
     let text = b"mode=plain\nnode=1 0 0 0 0 0\n";
     let mut pairs = [0u32; CATALOGUE_WORDS];
     let mut words = [0u32; WORDS];
@@ -49,41 +43,49 @@ fn reading_cases() {
     let mut few_words = [0u32; WORDS - 1];
     let mut few_nodes = [0u32; QUESTION_WORDS - 1];
     show_reading(
-        b"32, 16384, 384 words",
+        rt,
+        "32, 16384, 384 words",
         read(text, &mut pairs, &mut words, &mut nodes),
-    );
+    )?;
     show_reading(
-        b"31 words",
+        rt,
+        "31 words",
         read(text, &mut few_pairs, &mut words, &mut nodes),
-    );
+    )?;
     show_reading(
-        b"16383 words",
+        rt,
+        "16383 words",
         read(text, &mut pairs, &mut few_words, &mut nodes),
-    );
+    )?;
     show_reading(
-        b"383 words",
+        rt,
+        "383 words",
         read(text, &mut pairs, &mut words, &mut few_nodes),
-    );
+    )?;
+    Ok(())
 }
 
 // 14 comes before 12.
-fn empty_text_cases() {
+fn empty_text_cases(rt: &HostRuntime) -> io::Result<()> {
     let nothing = [0u8; 1];
     let mut pairs = [0u32; CATALOGUE_WORDS];
     let mut few_pairs = [0u32; CATALOGUE_WORDS - 1];
     let mut words = [0u32; WORDS];
     let mut nodes = [0u32; QUESTION_WORDS];
     show_reading(
-        b"empty text",
+        rt,
+        "empty text",
         read(&nothing[..0], &mut pairs, &mut words, &mut nodes),
-    );
+    )?;
     show_reading(
-        b"empty text, 31 words",
+        rt,
+        "empty text, 31 words",
         read(&nothing[..0], &mut few_pairs, &mut words, &mut nodes),
-    );
+    )?;
+    Ok(())
 }
 
-fn writing_cases() {
+fn writing_cases(rt: &HostRuntime) -> io::Result<()> {
     let pairs = [1u32, 1];
     let wide_pairs = [9u32, 1];
     let words = [7u32; 9];
@@ -91,41 +93,51 @@ fn writing_cases() {
     let mut text = [0u8; 47];
     let mut short_text = [0u8; 46];
     show_writing(
-        b"47 bytes",
+        rt,
+        "47 bytes",
         write(1, &pairs, &words[..1], &nodes[..6], &mut text),
-    );
+    )?;
     show_writing(
-        b"46 bytes",
+        rt,
+        "46 bytes",
         write(1, &pairs, &words[..1], &nodes[..6], &mut short_text),
-    );
+    )?;
     show_writing(
-        b"tables too long",
+        rt,
+        "tables too long",
         write(1, &pairs, &words[..2], &nodes[..6], &mut text),
-    );
+    )?;
     show_writing(
-        b"nine columns",
+        rt,
+        "nine columns",
         write(1, &wide_pairs, &words, &nodes[..6], &mut text),
-    );
+    )?;
     show_writing(
-        b"half a pair",
+        rt,
+        "half a pair",
         write(1, &pairs[..1], &words[..1], &nodes[..6], &mut text),
-    );
+    )?;
     show_writing(
-        b"five words of a node",
+        rt,
+        "five words of a node",
         write(1, &pairs, &words[..1], &nodes[..5], &mut text),
-    );
+    )?;
     show_writing(
-        b"no node",
+        rt,
+        "no node",
         write(1, &pairs, &words[..1], &nodes[..0], &mut text),
-    );
+    )?;
     show_writing(
-        b"65 nodes",
+        rt,
+        "65 nodes",
         write(1, &pairs, &words[..1], &nodes, &mut text),
-    );
+    )?;
+    Ok(())
 }
 
-fn main() {
-    reading_cases();
-    empty_text_cases();
-    writing_cases();
+fn main(rt: HostRuntime) -> io::Result<()> {
+    reading_cases(&rt)?;
+    empty_text_cases(&rt)?;
+    writing_cases(&rt)?;
+    Ok(())
 }

@@ -2,52 +2,54 @@
 #![tactic(auto)]
 
 use bundle_writing::Writing;
-use libc::{STDERR_FILENO, STDOUT_FILENO};
 use relations::limits::{CATALOGUE_WORDS, QUESTION_WORDS, TEXT_BYTES, WORDS};
 use standard_input::read_bundle;
+use std::io;
+use std::io::Write;
 
-fn line(key: &[u8], number: u64) {
-    io::write_all(STDOUT_FILENO, key);
-    io::print_decimal(STDOUT_FILENO, number);
-    io::write_all(STDOUT_FILENO, b"\n");
-}
-
-fn refuse(status: u32, place: u32) {
-    line(b"status=", status as u64);
-    line(b"place=", place as u64);
+fn refuse(rt: &HostRuntime, status: u32, place: u32) -> io::Result<()> {
+    println!(rt; "status={status}")?;
+    println!(rt; "place={place}")?;
+    Ok(())
 }
 
 // What was read is written back.
-fn write_back(mode: u32, catalogue: &[u32], tables: &[u32], nodes: &[u32]) {
+fn write_back(
+    rt: &HostRuntime,
+    mode: u32,
+    catalogue: &[u32],
+    tables: &[u32],
+    nodes: &[u32],
+) -> io::Result<()> {
     let mut text = [0u8; TEXT_BYTES];
     match bundle_writing::write(mode, catalogue, tables, nodes, &mut text) {
-        Writing::Bytes(bytes) => {
-            io::write_all(STDOUT_FILENO, &text[..bytes]);
-        }
-        Writing::WrongTables => refuse(7, 0),
-        Writing::WrongNodes => refuse(1, 0),
-        Writing::SmallBuffer => refuse(13, 0),
+        Writing::Bytes(bytes) => rt.stdout().write_all(&text[..bytes]),
+        Writing::WrongTables => refuse(rt, 7, 0),
+        Writing::WrongNodes => refuse(rt, 1, 0),
+        Writing::SmallBuffer => refuse(rt, 13, 0),
     }
 }
 
-fn main() {
+fn main(rt: HostRuntime) -> io::Result<()> {
     let mut catalogue = [0u32; CATALOGUE_WORDS];
     let mut tables = [0u32; WORDS];
     let mut question = [0u32; QUESTION_WORDS];
-    let input = read_bundle(&mut catalogue, &mut tables, &mut question);
+    let input = read_bundle(&mut rt.reader(), &mut catalogue, &mut tables, &mut question);
     let pairs = input.catalogue;
     let words = input.tables;
     let nodes = input.question;
     if input.failed {
-        io::write_all(STDERR_FILENO, b"text: the input could not be read\n");
+        rt.stderr()
+            .write_all(b"text: the input could not be read\n")
     } else if input.status != 0 {
-        refuse(input.status, input.place);
+        refuse(&rt, input.status, input.place)
     } else {
         write_back(
+            &rt,
             input.mode,
             &catalogue[..pairs],
             &tables[..words],
             &question[..nodes],
-        );
+        )
     }
 }
