@@ -21,10 +21,10 @@ pub returns-then-not-tables_ok : goal.returns-then-not-tables_ok
 returns-then-not-tables_ok c = let s = c.args in answer-tables s.catalogue.now s.tables.now s.question.now s.mode s.plan.now s.work.now s.output.now (sym c.tables_ok.ensures ∙ c.if-not-tables_ok.true)
 
 pub slice_bounds-run-end : goal.slice_bounds-run-end
-slice_bounds-run-end c = omega (arith, (let the-fact : c.in-Done.nodes * plan_node_words ≤ length ((c.translate.new.plan)) = plan-inside c.args.catalogue.now c.args.tables.now c.args.question.now c.args.mode c.args.plan.now ((let the-fact : tables_ok c.args.catalogue.now c.args.tables.now ≡ true = sym c.tables_ok.ensures ∙ c.if-not-tables_ok.false in the-fact)) c.in-Done.nodes c.in-Done.heavy ((c.translate.new.plan)) ((told a) (Done c.in-Done.nodes c.in-Done.heavy) c.in-Done.is) in the-fact))
+slice_bounds-run-end c = omega (arith, (let the-fact : c.in-Done.nodes * plan_node_words ≤ length ((c.translate.new.plan)) = plan-inside c.args.catalogue.now c.args.tables.now c.args.question.now c.args.mode c.args.plan.now ((let the-fact : tables_ok c.args.catalogue.now c.args.tables.now ≡ true = sym c.tables_ok.ensures ∙ c.if-not-tables_ok.false in the-fact)) c.in-Done.nodes c.in-Done.heavy ((c.translate.new.plan)) (translated_as c.translate.result (Done c.in-Done.nodes c.in-Done.heavy) c.translate.new.plan c.in-Done.is c.translate.ensures) in the-fact))
 
 pub slice_bounds-run-end-in-Done : goal.slice_bounds-run-end-in-Done
-slice_bounds-run-end-in-Done c = sym (length-take-le _ ((c.translate.new.plan)) (omega (arith, (let the-fact : c.in-Done.nodes * plan_node_words ≤ length ((c.translate.new.plan)) = plan-inside c.args.catalogue.now c.args.tables.now c.args.question.now c.args.mode c.args.plan.now ((let the-fact : tables_ok c.args.catalogue.now c.args.tables.now ≡ true = sym c.tables_ok.ensures ∙ c.if-not-tables_ok.false in the-fact)) c.in-Done.nodes c.in-Done.heavy ((c.translate.new.plan)) ((told a) (Done c.in-Done.nodes c.in-Done.heavy) c.in-Done.is) in the-fact))))
+slice_bounds-run-end-in-Done c = sym (length-take-le _ ((c.translate.new.plan)) (omega (arith, (let the-fact : c.in-Done.nodes * plan_node_words ≤ length ((c.translate.new.plan)) = plan-inside c.args.catalogue.now c.args.tables.now c.args.question.now c.args.mode c.args.plan.now ((let the-fact : tables_ok c.args.catalogue.now c.args.tables.now ≡ true = sym c.tables_ok.ensures ∙ c.if-not-tables_ok.false in the-fact)) c.in-Done.nodes c.in-Done.heavy ((c.translate.new.plan)) (translated_as c.translate.result (Done c.in-Done.nodes c.in-Done.heavy) c.translate.new.plan c.in-Done.is c.translate.ensures) in the-fact))))
 
 pub answer_of-requires : goal.answer_of-requires
 answer_of-requires c = ran_bounded _ _ _ _ _ c.run.result _ _ c.run.ensures
