@@ -1,4 +1,4 @@
-// The desk for a program in C; include/desk.h declares the same three calls.
+// The desk for a program in C: the three calls of include/desk.h, which the crate desk_c exports.
 ghost use Rattle.std.specs.Prelude.{◌≡◌};
 ghost use Rattle.translation.specs.TranslateCall.{translate_outcome};
 ghost use Rattle.running.specs.RunCall.{run_outcome};
@@ -48,8 +48,7 @@ fn report(
     }
 }
 
-#[unsafe(no_mangle)]
-pub extern "C" fn desk_translate(
+pub fn desk_translate(
     catalogue: &[u32],
     question: &[u32],
     mode: u32,
@@ -82,8 +81,7 @@ pub extern "C" fn desk_translate(
     }
 }
 
-#[unsafe(no_mangle)]
-pub extern "C" fn desk_run(
+pub fn desk_run(
     catalogue: &[u32],
     tables: &[u32],
     plan: &[u32],
@@ -102,8 +100,7 @@ pub extern "C" fn desk_run(
     report(answer_of(ran), place, nodes, heavy, room, width, rows)
 }
 
-#[unsafe(no_mangle)]
-pub extern "C" fn desk_answer(
+pub fn desk_answer(
     catalogue: &[u32],
     tables: &[u32],
     question: &[u32],
