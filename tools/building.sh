@@ -1,5 +1,5 @@
-# Sourced by ./desk and ./install, with `here` the repository and `fail`: builds what is missing or older than the sources. The logs stay
-# in target/.
+# Sourced by ./desk, ./install and tests/run, with `here` the repository and `fail`: builds what is missing or older than the sources. What is
+# built and the logs stay in target/.
 program=$here/target/bin/desk_main
 library=$here/target/staticlib/libdesk.a
 plan_rows=$here/target/bin/plan_rows
@@ -8,7 +8,7 @@ plan_rows=$here/target/bin/plan_rows
 older() {
   made=$1
   shift
-  [ ! -e "$made" ] || [ -n "$(find "$@" -type f ! -path '*/must-fail/*' -newer "$made" -print -quit)" ]
+  [ ! -e "$made" ] || [ -n "$(find "$@" -type f ! -path '*/must-fail/*' ! -path '*/out/*' -newer "$made" -print -quit)" ]
 }
 
 # the crates that `rt check NAME` looks at, a line for each
@@ -31,23 +31,31 @@ stale() {
   older "$1" "${sources[@]}"
 }
 
-# rt_build WHAT FILE RT-COMMAND CRATE: a line for each crate that is proved, with how many are left. FILE gets the time at which it began, so that
-# a source that changed meanwhile is newer. Of two that start at once the second waits.
+# rt_build WHAT FILE CRATE RT-COMMAND MADE: a line for each crate that is proved, with how many are left. rt leaves what it makes in the crate's
+# out/MADE, and FILE is a copy of it. FILE gets the time at which it began, so that a source that changed meanwhile is newer. Of two that start at
+# once the second waits.
 rt_build() {
   command -v rt >/dev/null || fail "$1 is missing or older than its sources, and rt to build it, the command of the Rattle kit, isn't on the path"
   mkdir -p "$here/target" && exec 9>"$here/target/desk-build.lock" || fail "$here/target can't be written"
   ! command -v flock >/dev/null || flock 9
   log=$here/target/desk-build.log
   begun=$here/target/desk-build.begun
-  left=$(crates_below "$4" | wc -l)
-  if stale "$2" "$4"; then
+  left=$(crates_below "$3" | wc -l)
+  if stale "$2" "$3"; then
     : >"$begun"
-    (cd "$here" && rt "$3" "$4" </dev/null 2>&1 9>&-) | tee "$log" | while read -r name crate verb how; do
-      [ "$name $verb" = 'rt: proved' ] || continue
-      left=$((left - 1))
-      case $how in *unchanged*) ;; *) echo "desk: proved $crate $how, $left left" ;; esac
+    told=' '
+    (cd "$here/crates/$3" && rt "$4" </dev/null 2>&1 9>&-) | tee "$log" | while read -r what name rest; do
+      case $what in
+      crate) crate=${name%:} ;;
+      logic=proved)
+        case $told in *" $crate "*) continue ;; esac
+        told="$told$crate "
+        left=$((left - 1))
+        echo "desk: proved $crate, $left left" ;;
+      esac
     done >&2
     [ "${PIPESTATUS[0]}" -eq 0 ] || { tail -n 5 "$log" >&2; fail "$1 could not be built; $log tells why"; }
+    mkdir -p "$(dirname "$2")" && cp "$here/crates/$3/out/$5" "$2" || fail "$2 can't be written"
     touch -r "$begun" "$2"
   fi
   exec 9>&-
@@ -58,13 +66,18 @@ build_program() {
   if [ -e "$program" ]; then echo 'desk: its sources are newer than it, so it builds itself again (log: target/desk-build.log)'
   else echo 'desk: builds itself, proving each crate below it: some minutes the first time (log: target/desk-build.log)'
   fi >&2
-  rt_build 'the program' "$program" check desk_main
+  rt_build 'the program' "$program" desk_main run desk_main
 }
 
 build_library() {
-  stale "$library" desk || return 0
+  stale "$library" desk_c || return 0
   echo 'desk: builds its library (log: target/desk-build.log)' >&2
-  rt_build 'the library' "$library" staticlib desk
+  rt_build 'the library' "$library" desk_c lib libdesk_c.a
+}
+
+# The program that shows what `read` and `write` do with a text.
+build_text_program() {
+  rt_build 'the program text_main' "$here/target/bin/text_main" text_main run text_main
 }
 
 # The helper of --explain: shows a question's plan and its rows by the library's own functions.

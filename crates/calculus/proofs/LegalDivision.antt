@@ -21,7 +21,6 @@ use Rattle.calculus.specs.Question.{Atom}
 use Rattle.calculus.specs.Scope.{Scope, extend, columns_in, column_of}
 use Rattle.calculus.specs.ShortRules.{last_number, project_nodes, restricted_range, outside_triples, division_pairs, short_rule5_columns, short_rule5_nodes}
 use Rattle.calculus.proofs.DivisionRule.{last_differs}
-use Rattle.calculus.proofs.DivisionValue.{outsides, links}
 use Rattle.calculus.proofs.LegalPairs.{pairs-length, triples_length, triples_inside, link_inside, outside_inside, pair_right-inside, pairs-inside, pairs-distinct}
 use Rattle.calculus.proofs.LegalPlans.{widths_after, Legal, widths-append, widths_grow, width-kept_at, legal_then, RangeFits, DivisionFits, one_then_other}
 use Rattle.calculus.proofs.LegalShort.{projects_fits, restricted_fits}

@@ -21,7 +21,6 @@ use Rattle.calculus.specs.Question.{Atom, Range, table, alpha, range_or, range_a
 use Rattle.calculus.specs.Scope.{entry, Scope, extend, columns_in, target_columns}
 use Rattle.calculus.specs.ShortRules.{short_rule2_fits, short_rule2_nodes, short_rule3_fits, short_rule3_nodes, short_rule4_fits, short_rule4_nodes, short_rule5_fits, short_rule6_fits}
 use Rattle.calculus.specs.Translation.{itself, its_opposite, division_by, translate_range, translate_bindings, translate_maybe, translate_condition, translate}
-use Rattle.calculus.proofs.DivisionValue.{outsides, links}
 use Rattle.calculus.proofs.LeafLaws.{good-leaves, good-opposite, good_opposites}
 use Rattle.calculus.proofs.LegalColumns.{target_inside, targets_columns, few-opposite, few}
 use Rattle.calculus.proofs.LegalDivision.{division_fits}

@@ -1,7 +1,7 @@
 -- And-trees and or-trees of atoms, and the kinds of atoms that the short rules look for. Document 01, "Translation"; RULINGS 12 and 13.
 use Rattle.std.specs.Prelude.{Bool, true, false, not, ◌&&◌, ◌||◌, cond, List, [], ◌∷◌, ◌++◌, ℕ, eqb}
 use Rattle.relations.specs.Comparison.{Operator, equal, not_equal, less, at_most, greater, at_least, opposite}
-use Rattle.relations.specs.Columns.{Attribute, attribute}
+use Rattle.relations.specs.Columns.{Attribute}
 use Rattle.calculus.specs.Question.{Operand, fixed, of_variable, Atom, compare, Condition, atom, condition_and, condition_or, condition_not, for_some, for_every, for_at_least}
 
 -- "A lone atom is a tree."

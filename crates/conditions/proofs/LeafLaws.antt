@@ -29,7 +29,6 @@ use Rattle.nodes.specs.declared.node.Quantifier.TheVariants.{Some, Every, AtLeas
 use Rattle.nodes.specs.declared.node.Binder.TheVariants.{Binding, Quantifies}
 use Rattle.nodes.specs.declared.node.Form.{Form}
 use Rattle.nodes.specs.declared.node.Form.TheVariants.{Table, Alpha, Target, Binds, Combines, Compares, Connects, IllFormed}
-use Rattle.nodes.specs.contracts.node.Form.{the_type}
 use Rattle.nodes.proofs.Forms.{form_fits, operand_fits, first_of, second_of, third_of}
 use Rattle.question.proofs.TreeLaws.{tree_of_reference}
 use Rattle.conditions.specs.Entries.{entries}

@@ -25,7 +25,6 @@ use Rattle.plan_reading.specs.Steps.{triples_legal, pairs_legal}
 use Rattle.plan_reading.specs.declared.nodes.Operation.{Operation}
 use Rattle.plan_reading.specs.declared.nodes.Operation.TheVariants.{Load, Project, SelectConstant, SelectAttribute, Join, Semijoin, Antijoin, Divide, Unite, Intersect, Subtract, Tally}
 use Rattle.plan_reading.specs.declared.nodes.PlanNode.{PlanNode}
-use Rattle.plan_reading.specs.declared.nodes.Decoded.TheVariants.{Node}
 use Rattle.plan_reading.proofs.WordLaws.{get_d_front}
 use Rattle.plan_reading.proofs.ShapeLaws.{count-least, count_most}
 use Rattle.plan_reading.proofs.ListedLaws.{attributes_inside_lem, triples_are, triples_inside, pairs_many, pairs_lefts, pairs-inside}

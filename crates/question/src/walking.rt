@@ -22,7 +22,7 @@ fn walk_bindings(
     lowest: &mut [u32; 2],
 )
     requires { (reference * question_node_words ≤ length words.now) × PlacesSoFar lowest.old }
-    ensures { record { scope = scope.exit.now; lowest = lowest.new } ≡ bindings_walked (columns_of catalogue.now) (tree_of words.now reference) scope.entry.now lowest.old }
+    ensures { record { scope = scope.new; lowest = lowest.new } ≡ bindings_walked (columns_of catalogue.now) (tree_of words.now reference) scope.old lowest.old }
 {
     if reference == 0 {
         return;

@@ -9,7 +9,6 @@ use lib.Dec.{leb}
 use lib.ListN.{length, length-map, length-append}
 use borrow.Author.Tests.{leb-true}
 use Rattle.relations.specs.Limits.{triple_limit, pair_limit}
-use Rattle.relations.specs.Comparison.{turned}
 use Rattle.relations.specs.PlanWords.{triple_words, pair_words}
 use Rattle.calculus.specs.Leaves.{leaves, opposite_atom, alone_on, compares_with_other, own_attribute, equates_with, equates_outside}
 use Rattle.calculus.specs.ShortRules.{last_number, select_nodes, project_nodes, restricted_range, outside_triples, division_pairs, short_rule2_atoms, short_rule5_atoms, short_rule5_columns}

@@ -13,7 +13,7 @@ use Rattle.relations.specs.Lists.{filter}
 use Rattle.relations.specs.Values.{Rows, Tables, Wide}
 use Rattle.relations.specs.Nodes.{Node, weight_of}
 use Rattle.relations.specs.Machine.{run}
-use Rattle.relations.specs.Plan.{values, answer, widths, width_at, value_at, candidates, value_words, width_of_node, value_of_node, heavy_node, room}
+use Rattle.relations.specs.Plan.{values, widths, width_at, value_at, candidates, value_words, width_of_node, value_of_node, heavy_node}
 use Rattle.relations.specs.Plan.{heavy as heavyOf}
 use Rattle.relations.specs.Legality.{between, legal_nodes, legal_plan}
 use Rattle.relations.specs.PlanWords.{read_node}

@@ -1,7 +1,6 @@
 use lib.Dec.{lit<}
 use lib.ListN.{drop}
 use Rattle.bundle_lines.proofs.OneLine.{line-wrong, asked_as, node_within, node_beyond}
-use borrow.Author.Rules.{rules}
 use Rattle.bundle_lines.proofs.line_at.Goals as goal
 
 pub relation_line-requires : goal.relation_line-requires

@@ -9,7 +9,6 @@ use Rattle.lines.specs.Answers.{Placed}
 use Rattle.bundle_lines.proofs.OneLine.{line_read, line-wrong, mode_plain, mode-short, mode_none}
 use Rattle.lines.proofs.ReadingSteps.{begins-room}
 use native.Mathlib.Omega.{arith}
-use borrow.Author.Rules.{rules}
 use Rattle.bundle_lines.proofs.mode_line.Goals as goal
 
 -- `bundle_lines::mode_line` meets its contract. Each test is one of the definition, and a line found has room for its bytes.
@@ -27,5 +26,5 @@ returns-then-begins_with-2 c = let b = sym c.begins_with-2.ensures ∙ c.if-begi
     line_read _ (mode-short c.args.text.now c.args.start.at c.args.start.line (sym c.begins_with.ensures ∙ c.if-begins_with.false) b) (behind c.args.text.now short_line c.args.start.at c.args.start.line refl b c.requires.0 c.requires.1) c.keep-then-begins_with-2.ensures
 
 pub returns : goal.returns
-returns c = 
+returns c =
     line-wrong (mode_none c.args.text.now c.args.start.at c.args.start.line (sym c.begins_with.ensures ∙ c.if-begins_with.false) (sym c.begins_with-2.ensures ∙ c.if-begins_with-2.false))

@@ -2,14 +2,13 @@ use mathlib.Core.Path.{sym, ◌∙◌}
 use Prim.Native.Nat.{◌+◌, ◌*◌}
 use native.Mathlib.Numerals.{add-one}
 use lib.ListN.{drop}
-use borrow.Author.Tests.{not-true, not-false, lt-leb, le-leb}
+use borrow.Author.Tests.{lt-leb, le-leb}
 use Rattle.relations.specs.Limits.{word_limit}
 use Rattle.catalogue.proofs.Judgements.{good_pair}
 use Rattle.bundles.specs.Reading.{relation, no_relation}
 use Rattle.lines.proofs.Answered.{number_found, number-missing, value_as}
 use Rattle.bundle_lines.proofs.OneLine.{line_read, line-wrong, relation_found, no_rows, no_columns, relation_begun, relation_other}
 use native.Mathlib.Omega.{arith}
-use borrow.Author.Rules.{rules}
 use Rattle.bundle_lines.proofs.relation_line.Goals as goal
 
 pub returns-then-not-begins_with : goal.returns-then-not-begins_with
@@ -48,5 +47,5 @@ returns-in-Wrong-number_then c = let f = number_found c.number_then.ensures c.in
     line-wrong (relation_begun c.args.total c.args.text.now c.args.start.at c.args.start.line (sym c.begins_with.ensures ∙ c.if-not-begins_with.false) (no_rows c.args.total (drop (c.args.start.at + 9) c.args.text.now) f.0 (number-missing c.number_then-in-Value.ensures c.in-Wrong-number_then.is)))
 
 pub returns-in-Wrong : goal.returns-in-Wrong
-returns-in-Wrong c = 
+returns-in-Wrong c =
     line-wrong (relation_begun c.args.total c.args.text.now c.args.start.at c.args.start.line (sym c.begins_with.ensures ∙ c.if-not-begins_with.false) (no_columns c.args.total (drop (c.args.start.at + 9) c.args.text.now) (number-missing c.number_then.ensures c.in-Wrong.is)))

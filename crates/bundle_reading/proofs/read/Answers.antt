@@ -2,7 +2,6 @@ use Rattle.bundle_reading.proofs.BundleLaws.{read_small, read_long, read_lines_l
 use Rattle.bundles.specs.Reading.{lines_of}
 use borrow.Author.Tests.{lt-ltb, le-ltb}
 use mathlib.Core.Path.{sym, ◌∙◌}
-use borrow.Author.Rules.{rules}
 use Rattle.bundle_reading.proofs.read.Goals as goal
 
 -- `bundle_reading::read` meets its contract. Each refusal is one test of the definition. The text was judged with no buffer lent, so only a bundle that is right is read into the buffers.

@@ -1,7 +1,6 @@
 use mathlib.Core.Path.{refl}
 use Rattle.lines.proofs.Carries.{placed_at}
 use Rattle.bundle_reading.proofs.BehindLines.{behind-mode, no_mode}
-use borrow.Author.Rules.{rules}
 use Rattle.bundle_reading.proofs.read_all.Goals as goal
 
 pub read_behind_mode-requires : goal.read_behind_mode-requires

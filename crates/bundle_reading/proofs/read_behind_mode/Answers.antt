@@ -5,7 +5,6 @@ use lib.ListN.{drop}
 use mathlib.Core.Path.{ap, ◌∙◌}
 use Rattle.bundle_reading.proofs.BundleLaws.{wrong-tables, wrong-nodes, bundle_found}
 use Rattle.lines.specs.Answers.{PlacedStep, standing}
-use borrow.Author.Rules.{rules}
 use Rattle.bundle_reading.proofs.read_behind_mode.Goals as goal
 
 pub read_nodes-last-requires : goal.read_nodes-last-requires

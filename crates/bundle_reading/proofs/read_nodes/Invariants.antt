@@ -1,18 +1,9 @@
-use Rattle.lines.proofs.Carries.{Carries, carries_start, carries_by, carries_lines, carries_off, carries_done, placed_at}
-use Rattle.bundle_reading.proofs.ReadingSteps.{text-ended, text_goes_on}
-use Rattle.bundle_lines.proofs.OneLine.{node_read}
-use Rattle.bundle_reading.proofs.BehindLines.{node_step, node_cut}
-use Rattle.lines.specs.Answers.{standing}
-use Rattle.bundle_lines.specs.OneLine.{one_line}
-use Rattle.bundle_lines.specs.declared.Line.TheVariants.{Node}
-use Rattle.lines.specs.Reading.{Read}
-use Rattle.bundles.specs.Reading.{unless_ended, nodes_of}
+use Rattle.lines.proofs.Carries.{Carries}
+use Rattle.bundles.specs.Reading.{nodes_of}
 use Rattle.relations.specs.Limits.{question_node_limit, question_node_words}
 use lib.ListN.{length, drop}
-use mathlib.Core.Path.{◌≡◌, refl, ap, ◌∙◌}
-use Prim.Native.Nat.{◌<◌, ◌≤◌, ◌-◌, ◌+◌, ◌*◌}
-use borrow.Author.Rules.{rules}
-use native.Mathlib.Omega.{arith}
+use mathlib.Core.Path.{◌≡◌}
+use Prim.Native.Nat.{◌≤◌, ◌-◌, ◌+◌, ◌*◌}
 use Rattle.bundle_reading.proofs.read_nodes.Given as goal
 
 -- `bundle_reading::read_nodes` meets its contract. The loop carries the reading of the nodes that are left (`Carries`), and leaves at the text's end.

@@ -1,14 +1,13 @@
 use Rattle.lines.proofs.Stores.{times_step}
 use Rattle.lines.proofs.ReadingLaws.{keyed_line-length}
-use Rattle.lines.proofs.Carries.{Carries, carries_start, carries_lines, carries_off, carries_done, placed_at}
+use Rattle.lines.proofs.Carries.{carries_start, carries_lines, carries_off, carries_done, placed_at}
 use Rattle.lines.proofs.ReadingSteps.{lines_step, lines-done}
 use Rattle.lines.specs.Answers.{standing}
 use Rattle.lines.specs.Marks.{row_key}
 use Rattle.lines.specs.Reading.{keyed_lines}
-use lib.ListN.{length, drop}
-use mathlib.Core.Path.{◌≡◌, refl, ap, ◌∙◌}
-use Prim.Native.Nat.{◌≤◌, ◌-◌, ◌+◌, ◌*◌}
-use borrow.Author.Rules.{rules}
+use lib.ListN.{drop}
+use mathlib.Core.Path.{refl, ap, ◌∙◌}
+use Prim.Native.Nat.{◌-◌}
 use native.Mathlib.Omega.{arith}
 use Rattle.bundle_reading.proofs.read_rows.Goals as goal
 
@@ -16,7 +15,7 @@ pub loop-left-init : goal.loop-left-init
 loop-left-init c = (omega arith, refl, c.requires.2.0, c.requires.2.1, refl, carries_start _ _ _)
 
 pub next_line-requires : goal.next_line-requires
-next_line-requires c = let l = c.loop-left in 
+next_line-requires c = let l = c.loop-left in
     (c.requires.0, omega (arith, times_step c.args.columns l.left (omega arith), l.invariant.1, c.requires.1), (l.invariant.2, l.invariant.3))
 
 pub returns-in-Wrong : goal.returns-in-Wrong

@@ -1,15 +1,9 @@
-use Rattle.lines.proofs.Stores.{times_step}
-use Rattle.lines.proofs.ReadingLaws.{keyed_line-length}
-use Rattle.lines.proofs.Carries.{Carries, carries_start, carries_lines, carries_off, carries_done, placed_at}
-use Rattle.lines.proofs.ReadingSteps.{lines_step, lines-done}
-use Rattle.lines.specs.Answers.{standing}
+use Rattle.lines.proofs.Carries.{Carries}
 use Rattle.lines.specs.Marks.{row_key}
 use Rattle.lines.specs.Reading.{keyed_lines}
 use lib.ListN.{length, drop}
-use mathlib.Core.Path.{◌≡◌, refl, ap, ◌∙◌}
-use Prim.Native.Nat.{◌≤◌, ◌-◌, ◌+◌, ◌*◌}
-use borrow.Author.Rules.{rules}
-use native.Mathlib.Omega.{arith}
+use mathlib.Core.Path.{◌≡◌}
+use Prim.Native.Nat.{◌≤◌, ◌+◌, ◌*◌}
 use Rattle.bundle_reading.proofs.read_rows.Given as goal
 
 -- `bundle_reading::read_rows` meets its contract. The loop carries the reading of the rows that are left (`Carries`), `columns` words further for each.

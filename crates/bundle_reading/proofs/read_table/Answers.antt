@@ -13,7 +13,6 @@ use Rattle.bundles.specs.Reading.{relation, table_of, table_behind}
 use Rattle.lines.proofs.Carries.{placed_at}
 use Rattle.bundle_reading.proofs.BehindLines.{TableBegun, table_begun, no_table}
 use native.Mathlib.Omega.{arith}
-use borrow.Author.Rules.{rules}
 use Rattle.bundle_reading.proofs.read_table.Goals as goal
 
 -- `bundle_reading::read_table` meets its contract. The pair that the relation line gave is kept in the catalogue, and the rows are the lines behind it.
@@ -59,6 +58,6 @@ returns-in-Next c = let b = (begun (table_begun c.args.total c.args.start.line (
 
 pub returns-in-Wrong : goal.returns-in-Wrong
 unfolding catalogue_words
-returns-in-Wrong c = 
+returns-in-Wrong c =
     let n = no_table c.args.total c.args.start.line (drop c.args.start.at c.args.text.now) c.next_line.ensures c.requires.3 c.in-Wrong.is in
     rw n.0 (record { means = ap wrong_at (sym n.1); placed = tt; pairs_read = omega arith; words_read = omega arith; within = c.requires.1; catalogue = refl; tables = refl })

@@ -1,16 +1,9 @@
-use Rattle.lines.specs.declared.reading.Step.TheVariants.{Next as Onward}
-use Rattle.bundle_reading.proofs.CarriesTables.{CarriesTables, carries_tables, last_table, next-table, wrong-table}
-use Rattle.bundles.proofs.ReadingLaws.{TableAsText, table_of-text}
-use Rattle.bundle_reading.proofs.ReadingSteps.{tables_step, tables-done}
-use Rattle.lines.specs.Answers.{standing, PlacedStep}
-use Rattle.bundles.specs.Reading.{table_of, tables_of}
-use Rattle.catalogue.specs.Judging.{catalogue_words}
+use Rattle.bundle_reading.proofs.CarriesTables.{CarriesTables}
+use Rattle.bundles.specs.Reading.{tables_of}
 use Rattle.relations.specs.Limits.{catalogue_pair_limit, word_limit}
 use lib.ListN.{length, drop}
-use mathlib.Core.Path.{◌≡◌, refl, sym, ap, ◌∙◌}
+use mathlib.Core.Path.{◌≡◌}
 use Prim.Native.Nat.{◌≤◌, ◌-◌, ◌+◌}
-use borrow.Author.Rules.{rules}
-use native.Mathlib.Omega.{arith}
 use Rattle.bundle_reading.proofs.read_tables.Given as goal
 
 -- `bundle_reading::read_tables` meets its contract. The loop carries the reading of the tables that are left (`CarriesTables`): a table read is one pair and its words.

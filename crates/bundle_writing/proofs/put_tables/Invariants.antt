@@ -1,17 +1,10 @@
-use Prim.Native.Nat.{ℕ, ◌≤◌, ◌-◌, ◌+◌, ◌*◌}
-use mathlib.Core.Path.{◌≡◌, refl, ◌∙◌}
+use Prim.Native.Nat.{◌≤◌, ◌-◌, ◌+◌}
+use mathlib.Core.Path.{◌≡◌}
 use mathlib.Core.Bool.{true}
-use mathlib.Core.List.{List, [], ◌++◌}
-use native.Mathlib.Omega.{arith}
-use lib.ListN.{length, take, drop, drop_of_length-le}
-use Rattle.lines.specs.Marks.{relation_key, row_key}
+use lib.ListN.{length, drop}
 use Rattle.catalogue.specs.Judging.{pairs_ok, catalogue_words}
-use Rattle.lines.specs.Writing.{numbers_text, lines_text}
 use Rattle.bundles.specs.Writing.{tables_text}
-use Rattle.lines.specs.Put.{furthest}
-use Rattle.lines.proofs.Stores.{StillToPut, put_start, put_on, put_fits, put_end}
-use Rattle.catalogue.proofs.PairLaws.{pair_whole}
-use Rattle.bundle_writing.proofs.WritingSteps.{TableTurn, table_turn}
+use Rattle.lines.proofs.Stores.{StillToPut}
 use Rattle.bundle_writing.proofs.put_tables.Given as goal
 
 -- `bundle_writing::put_tables` meets its contract. The loop's invariant: the text of the pairs from `pair` on, with the words from `place` on, is still to put;

@@ -3,7 +3,6 @@ use Rattle.running.specs.RunCall.{run_numbers}
 use Rattle.running.specs.RunBounds.{Bounded}
 use Rattle.running.specs.declared.Ran.{Ran}
 use native.Mathlib.Omega.{arith}
-use borrow.Author.Rules.{rules}
 use Rattle.desk.proofs.answer_of.Goals as goal
 
 -- `desk::answer_of` meets its contract: the numbers of a plan that was run are small, so each cast keeps its number. Assumes nothing.

@@ -1,6 +1,5 @@
 use mathlib.Core.Path.{refl}
 use native.Mathlib.Omega.{arith}
-use borrow.Author.Rules.{rules}
 use Rattle.desk.proofs.AnswerSize.{answer-size}
 use Rattle.desk_main.proofs.print_answer.Goals as goal
 

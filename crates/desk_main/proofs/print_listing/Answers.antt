@@ -1,5 +1,4 @@
 use native.Mathlib.Omega.{arith}
-use borrow.Author.Rules.{rules}
 use lib.ListN.{length-take}
 use Rattle.listing.proofs.Lengths.{listing_ends}
 use Rattle.desk_main.proofs.print_listing.Goals as goal

@@ -1,5 +1,4 @@
 use native.Mathlib.Omega.{arith}
-use borrow.Author.Rules.{rules}
 use lib.ListN.{length-take}
 use Rattle.listing.proofs.Lengths.{refusal_ends}
 use Rattle.desk_main.proofs.print_refusal.Goals as goal

@@ -1,6 +1,5 @@
 use Prim.Native.Nat.{◌≤◌}
 use native.Mathlib.Omega.{arith}
-use borrow.Author.Rules.{rules}
 use Rattle.listing.specs.Listing.{status_key, nodes_key, heavy_key, room_key, width_key, rows_key, head_text}
 use Rattle.lines.proofs.Stores.{put_then}
 use Rattle.listing.proofs.Lengths.{line-length, line-ends}

@@ -1,5 +1,4 @@
 use native.Mathlib.Omega.{arith}
-use borrow.Author.Rules.{rules}
 use Rattle.lines.specs.Writing.{numbers_text}
 use Rattle.lines.proofs.Stores.{put_then}
 use Rattle.listing.proofs.Lengths.{line_parts}

@@ -1,12 +1,11 @@
 use native.Mathlib.Omega.{arith}
-use borrow.Author.Rules.{rules}
 use Rattle.listing.specs.Listing.{listing_text}
 use Rattle.lines.proofs.Stores.{put_then}
 use Rattle.listing.proofs.Lengths.{rows_reach}
 use Rattle.listing.proofs.put_listing.Goals as goal
 
 pub put_lines-requires : goal.put_lines-requires
-put_lines-requires c = 
+put_lines-requires c =
     rw (c.wide.ensures, c.wide-2.ensures)
     (omega (arith, c.requires.there), rows_reach c.args.nodes c.args.heavy c.args.room c.args.width c.args.rows c.args.words.now c.requires c.put_head-words_at.ensures)
 

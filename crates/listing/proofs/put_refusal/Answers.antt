@@ -1,5 +1,4 @@
 use native.Mathlib.Omega.{arith}
-use borrow.Author.Rules.{rules}
 use Rattle.listing.specs.Listing.{status_key, place_key, refusal_text}
 use Rattle.lines.proofs.Stores.{put_then}
 use Rattle.listing.proofs.Lengths.{line-length, line-ends}

@@ -1,13 +1,9 @@
 use mathlib.Core.Path.{◌≡◌}
-use mathlib.Core.List.{List}
-use Prim.Native.Nat.{ℕ}
 use lib.ListN.{length}
-use Rattle.relations.specs.Nodes.{Node}
 use Rattle.plan_reading.specs.Judging.{nodes_of_plan}
 use Rattle.running.proofs.RunLaws.{nodes-few, nodes_many}
 use Rattle.running.proofs.OutcomeLaws.{ran_no_room, ran_inside, ran_long, ran_done}
 use native.Mathlib.Omega.{arith}
-use borrow.Author.Rules.{rules}
 use Rattle.running.proofs.hand_out.Goals as goal
 
 pub overflow_mul-words : goal.overflow_mul-words

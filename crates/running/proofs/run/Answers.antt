@@ -6,9 +6,7 @@ use Rattle.plan_reading.specs.Judging.{nodes_of_plan}
 use Rattle.running.specs.RunCall.{fit_within}
 use lib.Seq.{length-take-le}
 use mathlib.Core.Path.{sym, ◌∙◌}
-use borrow.Author.Tests.{not-true, not-false}
 use native.Mathlib.Omega.{arith}
-use borrow.Author.Rules.{rules}
 use Rattle.plan_reading.proofs.JudgeLaws.{plan_judged}
 use Rattle.running.proofs.run.Goals as goal
 

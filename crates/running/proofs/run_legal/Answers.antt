@@ -6,8 +6,6 @@ use Rattle.plan_reading.specs.Judging.{nodes_of_plan}
 use mathlib.Core.Path.{◌≡◌, ap, ◌∙◌}
 use native.Mathlib.Nat.{sub-zero}
 use Rattle.running.proofs.OutcomeLaws.{cleared-blank, ran_with}
-use native.Mathlib.Omega.{arith}
-use borrow.Author.Rules.{rules}
 use Rattle.running.proofs.run_legal.Goals as goal
 
 pub hand_out-ran-requires : goal.hand_out-ran-requires

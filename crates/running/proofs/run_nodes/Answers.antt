@@ -1,6 +1,5 @@
-use Rattle.node_values.specs.declared.node.Made.TheVariants.{Value}
 use mathlib.Core.Path.{◌≡◌, refl, sym}
-use Prim.Native.Nat.{ℕ, ◌+◌, ◌*◌, ◌<◌}
+use Prim.Native.Nat.{◌+◌, ◌*◌, ◌<◌}
 use lib.ListN.{take, drop, replicate, length-drop}
 use lib.Seq.{length-take-le}
 use Rattle.relations.specs.Limits.{plan_node_limit, plan_node_words}
@@ -9,9 +8,7 @@ use Rattle.node_values.specs.Standing.{values_in, standing}
 use Rattle.node_values.specs.NodeRun.{NodeRun}
 use Rattle.running.proofs.RunLaws.{nodes-few, plan_long, running_start, running-legal, running_off, running-fits, running_on, running-heavy, running_end}
 use lib.ListN.{length}
-use Rattle.running.proofs.RunLaws.{Running}
 use Prim.Native.Nat.{◌≤◌, ◌-◌}
-use borrow.Author.Rules.{rules}
 use native.Mathlib.Omega.{arith}
 use Rattle.running.proofs.run_nodes.Goals as goal
 
@@ -73,21 +70,21 @@ pub bounds-bases-place : goal.bounds-bases-place
 bounds-bases-place c = omega (arith, ((let the-fact : (1 ≤ c.args.nodes) × (c.args.nodes ≤ plan_node_limit) = nodes-few c.args.catalogue.now c.args.tables.now c.args.plan.now c.args.nodes c.requires.0 c.requires.1 in the-fact)).1, c.loop-place.invariant.bases_long)
 
 pub overflow_mul-out : goal.overflow_mul-out
-overflow_mul-out c = omega (arith, (running-fits c.args.catalogue.now c.args.tables.now c.args.plan.now c.args.nodes c.requires.0 c.requires.1 c.loop-place.invariant ((let the-fact : c.loop-place.place < c.args.nodes = omega arith in the-fact)) ((let the-fact : NodeRun c.args.catalogue.now c.args.tables.now (read_node (take plan_node_words (drop c.loop-place.at c.args.plan.now))) (take c.loop-place.place c.loop-place.widths)     (standing (values_in (take c.loop-place.place c.loop-place.widths) (take c.loop-place.place c.loop-place.rows) (take c.loop-place.place c.loop-place.bases)) c.loop-place.work)     c.loop-place.out c.loop-place.work c.run_node.new.work c.run_node.result = let size : c.loop-place.at + plan_node_words - c.loop-place.at ≡ plan_node_words = omega arith in rw size at c.run_node.ensures in the-fact)) c.in-Value.is), c.loop-place.invariant.size)
+overflow_mul-out c = omega (arith, (running-fits c.args.catalogue.now c.args.tables.now c.args.plan.now c.args.nodes c.requires.0 c.requires.1 c.loop-place.invariant ((let the-fact : c.loop-place.place < c.args.nodes = omega arith in the-fact)) ((let the-fact : NodeRun c.args.catalogue.now c.args.tables.now (read_node (take plan_node_words (drop c.loop-place.at c.args.plan.now))) (take c.loop-place.place c.loop-place.widths) (standing (values_in (take c.loop-place.place c.loop-place.widths) (take c.loop-place.place c.loop-place.rows) (take c.loop-place.place c.loop-place.bases)) c.loop-place.work) c.loop-place.out c.loop-place.work c.run_node.new.work c.run_node.result = let size : c.loop-place.at + plan_node_words - c.loop-place.at ≡ plan_node_words = omega arith in rw size at c.run_node.ensures in the-fact)) c.in-Value.is), c.loop-place.invariant.size)
 
 pub overflow_add-out : goal.overflow_add-out
-overflow_add-out c = omega (arith, (running-fits c.args.catalogue.now c.args.tables.now c.args.plan.now c.args.nodes c.requires.0 c.requires.1 c.loop-place.invariant ((let the-fact : c.loop-place.place < c.args.nodes = omega arith in the-fact)) ((let the-fact : NodeRun c.args.catalogue.now c.args.tables.now (read_node (take plan_node_words (drop c.loop-place.at c.args.plan.now))) (take c.loop-place.place c.loop-place.widths)     (standing (values_in (take c.loop-place.place c.loop-place.widths) (take c.loop-place.place c.loop-place.rows) (take c.loop-place.place c.loop-place.bases)) c.loop-place.work)     c.loop-place.out c.loop-place.work c.run_node.new.work c.run_node.result = let size : c.loop-place.at + plan_node_words - c.loop-place.at ≡ plan_node_words = omega arith in rw size at c.run_node.ensures in the-fact)) c.in-Value.is), c.loop-place.invariant.size)
+overflow_add-out c = omega (arith, (running-fits c.args.catalogue.now c.args.tables.now c.args.plan.now c.args.nodes c.requires.0 c.requires.1 c.loop-place.invariant ((let the-fact : c.loop-place.place < c.args.nodes = omega arith in the-fact)) ((let the-fact : NodeRun c.args.catalogue.now c.args.tables.now (read_node (take plan_node_words (drop c.loop-place.at c.args.plan.now))) (take c.loop-place.place c.loop-place.widths) (standing (values_in (take c.loop-place.place c.loop-place.widths) (take c.loop-place.place c.loop-place.rows) (take c.loop-place.place c.loop-place.bases)) c.loop-place.work) c.loop-place.out c.loop-place.work c.run_node.new.work c.run_node.result = let size : c.loop-place.at + plan_node_words - c.loop-place.at ≡ plan_node_words = omega arith in rw size at c.run_node.ensures in the-fact)) c.in-Value.is), c.loop-place.invariant.size)
 
 pub overflow_add-heavy : goal.overflow_add-heavy
-overflow_add-heavy c = omega (arith, (running-heavy c.args.catalogue.now c.args.tables.now c.args.plan.now c.args.nodes c.requires.0 c.requires.1 c.loop-place.invariant ((let the-fact : c.loop-place.place < c.args.nodes = omega arith in the-fact)) ((let the-fact : NodeRun c.args.catalogue.now c.args.tables.now (read_node (take plan_node_words (drop c.loop-place.at c.args.plan.now))) (take c.loop-place.place c.loop-place.widths)     (standing (values_in (take c.loop-place.place c.loop-place.widths) (take c.loop-place.place c.loop-place.rows) (take c.loop-place.place c.loop-place.bases)) c.loop-place.work)     c.loop-place.out c.loop-place.work c.run_node.new.work c.run_node.result = let size : c.loop-place.at + plan_node_words - c.loop-place.at ≡ plan_node_words = omega arith in rw size at c.run_node.ensures in the-fact)) c.in-Value.is))
+overflow_add-heavy c = omega (arith, (running-heavy c.args.catalogue.now c.args.tables.now c.args.plan.now c.args.nodes c.requires.0 c.requires.1 c.loop-place.invariant ((let the-fact : c.loop-place.place < c.args.nodes = omega arith in the-fact)) ((let the-fact : NodeRun c.args.catalogue.now c.args.tables.now (read_node (take plan_node_words (drop c.loop-place.at c.args.plan.now))) (take c.loop-place.place c.loop-place.widths) (standing (values_in (take c.loop-place.place c.loop-place.widths) (take c.loop-place.place c.loop-place.rows) (take c.loop-place.place c.loop-place.bases)) c.loop-place.work) c.loop-place.out c.loop-place.work c.run_node.new.work c.run_node.result = let size : c.loop-place.at + plan_node_words - c.loop-place.at ≡ plan_node_words = omega arith in rw size at c.run_node.ensures in the-fact)) c.in-Value.is))
 
 pub returns-in-NoRoom : goal.returns-in-NoRoom
-returns-in-NoRoom c = 
-    running_off c.args.catalogue.now c.args.tables.now c.args.plan.now c.args.nodes c.requires.0 c.requires.1 c.loop-place.invariant ((let the-fact : c.loop-place.place < c.args.nodes = omega arith in the-fact)) ((let the-fact : NodeRun c.args.catalogue.now c.args.tables.now (read_node (take plan_node_words (drop c.loop-place.at c.args.plan.now))) (take c.loop-place.place c.loop-place.widths)     (standing (values_in (take c.loop-place.place c.loop-place.widths) (take c.loop-place.place c.loop-place.rows) (take c.loop-place.place c.loop-place.bases)) c.loop-place.work)     c.loop-place.out c.loop-place.work c.run_node.new.work c.run_node.result = let size : c.loop-place.at + plan_node_words - c.loop-place.at ≡ plan_node_words = omega arith in rw size at c.run_node.ensures in the-fact)) c.in-NoRoom.is
+returns-in-NoRoom c =
+    running_off c.args.catalogue.now c.args.tables.now c.args.plan.now c.args.nodes c.requires.0 c.requires.1 c.loop-place.invariant ((let the-fact : c.loop-place.place < c.args.nodes = omega arith in the-fact)) ((let the-fact : NodeRun c.args.catalogue.now c.args.tables.now (read_node (take plan_node_words (drop c.loop-place.at c.args.plan.now))) (take c.loop-place.place c.loop-place.widths) (standing (values_in (take c.loop-place.place c.loop-place.widths) (take c.loop-place.place c.loop-place.rows) (take c.loop-place.place c.loop-place.bases)) c.loop-place.work) c.loop-place.out c.loop-place.work c.run_node.new.work c.run_node.result = let size : c.loop-place.at + plan_node_words - c.loop-place.at ≡ plan_node_words = omega arith in rw size at c.run_node.ensures in the-fact)) c.in-NoRoom.is
 
 pub loop-place-preserved : goal.loop-place-preserved
-loop-place-preserved c = 
-    running_on c.args.catalogue.now c.args.tables.now c.args.plan.now c.args.nodes c.requires.0 c.requires.1 c.loop-place.invariant ((let the-fact : c.loop-place.place < c.args.nodes = omega arith in the-fact)) ((let the-fact : NodeRun c.args.catalogue.now c.args.tables.now (read_node (take plan_node_words (drop c.loop-place.at c.args.plan.now))) (take c.loop-place.place c.loop-place.widths)     (standing (values_in (take c.loop-place.place c.loop-place.widths) (take c.loop-place.place c.loop-place.rows) (take c.loop-place.place c.loop-place.bases)) c.loop-place.work)     c.loop-place.out c.loop-place.work c.run_node.new.work c.run_node.result = let size : c.loop-place.at + plan_node_words - c.loop-place.at ≡ plan_node_words = omega arith in rw size at c.run_node.ensures in the-fact)) c.in-Value.is
+loop-place-preserved c =
+    running_on c.args.catalogue.now c.args.tables.now c.args.plan.now c.args.nodes c.requires.0 c.requires.1 c.loop-place.invariant ((let the-fact : c.loop-place.place < c.args.nodes = omega arith in the-fact)) ((let the-fact : NodeRun c.args.catalogue.now c.args.tables.now (read_node (take plan_node_words (drop c.loop-place.at c.args.plan.now))) (take c.loop-place.place c.loop-place.widths) (standing (values_in (take c.loop-place.place c.loop-place.widths) (take c.loop-place.place c.loop-place.rows) (take c.loop-place.place c.loop-place.bases)) c.loop-place.work) c.loop-place.out c.loop-place.work c.run_node.new.work c.run_node.result = let size : c.loop-place.at + plan_node_words - c.loop-place.at ≡ plan_node_words = omega arith in rw size at c.run_node.ensures in the-fact)) c.in-Value.is
 
 pub overflow_sub-last : goal.overflow_sub-last
 overflow_sub-last c = omega (arith, ((let the-fact : (1 ≤ c.args.nodes) × (c.args.nodes ≤ plan_node_limit) = nodes-few c.args.catalogue.now c.args.tables.now c.args.plan.now c.args.nodes c.requires.0 c.requires.1 in the-fact)).0)
@@ -111,5 +108,5 @@ pub bounds-widths-last : goal.bounds-widths-last
 bounds-widths-last c = omega (arith, ((let the-fact : (1 ≤ c.args.nodes) × (c.args.nodes ≤ plan_node_limit) = nodes-few c.args.catalogue.now c.args.tables.now c.args.plan.now c.args.nodes c.requires.0 c.requires.1 in the-fact)).0, ((let the-fact : (1 ≤ c.args.nodes) × (c.args.nodes ≤ plan_node_limit) = nodes-few c.args.catalogue.now c.args.tables.now c.args.plan.now c.args.nodes c.requires.0 c.requires.1 in the-fact)).1, c.loop-place.invariant.widths_long)
 
 pub returns : goal.returns
-returns c = 
+returns c =
     running_end c.args.catalogue.now c.args.tables.now c.args.plan.now c.args.nodes c.requires.0 c.requires.1 c.loop-place.invariant (omega arith)

@@ -1,13 +1,10 @@
 use mathlib.Core.Path.{◌≡◌, refl, sym, ap, ◌∙◌}
-use mathlib.Core.Logic.{⊎_elim}
 use Prim.Native.Nat.{◌+◌, ◌*◌, ◌≤◌}
 use lib.ListN.{length}
-use Rattle.relations.specs.Values.{Ascending}
-use Rattle.values.specs.Words.{row_in, rows_at, rows_of}
+use Rattle.values.specs.Words.{row_in, rows_of}
 use Rattle.values.proofs.RowsLaws.{length_row, times_step}
 use Rattle.values.proofs.BoundLaws.{ascending-next}
-use Rattle.tallying.proofs.CountSteps.{Counting, counting_none, counting_equal, counting_greater, counting_less, counting_ended, counts_made, both_less}
-use borrow.Author.Rules.{rules}
+use Rattle.tallying.proofs.CountSteps.{counting_none, counting_equal, counting_greater, counting_less, counting_ended, counts_made, both_less}
 use native.Mathlib.Omega.{arith}
 use Rattle.tallying.proofs.count_begun.Goals as goal
 use Rattle.tallying.proofs.count_begun.Goals.{in-Equal, in-Greater}
@@ -43,8 +40,8 @@ loop-rows-preserved c = let s = c.args in let p = c.requires in let l = c.loop-r
       omega (arith, l.invariant.0, times_step l.rows s.right.width t.0),
       ascending-next s.right.width l.rows l.from s.work.now inside t.0 l.invariant.1,
       elim c.match-compare_rows.branch [
-        in-Equal w ↦ counting_equal s.right.width l.rows l.from s.work.now l.invariant.2 t.0 inside (omega arith) seen c.compare_rows.ensures w.in-Equal.is w.count-is
-      | in-Greater w ↦ counting_greater s.right.width l.rows l.from s.work.now l.invariant.2 t.0 inside (omega arith) seen c.compare_rows.ensures w.in-Greater.is w.count-is
+        | in-Equal w ↦ counting_equal s.right.width l.rows l.from s.work.now l.invariant.2 t.0 inside (omega arith) seen c.compare_rows.ensures w.in-Equal.is w.count-is
+        | in-Greater w ↦ counting_greater s.right.width l.rows l.from s.work.now l.invariant.2 t.0 inside (omega arith) seen c.compare_rows.ensures w.in-Greater.is w.count-is
       ],
     )
 

@@ -1,14 +1,11 @@
-use Prim.Native.Nat.{◌+◌, ◌*◌, ◌≤◌}
-use Rattle.relations.specs.Values.{Ascending}
 use Rattle.relations.specs.Operations.{tally_candidates}
 use Rattle.values.specs.Words.{rows_at, rows_of}
 use Rattle.values.specs.declared.rows.Value.{Value}
 use Rattle.values.proofs.RowsLaws.{times_step}
 use Rattle.values.proofs.BoundLaws.{ascending-next}
-use Rattle.values.proofs.FillLaws.{Filled, filled_none, filled_end, filled_rows}
+use Rattle.values.proofs.FillLaws.{filled_none, filled_end, filled_rows}
 use Rattle.operations.proofs.RowSteps.{no_rows}
 use Rattle.tallying.proofs.TallySteps.{rest_ascends, turn_on, turn_off}
-use borrow.Author.Rules.{rules}
 use native.Mathlib.Omega.{arith}
 use Rattle.tallying.proofs.tally.Goals as goal
 
@@ -37,7 +34,7 @@ loop-more-preserved c = let s = c.args in let l = c.loop-more in let f = l.invar
   ascending-next s.left.width l.more l.at s.work.now (omega (arith, f.fits, f.size)) (omega arith) l.invariant.2,
   rest_ascends s.least l.more l.at right f (omega arith) l.invariant.0 l.invariant.1 l.invariant.2 g,
   turn_on s.least l.more l.at right f (omega arith) l.invariant.0 l.invariant.1 l.invariant.2 g c.keep_if.ensures c.in-Rows.placed c.in-Rows.is,
-    )
+)
 
 pub returns : goal.returns
 returns c = let s = c.args in let l = c.loop-more in

@@ -1,15 +1,8 @@
 use Prim.Native.Nat.{◌+◌, ◌*◌, ◌≤◌}
 use Rattle.relations.specs.Values.{Ascending}
 use Rattle.relations.specs.Operations.{tally_candidates}
-use Rattle.values.specs.Words.{rows_at, rows_of}
-use Rattle.values.specs.declared.rows.Value.{Value}
-use Rattle.values.proofs.RowsLaws.{times_step}
-use Rattle.values.proofs.BoundLaws.{ascending-next}
-use Rattle.values.proofs.FillLaws.{Filled, filled_none, filled_end, filled_rows}
-use Rattle.operations.proofs.RowSteps.{no_rows}
-use Rattle.tallying.proofs.TallySteps.{rest_ascends, turn_on, turn_off}
-use borrow.Author.Rules.{rules}
-use native.Mathlib.Omega.{arith}
+use Rattle.values.specs.Words.{rows_at}
+use Rattle.values.proofs.FillLaws.{Filled}
 use Rattle.tallying.proofs.tally.Given as goal
 
 abbrev pub invariant-loop-more : goal.invariant-loop-more

@@ -1,5 +1,4 @@
 use borrow.Author.Tests.{eq-eqb, ne_eqb}
-use borrow.Author.Rules.{rules}
 use Rattle.wanted_rows.proofs.is_past.Goals as goal
 
 pub returns-then-wait-eq0 : goal.returns-then-wait-eq0

@@ -1,5 +1,4 @@
 use mathlib.Core.Path.{◌∙◌}
-use borrow.Author.Rules.{rules}
 use Rattle.wanted_rows.proofs.is_wanted.Goals as goal
 
 pub returns-then-wanted : goal.returns-then-wanted

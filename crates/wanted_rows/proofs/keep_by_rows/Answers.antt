@@ -1,10 +1,9 @@
-use Prim.Native.Nat.{◌+◌, ◌*◌, ◌≤◌, ◌-◌}
+use Prim.Native.Nat.{◌+◌, ◌≤◌, ◌-◌}
 use native.Mathlib.Omega.{arith}
-use borrow.Author.Rules.{rules}
 use Rattle.relations.specs.Lists.{filter}
 use Rattle.values.specs.Words.{rows_at, rows_of}
 use Rattle.values.proofs.RowsLaws.{times_step}
-use Rattle.values.proofs.FillLaws.{Filled, filled_none, filled_on, filled_off, filled_end, filled_rows}
+use Rattle.values.proofs.FillLaws.{filled_none, filled_on, filled_off, filled_end, filled_rows}
 use Rattle.operations.specs.Lists.{triples_in}
 use Rattle.operations.proofs.FillSteps.{builds_by}
 use Rattle.operations.proofs.RowSteps.{filter_step, no_rows}

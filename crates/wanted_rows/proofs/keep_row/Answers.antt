@@ -1,6 +1,5 @@
 use mathlib.Core.Path.{sym}
 use native.Mathlib.Omega.{arith}
-use borrow.Author.Rules.{rules}
 use Rattle.wanted_rows.proofs.keep_row.Goals as goal
 
 pub is_wanted-kept-requires : goal.is_wanted-kept-requires

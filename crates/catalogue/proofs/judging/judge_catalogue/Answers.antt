@@ -1,4 +1,4 @@
-use Prim.Native.Nat.{◌≤◌, ◌-◌, ◌+◌, ◌*◌}
+use Prim.Native.Nat.{◌+◌, ◌*◌}
 use mathlib.Core.Path.{◌≡◌, refl, sym, ◌∙◌}
 use mathlib.Core.Bool.{true, false}
 use mathlib.Core.List.{◌∷◌}

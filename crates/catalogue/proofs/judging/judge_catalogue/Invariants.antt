@@ -1,14 +1,7 @@
 use Prim.Native.Nat.{◌≤◌, ◌-◌, ◌+◌, ◌*◌}
-use mathlib.Core.Path.{◌≡◌, refl, sym, ◌∙◌}
-use mathlib.Core.Bool.{true, false}
-use mathlib.Core.List.{◌∷◌}
-use native.Mathlib.Omega.{arith}
-use borrow.Author.Tests.{le-leb, lt-leb}
+use mathlib.Core.Path.{◌≡◌}
 use lib.ListN.{length, drop}
-use Rattle.relations.specs.Limits.{catalogue_pair_limit, word_limit}
-use Rattle.catalogue.specs.Judging.{pair_ok, pairs_ok, catalogue_words}
-use Rattle.catalogue.proofs.Judgements.{good_pair}
-use Rattle.catalogue.proofs.PairLaws.{drop_pair, pairs-good, pairs_bad, pairs_odd, pairs_end, words_pair, words_end}
+use Rattle.catalogue.specs.Judging.{pairs_ok, catalogue_words}
 use Rattle.catalogue.proofs.judging.judge_catalogue.Given as goal
 
 -- `catalogue::judging::judge_catalogue` meets its contract. The loop's invariant: the catalogue's pairs are ok if those from `at` on are,

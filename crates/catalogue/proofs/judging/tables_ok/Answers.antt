@@ -1,5 +1,4 @@
 use mathlib.Core.Path.{sym, ap, ◌∙◌}
-use borrow.Author.Rules.{rules}
 use Rattle.catalogue.specs.Judging.{catalogue_numbers}
 use Rattle.catalogue.proofs.PairLaws.{tables_judged, tables-wrong}
 use Rattle.catalogue.proofs.judging.tables_ok.Goals as goal

@@ -1,5 +1,4 @@
 use borrow.Author.Tests.{lt-ltb, le-ltb}
-use borrow.Author.Rules.{rules}
 use Rattle.catalogue.proofs.stored.columns_of.Goals as goal
 
 pub returns-then-relation-catalogue : goal.returns-then-relation-catalogue

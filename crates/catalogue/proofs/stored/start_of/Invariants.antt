@@ -1,8 +1,6 @@
-use Prim.Native.Nat.{◌≤◌, ◌-◌, ◌*◌}
-use mathlib.Core.Path.{◌≡◌, ap, ap₂, ◌∙◌}
-use native.Mathlib.Omega.{arith}
-use Rattle.catalogue.specs.Stored.{columns_of, row_count_of, start_of}
-use Rattle.catalogue.proofs.StoredLaws.{start_none, start_next, start_room}
+use Prim.Native.Nat.{◌≤◌, ◌-◌}
+use mathlib.Core.Path.{◌≡◌}
+use Rattle.catalogue.specs.Stored.{start_of}
 use Rattle.catalogue.proofs.stored.start_of.Given as goal
 
 -- `catalogue::stored::start_of` meets its contract. The loop's invariant: `start` is where the words of the relation `passed` start.

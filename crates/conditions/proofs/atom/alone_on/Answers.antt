@@ -1,4 +1,3 @@
-use borrow.Author.Rules.{rules}
 use Rattle.conditions.proofs.atom.alone_on.Goals as goal
 
 pub returns-in-Of : goal.returns-in-Of

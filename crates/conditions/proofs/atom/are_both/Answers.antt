@@ -1,4 +1,3 @@
-use borrow.Author.Rules.{rules}
 use Rattle.conditions.proofs.atom.are_both.Goals as goal
 
 pub returns-in-Of : goal.returns-in-Of

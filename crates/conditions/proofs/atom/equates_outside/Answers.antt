@@ -1,7 +1,6 @@
 use mathlib.Core.Path.{ap, ap₂}
 use mathlib.Core.Bool.{not, ◌&&◌}
 use Rattle.conditions.proofs.AtomLaws.{equal-number}
-use borrow.Author.Rules.{rules}
 use Rattle.conditions.proofs.atom.equates_outside.Goals as goal
 
 pub returns : goal.returns

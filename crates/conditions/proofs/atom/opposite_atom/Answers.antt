@@ -4,11 +4,10 @@ use Rattle.relations.specs.Comparison.{Operator, operator_number, opposite, oper
 use Rattle.calculus.specs.Question.{compare}
 use Rattle.question.specs.Trees.{operand_of}
 use Rattle.terms.proofs.NumberLaws.{made_of}
-use borrow.Author.Rules.{rules}
 use Rattle.conditions.proofs.atom.opposite_atom.Goals as goal
 
 pub returns : goal.returns
-returns c = 
+returns c =
     let a = c.args.atom in
     let o : Operator = opposite (operator_named a.operator) in
     let n : c.number_of.result ≡ operator_number o = c.number_of.ensures ∙ ap operator_number (c.opposite.ensures ∙ ap opposite c.operator_of.ensures) in

@@ -1,5 +1,4 @@
 use mathlib.Core.Path.{ap, ◌∙◌}
-use borrow.Author.Rules.{rules}
 use Rattle.relations.specs.Comparison.{operator_number, turned}
 use Rattle.conditions.proofs.atom.turned.Goals as goal
 

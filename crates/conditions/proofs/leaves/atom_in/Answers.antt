@@ -1,5 +1,4 @@
 use Rattle.conditions.proofs.LeafLaws.{no_atom}
-use borrow.Author.Rules.{rules}
 use Rattle.conditions.proofs.leaves.atom_in.Goals as goal
 
 pub returns-in_default : goal.returns-in_default

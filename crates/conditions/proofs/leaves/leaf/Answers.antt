@@ -4,7 +4,6 @@ use Rattle.conditions.proofs.LeafLaws.{found_narrow, found_is}
 use Rattle.calculus.specs.Leaves.{opposite_atom}
 use mathlib.Core.Path.{ap, ◌∙◌}
 use native.Mathlib.Omega.{arith}
-use borrow.Author.Rules.{rules}
 use Rattle.conditions.proofs.leaves.leaf.Goals as goal
 
 pub overflow_cast-number : goal.overflow_cast-number

@@ -1,6 +1,5 @@
 use Rattle.conditions.specs.Leaves.{with_leaves}
 use mathlib.Core.Path.{refl}
-use borrow.Author.Rules.{rules}
 use Rattle.conditions.proofs.leaves.with_leaf.Goals as goal
 
 pub returns : goal.returns

@@ -1,8 +1,5 @@
 use Rattle.conditions.proofs.ScopeLaws.{column_here, column-later, columns_here}
 use mathlib.Core.Path.{◌≡◌}
-use Rattle.conditions.specs.Scopes.{variables_carried, columns_carried, entry_at, scope_of}
-use Rattle.conditions.specs.Entries.{entries}
-use Rattle.calculus.specs.Scope.{columns_in, column_number}
 use Prim.Native.Nat.{◌+◌, ◌*◌}
 use native.Mathlib.Omega.{arith}
 use Rattle.conditions.proofs.scope.column_number.Goals as goal
@@ -23,7 +20,7 @@ pub overflow_add-passed-in-loop-left : goal.overflow_add-passed-in-loop-left
 overflow_add-passed-in-loop-left c = omega (arith, columns_here c.args.scope.now c.args.variable c.loop-left.i c.loop-left.left (omega arith))
 
 pub loop-left-preserved : goal.loop-left-preserved
-loop-left-preserved c = 
+loop-left-preserved c =
     let l = c.loop-left in
     (omega arith, omega (arith, columns_here c.args.scope.now c.args.variable l.i l.left (omega arith)), omega (arith, l.invariant.2, column-later c.args.scope.now c.args.variable l.i l.left (omega arith) c.args.n c.if-scope-at.false))
 

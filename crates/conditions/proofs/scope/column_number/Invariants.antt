@@ -1,10 +1,8 @@
-use Rattle.conditions.proofs.ScopeLaws.{column_here, column-later, columns_here}
 use mathlib.Core.Path.{◌≡◌}
 use Rattle.conditions.specs.Scopes.{variables_carried, columns_carried, entry_at, scope_of}
 use Rattle.conditions.specs.Entries.{entries}
 use Rattle.calculus.specs.Scope.{columns_in, column_number}
-use Prim.Native.Nat.{◌+◌, ◌*◌}
-use native.Mathlib.Omega.{arith}
+use Prim.Native.Nat.{◌+◌}
 use Rattle.conditions.proofs.scope.column_number.Given as goal
 
 abbrev pub invariant-loop-left : goal.invariant-loop-left

@@ -1,9 +1,8 @@
 use Rattle.conditions.proofs.ScopeLaws.{extended}
 use Rattle.conditions.specs.Scopes.{with_variable}
-use borrow.Author.Rules.{rules}
 use Rattle.conditions.proofs.scope.extend.Goals as goal
 
 pub returns : goal.returns
 unfolding with_variable
-returns c = 
+returns c =
     extended c.args.scope.now c.args.variable c.args.width c.requires.0 c.requires.1 c.requires.2 c.requires.3

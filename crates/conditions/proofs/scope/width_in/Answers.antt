@@ -1,8 +1,5 @@
 use Rattle.conditions.proofs.ScopeLaws.{width_here, width-later}
 use mathlib.Core.Path.{◌∙◌, sym, ◌≡◌, refl}
-use Rattle.conditions.specs.Scopes.{variables_carried, entry_at, scope_of}
-use Rattle.conditions.specs.Entries.{entries}
-use Rattle.calculus.specs.Scope.{width_in}
 use Prim.Native.Nat.{◌+◌, ◌*◌}
 use native.Mathlib.Omega.{arith}
 use Rattle.conditions.proofs.scope.width_in.Goals as goal

@@ -1,10 +1,8 @@
-use Rattle.conditions.proofs.ScopeLaws.{width_here, width-later}
-use mathlib.Core.Path.{◌∙◌, sym, ◌≡◌, refl}
+use mathlib.Core.Path.{◌≡◌}
 use Rattle.conditions.specs.Scopes.{variables_carried, entry_at, scope_of}
 use Rattle.conditions.specs.Entries.{entries}
 use Rattle.calculus.specs.Scope.{width_in}
-use Prim.Native.Nat.{◌+◌, ◌*◌}
-use native.Mathlib.Omega.{arith}
+use Prim.Native.Nat.{◌+◌}
 use Rattle.conditions.proofs.scope.width_in.Given as goal
 
 abbrev pub invariant-loop-left : goal.invariant-loop-left

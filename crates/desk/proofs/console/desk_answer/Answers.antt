@@ -1,5 +1,4 @@
 use Rattle.desk.proofs.CallLaws.{answered_as}
-use borrow.Author.Rules.{rules}
 use Rattle.desk.proofs.console.desk_answer.Goals as goal
 
 pub returns : goal.returns

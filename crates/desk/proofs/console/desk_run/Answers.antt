@@ -1,6 +1,5 @@
 use mathlib.Core.Path.{◌∙◌}
 use Rattle.desk.proofs.CallLaws.{ran_bounded, run_as}
-use borrow.Author.Rules.{rules}
 use Rattle.desk.proofs.console.desk_run.Goals as goal
 
 pub answer_of-requires : goal.answer_of-requires

@@ -1,6 +1,5 @@
 use Rattle.translation.specs.declared.call.Translated.TheVariants.{Done, WrongCatalogue, ShortPlan, Refused}
 use Rattle.desk.proofs.CallLaws.{translated_as}
-use borrow.Author.Rules.{rules}
 use Rattle.desk.proofs.console.desk_translate.Goals as goal
 
 pub returns-in-Done : goal.returns-in-Done

@@ -1,6 +1,5 @@
 use mathlib.Core.Path.{sym, ap}
 use Rattle.desk.specs.AnswerCall.{answer_numbers}
-use borrow.Author.Rules.{rules}
 use Rattle.desk.proofs.console.report.Goals as goal
 
 pub returns-in-Done : goal.returns-in-Done

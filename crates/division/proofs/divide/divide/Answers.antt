@@ -11,7 +11,6 @@ use mathlib.Core.List.{List}
 use mathlib.Core.Path.{◌≡◌, sym, ap, ◌∙◌}
 use native.Mathlib.Omega.{arith}
 use native.Mathlib.Omega.{arith}
-use borrow.Author.Rules.{rules}
 use Rattle.division.proofs.divide.divide.Goals as goal
 
 pub slice_bounds-divide_by-end : goal.slice_bounds-divide_by-end

@@ -2,17 +2,12 @@ use Rattle.division.proofs.DivisionLaws.{quotient_step, quotient_now}
 use Rattle.operations.proofs.FillSteps.{builds_by, builds_there, builds_made, there_by}
 use Rattle.operations.proofs.RowSteps.{no_rows}
 use Rattle.division.specs.Divisions.{quotient}
-use Rattle.values.proofs.FillLaws.{Filled, filled_rows, filled_none, filled_on, filled_off, filled_end}
+use Rattle.values.proofs.FillLaws.{filled_rows, filled_none, filled_on, filled_off, filled_end}
 use Rattle.values.proofs.RowsLaws.{times_step}
-use Rattle.values.specs.Words.{row_in, rows_at, rows_of}
+use Rattle.values.specs.Words.{rows_at, rows_of}
 use Rattle.relations.specs.PlanWords.{read_pairs}
-use Rattle.relations.specs.Values.{member}
-use Rattle.relations.specs.Lists.{All}
 use lib.ListN.{length}
-use Prim.Native.Nat.{◌+◌, ◌*◌, ◌≤◌, ◌<◌, ◌-◌}
-use mathlib.Core.List.{[], ◌∷◌}
-use mathlib.Core.Bool.{So}
-use borrow.Author.Rules.{rules}
+use Prim.Native.Nat.{◌+◌, ◌≤◌, ◌-◌}
 use native.Mathlib.Omega.{arith}
 use Rattle.division.proofs.divide.divide_by.Goals as goal
 
@@ -24,7 +19,7 @@ pub divide_row-requires : goal.divide_row-requires
 divide_row-requires c = let s = c.args in let l = c.loop-more in let w = s.left.width in let f = l.invariant.3 in
     let ahead : l.at + w ≤ s.out = omega (arith, times_step l.more w (omega arith)) in record {
       division_fits = ((c.requires.0, c.requires.1, c.requires.2, c.requires.3, c.requires.4, omega (arith, f.fits), c.requires.6, rw (filled_rows f s.left.width s.left.rows s.left.base c.requires.3) c.requires.7), omega arith, ahead, f.fits, f.ascending);
-      all = λ h. there_by (rows_at (length s.columns.now) l.made s.out l.work) (quotient_now f s.columns.now (read_pairs s.count s.list.now) s.left s.right l.last w c.requires.3 c.requires.4 (omega arith)) (l.invariant.2 h)
+      all = λ h. there_by (rows_at (length s.columns.now) l.made s.out l.work) (quotient_now f s.columns.now (read_pairs s.count s.list.now) s.left s.right l.last w c.requires.3 c.requires.4 (omega arith)) (l.invariant.2 h);
     }
 
 pub returns-in-Full : goal.returns-in-Full

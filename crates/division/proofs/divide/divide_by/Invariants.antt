@@ -1,19 +1,13 @@
-use Rattle.division.proofs.DivisionLaws.{quotient_step, quotient_now}
-use Rattle.operations.proofs.FillSteps.{builds_by, builds_there, builds_made, there_by}
-use Rattle.operations.proofs.RowSteps.{no_rows}
 use Rattle.division.specs.Divisions.{quotient}
-use Rattle.values.proofs.FillLaws.{Filled, filled_rows, filled_none, filled_on, filled_off, filled_end}
-use Rattle.values.proofs.RowsLaws.{times_step}
+use Rattle.values.proofs.FillLaws.{Filled}
 use Rattle.values.specs.Words.{row_in, rows_at, rows_of}
 use Rattle.relations.specs.PlanWords.{read_pairs}
 use Rattle.relations.specs.Values.{member}
 use Rattle.relations.specs.Lists.{All}
 use lib.ListN.{length}
-use Prim.Native.Nat.{◌+◌, ◌*◌, ◌≤◌, ◌<◌, ◌-◌}
+use Prim.Native.Nat.{◌+◌, ◌*◌, ◌≤◌, ◌<◌}
 use mathlib.Core.List.{[], ◌∷◌}
 use mathlib.Core.Bool.{So}
-use borrow.Author.Rules.{rules}
-use native.Mathlib.Omega.{arith}
 use Rattle.division.proofs.divide.divide_by.Given as goal
 
 abbrev pub invariant-loop-more : goal.invariant-loop-more

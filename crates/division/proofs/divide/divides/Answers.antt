@@ -1,12 +1,10 @@
 use Rattle.operations.proofs.RowSteps.{all_step, no_rows}
 use Rattle.relations.specs.Meanings.{partnered}
 use Rattle.values.proofs.RowsLaws.{times_step}
-use Rattle.values.specs.Words.{rows_at, rows_of}
+use Rattle.values.specs.Words.{rows_of}
 use Rattle.relations.specs.PlanWords.{read_pairs}
 use Rattle.relations.specs.Lists.{all}
-use lib.ListN.{length}
-use Prim.Native.Nat.{◌+◌, ◌*◌, ◌≤◌, ◌-◌}
-use mathlib.Core.Path.{◌≡◌, refl, sym, ap, ◌∙◌}
+use mathlib.Core.Path.{refl, sym, ap, ◌∙◌}
 use native.Mathlib.Omega.{arith}
 use Rattle.division.proofs.divide.divides.Goals as goal
 
@@ -24,7 +22,7 @@ loop-more-preserved c = let s = c.args in let l = c.loop-more in let w = s.right
   omega (arith, times_step l.more w (omega arith)),
   l.invariant.1 ∙ all_step w l.more l.at s.work.now (omega arith) l.invariant.0 (partnered (read_pairs s.count s.list.now) (rows_of s.left s.work.now) s.t.now)
       ∙ rw (ap (partnered (read_pairs s.count s.list.now) (rows_of s.left s.work.now) s.t.now) (sym c.row.ensures) ∙ sym c.has_partner.ensures ∙ c.if-has_partner.true),
-    )
+)
 
 pub returns-else-has_partner : goal.returns-else-has_partner
 returns-else-has_partner c = let s = c.args in let l = c.loop-more in let w = s.right.width in

@@ -1,13 +1,10 @@
-use Rattle.operations.proofs.RowSteps.{all_step, no_rows}
 use Rattle.relations.specs.Meanings.{partnered}
-use Rattle.values.proofs.RowsLaws.{times_step}
 use Rattle.values.specs.Words.{rows_at, rows_of}
 use Rattle.relations.specs.PlanWords.{read_pairs}
 use Rattle.relations.specs.Lists.{all}
 use lib.ListN.{length}
-use Prim.Native.Nat.{◌+◌, ◌*◌, ◌≤◌, ◌-◌}
-use mathlib.Core.Path.{◌≡◌, refl, sym, ap, ◌∙◌}
-use native.Mathlib.Omega.{arith}
+use Prim.Native.Nat.{◌+◌, ◌*◌, ◌≤◌}
+use mathlib.Core.Path.{◌≡◌}
 use Rattle.division.proofs.divide.divides.Given as goal
 
 abbrev pub invariant-loop-more : goal.invariant-loop-more

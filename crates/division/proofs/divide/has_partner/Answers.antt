@@ -8,7 +8,6 @@ use Rattle.values.proofs.RowsLaws.{rows_at-wide}
 use Rattle.values.specs.Words.{rows_of}
 use mathlib.Core.Path.{sym, ap, ◌∙◌}
 use native.Mathlib.Omega.{arith}
-use borrow.Author.Rules.{rules}
 use Rattle.division.proofs.divide.has_partner.Goals as goal
 
 pub partner_row-sought-requires : goal.partner_row-sought-requires

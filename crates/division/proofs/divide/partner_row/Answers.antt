@@ -4,15 +4,12 @@ use mathlib.Core.List.{List}
 use lib.ListN.{replicate}
 use Rattle.operations.specs.Lists.{pair_in}
 use mathlib.Core.Path.{◌≡◌, sym, ap, ◌∙◌}
-use Prim.Native.Nat.{◌+◌, ◌*◌, ◌≤◌, ◌-◌}
-use lib.ListN.{length, take, drop, length-set}
-use Rattle.relations.specs.Lists.{All}
+use Prim.Native.Nat.{◌≤◌}
+use lib.ListN.{length, take, length-set}
 use Rattle.relations.specs.Limits.{column_limit}
-use Rattle.relations.specs.Columns.{left_numbers}
 use Rattle.relations.specs.PlanWords.{read_pairs}
 use Rattle.division.specs.Divisions.{with_pairs}
 use Rattle.division.proofs.DivisionLaws.{row_written, with_turn, numbers_step}
-use borrow.Author.Rules.{rules}
 use native.Mathlib.Omega.{arith}
 use Rattle.division.proofs.divide.partner_row.Goals as goal
 
@@ -32,7 +29,7 @@ loop-more-preserved c = let s = c.args in let l = c.loop-more in let p = pair_in
   simp length-set (omega arith),
   (numbers_step (λ number. (1 ≤ number) × (number ≤ length s.t.now)) s.list.now l.at l.more (omega arith) l.invariant.2).1,
   l.invariant.3 ∙ with_turn s.list.now l.made l.at l.more (length s.t.now) c.column_of.result s.r.now p (omega arith) c.pair_at-pair.ensures k c.column_of.ensures,
-    )
+)
 
 pub returns : goal.returns
 returns c = let l = c.loop-more in let z : l.more ≡ 0 = omega arith in sym (rw z at l.invariant.3)

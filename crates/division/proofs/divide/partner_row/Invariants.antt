@@ -1,19 +1,11 @@
-use Rattle.division.proofs.DivisionLaws.{first-inside}
-use Prim.Native.Nat.{ℕ}
-use mathlib.Core.List.{List}
-use lib.ListN.{replicate}
-use Rattle.operations.specs.Lists.{pair_in}
-use mathlib.Core.Path.{◌≡◌, sym, ap, ◌∙◌}
-use Prim.Native.Nat.{◌+◌, ◌*◌, ◌≤◌, ◌-◌}
-use lib.ListN.{length, take, drop, length-set}
+use mathlib.Core.Path.{◌≡◌}
+use Prim.Native.Nat.{◌+◌, ◌*◌, ◌≤◌}
+use lib.ListN.{length, take, drop}
 use Rattle.relations.specs.Lists.{All}
 use Rattle.relations.specs.Limits.{column_limit}
 use Rattle.relations.specs.Columns.{left_numbers}
 use Rattle.relations.specs.PlanWords.{read_pairs}
 use Rattle.division.specs.Divisions.{with_pairs}
-use Rattle.division.proofs.DivisionLaws.{row_written, with_turn, numbers_step}
-use borrow.Author.Rules.{rules}
-use native.Mathlib.Omega.{arith}
 use Rattle.division.proofs.divide.partner_row.Given as goal
 
 abbrev pub invariant-loop-more : goal.invariant-loop-more

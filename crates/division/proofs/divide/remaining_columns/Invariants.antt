@@ -1,13 +1,10 @@
-use Rattle.division.proofs.DivisionLaws.{column_in, column_out, column-written}
 use Rattle.division.specs.Divisions.{columns_left}
 use Rattle.relations.specs.PlanWords.{read_pairs}
-use Rattle.relations.specs.Columns.{listed, left_numbers}
-use Rattle.plan_reading.proofs.ListedLaws.{pairs_lefts}
-use lib.ListN.{length, take, length-set}
-use Prim.Native.Nat.{◌+◌, ◌≤◌, ◌-◌}
-use mathlib.Core.List.{◌++◌, append-nil}
-use mathlib.Core.Path.{◌≡◌, refl, sym, ap, ◌∙◌}
-use native.Mathlib.Omega.{arith}
+use Rattle.relations.specs.Columns.{left_numbers}
+use lib.ListN.{length, take}
+use Prim.Native.Nat.{◌+◌, ◌≤◌}
+use mathlib.Core.List.{◌++◌}
+use mathlib.Core.Path.{◌≡◌}
 use Rattle.division.proofs.divide.remaining_columns.Given as goal
 
 abbrev pub invariant-loop-left : goal.invariant-loop-left

@@ -4,7 +4,6 @@ use borrow.Author.Tests.{lt-ltb, le-ltb}
 use mathlib.Core.Path.{ap₂, ◌∙◌}
 use native.Mathlib.Omega.{arith}
 use native.Mathlib.Omega.{arith}
-use borrow.Author.Rules.{rules}
 use Rattle.division.proofs.divide.repeats.Goals as goal
 
 pub returns-then-last-at : goal.returns-then-last-at

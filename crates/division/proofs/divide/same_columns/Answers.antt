@@ -1,10 +1,7 @@
 use Rattle.division.proofs.DivisionLaws.{same_step}
-use Rattle.division.specs.Divisions.{kept}
-use Rattle.relations.specs.Rows.{same_row}
 use borrow.Author.Tests.{eq-eqb, ne_eqb}
-use lib.ListN.{length, drop, drop_of_length-le}
-use Prim.Native.Nat.{◌≤◌, ◌-◌}
-use mathlib.Core.Path.{◌≡◌, refl, sym, ◌∙◌}
+use lib.ListN.{drop_of_length-le}
+use mathlib.Core.Path.{refl, sym, ◌∙◌}
 use native.Mathlib.Omega.{arith}
 use Rattle.division.proofs.divide.same_columns.Goals as goal
 

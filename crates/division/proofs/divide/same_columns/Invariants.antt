@@ -1,11 +1,8 @@
-use Rattle.division.proofs.DivisionLaws.{same_step}
 use Rattle.division.specs.Divisions.{kept}
 use Rattle.relations.specs.Rows.{same_row}
-use borrow.Author.Tests.{eq-eqb, ne_eqb}
-use lib.ListN.{length, drop, drop_of_length-le}
+use lib.ListN.{length, drop}
 use Prim.Native.Nat.{◌≤◌, ◌-◌}
-use mathlib.Core.Path.{◌≡◌, refl, sym, ◌∙◌}
-use native.Mathlib.Omega.{arith}
+use mathlib.Core.Path.{◌≡◌}
 use Rattle.division.proofs.divide.same_columns.Given as goal
 
 abbrev pub invariant-loop-i : goal.invariant-loop-i

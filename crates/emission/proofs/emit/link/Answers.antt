@@ -16,12 +16,12 @@ pub nonzero_div-list : goal.nonzero_div-list
 nonzero_div-list c = omega (arith, c.linking_unit.ensures, unit-some c.args.how)
 
 pub push-requires : goal.push-requires
-push-requires c = 
+push-requires c =
     let l : length c.args.list.words ≡ list_words = search rules in
     (c.requires.0, omega arith)
 
 pub returns : goal.returns
-returns c = 
+returns c =
     let list : NodeList = c.args.list in
     let l : length list.words ≡ list_words = search rules in
     written_one _ _ c.push.ensures

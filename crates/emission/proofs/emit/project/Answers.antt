@@ -11,12 +11,12 @@ use borrow.Author.Rules.{rules}
 use Rattle.emission.proofs.emit.project.Goals as goal
 
 pub push-requires : goal.push-requires
-push-requires c = 
+push-requires c =
     let l : length c.args.attributes.words ≡ list_words = search rules in
     (c.requires.0, omega arith)
 
 pub returns : goal.returns
-returns c = 
+returns c =
     let list : NodeList = c.args.attributes in
     let l : length list.words ≡ list_words = search rules in
     written_one _ _ c.push.ensures

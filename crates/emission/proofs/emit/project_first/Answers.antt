@@ -7,7 +7,6 @@ use Rattle.emission.specs.declared.node_list.NodeList.{NodeList}
 use Rattle.emission.proofs.NodeListLaws.{first-listed, names_attributes, lists_attributes}
 use Rattle.emission.proofs.WrittenLaws.{written_as}
 use native.Mathlib.Omega.{arith}
-use borrow.Author.Rules.{rules}
 use Rattle.emission.proofs.emit.project_first.Goals as goal
 
 pub with_columns-requires : goal.with_columns-requires
@@ -17,7 +16,7 @@ pub project-requires : goal.project-requires
 project-requires c = (c.requires.0, lists_attributes (all_columns c.args.columns) (first-listed c.args.columns c.requires.1 c.no_list.ensures c.with_columns.ensures))
 
 pub returns : goal.returns
-returns c = 
+returns c =
     written_as
     (ap (λ (l : List Attribute). project c.args.left l ∷ []) (sym (names_attributes (all_columns c.args.columns) (first-listed c.args.columns c.requires.1 c.no_list.ensures c.with_columns.ensures))))
     c.project.ensures

@@ -1,6 +1,5 @@
 use mathlib.Core.Path.{sym}
 use Rattle.emission.proofs.NodeListLaws.{get_d_behind}
-use borrow.Author.Rules.{rules}
 use Rattle.emission.proofs.emit.word_at.Goals as goal
 
 pub returns : goal.returns

@@ -1,8 +1,4 @@
-use Prim.Native.Nat.{◌+◌, ◌*◌, ◌≤◌}
-use mathlib.Core.Path.{◌≡◌}
 use lib.ListN.{drop, get_or}
-use Rattle.relations.specs.Limits.{plan_node_words}
-use Rattle.emission.specs.HeavyCount.{heavy_in}
 use Rattle.emission.proofs.HeavyLaws.{weight_small, heavy_step, heavy_none}
 use native.Mathlib.Omega.{arith}
 use Rattle.emission.proofs.heavy.count_heavy.Goals as goal

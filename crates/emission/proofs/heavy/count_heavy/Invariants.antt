@@ -1,10 +1,8 @@
 use Prim.Native.Nat.{◌+◌, ◌*◌, ◌≤◌}
 use mathlib.Core.Path.{◌≡◌}
-use lib.ListN.{drop, get_or}
+use lib.ListN.{drop}
 use Rattle.relations.specs.Limits.{plan_node_words}
 use Rattle.emission.specs.HeavyCount.{heavy_in}
-use Rattle.emission.proofs.HeavyLaws.{weight_small, heavy_step, heavy_none}
-use native.Mathlib.Omega.{arith}
 use Rattle.emission.proofs.heavy.count_heavy.Given as goal
 
 -- `translation::heavy::count_heavy` meets its contract. The loop's invariant: what is counted and what is still to be counted is all.

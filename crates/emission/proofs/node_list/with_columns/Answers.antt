@@ -1,8 +1,5 @@
 use Rattle.emission.proofs.NodeListLaws.{grown_used, grown_step, grown_none, columns_step}
-use Rattle.emission.specs.NodeLists.{grown_by, numbers_of}
-use Rattle.relations.specs.Limits.{list_words}
-use Rattle.calculus.specs.Scope.{columns_from}
-use Prim.Native.Nat.{◌+◌, ◌≤◌}
+use Rattle.emission.specs.NodeLists.{grown_by}
 use mathlib.Core.Path.{◌≡◌, refl, sym, ap, ◌∙◌}
 use native.Mathlib.Omega.{arith}
 use Rattle.emission.proofs.node_list.with_columns.Goals as goal
@@ -15,7 +12,7 @@ loop-left-preserved c = let l = c.loop-left in (
   omega (arith, grown_used _ _ c.with_word-longer.ensures),
   omega arith,
   grown_step _ _ _ c.with_word-longer.ensures ∙ ap (grown_by l.longer) (sym (columns_step l.left l.column (omega arith))) ∙ l.invariant.2,
-    )
+)
 
 pub returns : goal.returns
 returns c = let l = c.loop-left in

@@ -1,10 +1,8 @@
-use Rattle.emission.proofs.NodeListLaws.{grown_used, grown_step, grown_none, columns_step}
 use Rattle.emission.specs.NodeLists.{grown_by, numbers_of}
 use Rattle.relations.specs.Limits.{list_words}
 use Rattle.calculus.specs.Scope.{columns_from}
 use Prim.Native.Nat.{◌+◌, ◌≤◌}
-use mathlib.Core.Path.{◌≡◌, refl, sym, ap, ◌∙◌}
-use native.Mathlib.Omega.{arith}
+use mathlib.Core.Path.{◌≡◌}
 use Rattle.emission.proofs.node_list.with_columns.Given as goal
 
 abbrev pub invariant-loop-left : goal.invariant-loop-left

@@ -1,6 +1,5 @@
 use mathlib.Core.Path.{refl}
 use Rattle.emission.specs.NodeLists.{grown_by}
-use borrow.Author.Rules.{rules}
 use Rattle.emission.proofs.node_list.with_word.Goals as goal
 
 pub returns : goal.returns

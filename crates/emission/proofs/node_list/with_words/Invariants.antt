@@ -1,11 +1,7 @@
-use Rattle.emission.proofs.NodeListLaws.{grown_used, grown_then, grown_none}
 use Rattle.emission.specs.NodeLists.{grown_by}
 use lib.ListN.{length, take}
-use lib.Seq.{length-take-le, take_all, take-suc}
 use Prim.Native.Nat.{◌-◌, ◌≤◌}
-use mathlib.Core.Path.{◌≡◌, sym, ap, ◌∙◌}
-use native.Mathlib.Numerals.{add-one}
-use native.Mathlib.Omega.{arith}
+use mathlib.Core.Path.{◌≡◌}
 use Rattle.emission.proofs.node_list.with_words.Given as goal
 
 abbrev pub invariant-loop-i : goal.invariant-loop-i

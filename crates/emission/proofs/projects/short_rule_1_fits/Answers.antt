@@ -1,11 +1,8 @@
 use Rattle.relations.specs.Limits.{list_words}
 use Rattle.emission.proofs.ProjectLaws.{other_number, same_on, same_stop, same_end}
-use Prim.Native.Nat.{◌+◌, ◌-◌, ◌≤◌}
+use Prim.Native.Nat.{◌-◌, ◌≤◌}
 use mathlib.Core.Path.{◌≡◌, sym, ◌∙◌}
-use lib.ListN.{length, drop}
-use Rattle.calculus.specs.Scope.{columns_from}
-use Rattle.calculus.specs.ShortRules.{same_attributes, short_rule1_fits}
-use Rattle.emission.specs.NodeLists.{attributes_in}
+use lib.ListN.{length}
 use borrow.Author.Rules.{rules}
 use native.Mathlib.Omega.{arith}
 use Rattle.emission.proofs.projects.short_rule_1_fits.Goals as goal
@@ -21,18 +18,21 @@ pub bounds-attributes-i : goal.bounds-attributes-i
 bounds-attributes-i c = omega (arith, c.requires)
 
 pub returns-then-attributes-i : goal.returns-then-attributes-i
-returns-then-attributes-i c = 
+returns-then-attributes-i c =
     let l = c.loop-i in
     sym (l.invariant.2 ∙ same_stop c.args.width c.args.attributes ((let the-fact : c.args.attributes.used ≤ length c.args.attributes.words = let l : length c.args.attributes.words ≡ list_words = search rules in
     omega (arith, c.requires) in the-fact)) l.i l.invariant.1 (omega arith) c.if-attributes-i.true)
 
 pub loop-i-preserved : goal.loop-i-preserved
-loop-i-preserved c = 
-    let l = c.loop-i in
-    (omega arith, l.invariant.1, l.invariant.2 ∙ same_on c.args.width c.args.attributes ((let the-fact : c.args.attributes.used ≤ length c.args.attributes.words = let l : length c.args.attributes.words ≡ list_words = search rules in
-    omega (arith, c.requires) in the-fact)) l.i l.invariant.1 (omega arith) c.if-attributes-i.false)
+loop-i-preserved c =
+    let l = c.loop-i in (
+      omega arith,
+      l.invariant.1,
+      l.invariant.2 ∙ same_on c.args.width c.args.attributes ((let the-fact : c.args.attributes.used ≤ length c.args.attributes.words = let l : length c.args.attributes.words ≡ list_words = search rules in
+          omega (arith, c.requires) in the-fact)) l.i l.invariant.1 (omega arith) c.if-attributes-i.false,
+    )
 
 pub returns : goal.returns
-returns c = 
+returns c =
     sym (c.loop-i.invariant.2 ∙ same_end c.args.width c.args.attributes ((let the-fact : c.args.attributes.used ≤ length c.args.attributes.words = let l : length c.args.attributes.words ≡ list_words = search rules in
     omega (arith, c.requires) in the-fact)) c.loop-i.i c.loop-i.invariant.1 (omega arith))

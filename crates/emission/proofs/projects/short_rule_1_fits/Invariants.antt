@@ -1,13 +1,9 @@
-use Rattle.relations.specs.Limits.{list_words}
-use Rattle.emission.proofs.ProjectLaws.{other_number, same_on, same_stop, same_end}
 use Prim.Native.Nat.{◌+◌, ◌-◌, ◌≤◌}
-use mathlib.Core.Path.{◌≡◌, sym, ◌∙◌}
-use lib.ListN.{length, drop}
+use mathlib.Core.Path.{◌≡◌}
+use lib.ListN.{drop}
 use Rattle.calculus.specs.Scope.{columns_from}
 use Rattle.calculus.specs.ShortRules.{same_attributes, short_rule1_fits}
 use Rattle.emission.specs.NodeLists.{attributes_in}
-use borrow.Author.Rules.{rules}
-use native.Mathlib.Omega.{arith}
 use Rattle.emission.proofs.projects.short_rule_1_fits.Given as goal
 
 abbrev pub invariant-loop-i : goal.invariant-loop-i

@@ -15,13 +15,13 @@ short_rule_1_fits-requires c = let l : length c.args.attributes.words ≡ list_w
     listed-few (numbers_of (attributes_in c.args.attributes)) c.requires.0 l
 
 pub returns-then-short-short_rule_1_fits : goal.returns-then-short-short_rule_1_fits
-returns-then-short-short_rule_1_fits c = 
+returns-then-short-short_rule_1_fits c =
     written_as
     (ap (λ b. cond b [] (project c.args.p (attributes_in c.args.attributes) ∷ [])) (ap (λ b. c.args.short && b) (sym c.short_rule_1_fits.ensures) ∙ c.if-short-short_rule_1_fits.true))
     (written-nothing c.args.plan.now c.args.n)
 
 pub returns : goal.returns
-returns c = 
+returns c =
     written_as
     (ap (λ b. cond b [] (project c.args.p (attributes_in c.args.attributes) ∷ [])) (ap (λ b. c.args.short && b) (sym c.short_rule_1_fits.ensures) ∙ c.if-short-short_rule_1_fits.false))
     c.project.ensures

@@ -1,10 +1,8 @@
-use Prim.Native.Nat.{◌+◌, ◌*◌, ◌-◌}
+use Prim.Native.Nat.{◌+◌, ◌*◌}
 use mathlib.Core.List.{◌++◌}
 use Rattle.values.specs.Words.{row_in}
-use Rattle.values.proofs.RowsLaws.{times_least}
 use Rattle.joining.proofs.JoinLaws.{put_last, full_last, written_pair, pair_wide}
 use native.Mathlib.Omega.{arith}
-use borrow.Author.Rules.{rules}
 use Rattle.joining.proofs.join.append_pair.Goals as goal
 
 pub returns-then-work-end : goal.returns-then-work-end

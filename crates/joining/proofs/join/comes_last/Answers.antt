@@ -6,7 +6,6 @@ use Rattle.values.specs.Words.{row_in}
 use Rattle.values.proofs.RowsLaws.{times_step, length_row}
 use Rattle.joining.proofs.JoinLaws.{behind_none, behind-left, behind-right, not_behind, told_less, told_equal, told_greater}
 use native.Mathlib.Omega.{arith}
-use borrow.Author.Rules.{rules}
 use Rattle.joining.proofs.join.comes_last.Goals as goal
 
 pub returns-then-made-eq0 : goal.returns-then-made-eq0

@@ -4,12 +4,11 @@ use Rattle.operations.proofs.FillSteps.{builds_by}
 use Rattle.operations.proofs.RowSteps.{flat_step, no_rows}
 use Rattle.joining.specs.Joins.{joined}
 use Rattle.operations.specs.Lists.{triples_in}
-use Rattle.values.proofs.FillLaws.{Filled, filled_rows, filled_none, filled_on, filled_off, filled_end}
+use Rattle.values.proofs.FillLaws.{filled_rows, filled_none, filled_on, filled_off, filled_end}
 use Rattle.values.proofs.RowsLaws.{times_step}
 use Rattle.values.specs.Words.{rows_at, rows_of}
 use Rattle.relations.specs.Operations.{join_candidates}
-use Prim.Native.Nat.{◌+◌, ◌*◌, ◌≤◌, ◌-◌}
-use borrow.Author.Rules.{rules}
+use Prim.Native.Nat.{◌+◌, ◌≤◌, ◌-◌}
 use native.Mathlib.Omega.{arith}
 use Rattle.joining.proofs.join.join.Goals as goal
 

@@ -3,9 +3,8 @@ use Prim.Native.Nat.{◌+◌, ◌*◌, ◌-◌, ◌≤◌}
 use lib.ListN.{length}
 use mathlib.Core.List.{◌++◌, map}
 use Rattle.relations.specs.Rows.{Row, row_before}
-use Rattle.relations.specs.Values.{Ascending}
 use Rattle.values.specs.Words.{row_in, rows_at}
-use Rattle.values.proofs.FillLaws.{Filled, filled_start, filled_on, filled_off, filled_end}
+use Rattle.values.proofs.FillLaws.{filled_start, filled_on, filled_off, filled_end}
 use Rattle.values.proofs.RowsLaws.{times_step, times_most}
 use Rattle.values.proofs.BoundLaws.{ascending_from, ascending-next, filter-behind-words}
 use Rattle.joining.specs.Joins.{joined}
@@ -14,7 +13,6 @@ use Rattle.partners.proofs.RestLaws.{times_rest}
 use Rattle.operations.proofs.FillSteps.{builds_by, filled_row}
 use Rattle.joining.proofs.JoinLaws.{joined_step, pair_now}
 use Rattle.operations.proofs.RowSteps.{no_rows}
-use borrow.Author.Rules.{rules}
 use native.Mathlib.Omega.{arith}
 use Rattle.joining.proofs.join.join_from.Goals as goal
 
@@ -29,7 +27,7 @@ loop-left-init c = let s = c.args in let p = c.requires in let v = s.right in (
   omega (arith, times_rest s.number v.rows v.width (omega arith)),
   ascending_from v.width v.rows v.base s.work.now (omega arith) s.number p.8 p.7,
   filled_start (s.width + v.width) s.out s.made (joined (sifts s.entries s.sieve.now) (row_in s.work.now s.a s.width) (rows_at v.width (v.rows - s.number) (v.base + s.number * v.width) s.work.now)) s.work.now p.5 p.6,
-    )
+)
 
 pub returns-then-stands_behind : goal.returns-then-stands_behind
 returns-then-stands_behind c = let s = c.args in let p = c.requires in let l = c.loop-left in let m = s.right.width in let high = s.high.now in

@@ -4,7 +4,6 @@ use Prim.Native.Nat.{◌+◌}
 use Rattle.values.specs.Words.{row_in}
 use Rattle.values.proofs.FillLaws.{filled_still}
 use Rattle.partners.specs.Sieves.{sifts}
-use borrow.Author.Rules.{rules}
 use Rattle.joining.proofs.join.join_pair.Goals as goal
 
 pub returns-then-lets_through : goal.returns-then-lets_through

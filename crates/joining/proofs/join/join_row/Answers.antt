@@ -7,7 +7,6 @@ use Rattle.values.specs.Words.{row_in, rows_at, rows_of}
 use Rattle.operations.proofs.FillSteps.{builds_by}
 use Rattle.partners.proofs.RestLaws.{filter_through}
 use native.Mathlib.Omega.{arith}
-use borrow.Author.Rules.{rules}
 use Rattle.joining.proofs.join.join_row.Goals as goal
 
 pub slice_bounds-join_from-end-2 : goal.slice_bounds-join_from-end-2

@@ -8,7 +8,6 @@ use Rattle.operations.proofs.MadeLaws.{aside_taken}
 use Rattle.operations.proofs.FillSteps.{builds_by}
 use native.Mathlib.Omega.{arith}
 use borrow.Author.Tests.{eqb-true}
-use borrow.Author.Rules.{rules}
 use Rattle.joining.proofs.join.place_pair.Goals as goal
 
 pub append_pair-requires : goal.append_pair-requires

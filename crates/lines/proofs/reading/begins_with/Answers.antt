@@ -1,9 +1,7 @@
 use Rattle.lines.proofs.ReadingSteps.{begins_step, begins-ended, begins-done}
-use Rattle.lines.specs.Reading.{begins}
 use borrow.Author.Tests.{eq-eqb, ne_eqb}
-use lib.ListN.{length, drop}
-use mathlib.Core.Path.{◌≡◌, refl, sym, ◌∙◌}
-use Prim.Native.Nat.{◌≤◌, ◌-◌}
+use lib.ListN.{drop}
+use mathlib.Core.Path.{refl, sym, ◌∙◌}
 use native.Mathlib.Omega.{arith}
 use Rattle.lines.proofs.reading.begins_with.Goals as goal
 

@@ -1,6 +1,5 @@
 use lib.Seq.{set_out}
 use mathlib.Core.Path.{sym}
-use borrow.Author.Rules.{rules}
 use Rattle.lines.proofs.reading.keep.Goals as goal
 
 pub returns-else-at-words : goal.returns-else-at-words

@@ -1,10 +1,9 @@
 use Rattle.lines.proofs.ReadingSteps.{digits_step, digits-done, digit_bounds}
-use Rattle.lines.specs.Reading.{more_digits}
 use Rattle.relations.specs.Limits.{greatest_number}
 use borrow.Author.Tests.{le-leb, lt-leb}
-use lib.ListN.{length, drop, get_or}
+use lib.ListN.{get_or}
 use mathlib.Core.Path.{◌≡◌, refl, sym, ◌∙◌}
-use Prim.Native.Nat.{◌≤◌, ◌-◌, ◌+◌, ◌*◌}
+use Prim.Native.Nat.{◌-◌, ◌+◌, ◌*◌}
 use native.Mathlib.Omega.{arith}
 use Rattle.lines.proofs.reading.more_digits.Goals as goal
 

@@ -1,11 +1,8 @@
-use Rattle.lines.proofs.ReadingSteps.{digits_step, digits-done, digit_bounds}
 use Rattle.lines.specs.Reading.{more_digits}
 use Rattle.relations.specs.Limits.{greatest_number}
-use borrow.Author.Tests.{le-leb, lt-leb}
-use lib.ListN.{length, drop, get_or}
-use mathlib.Core.Path.{◌≡◌, refl, sym, ◌∙◌}
-use Prim.Native.Nat.{◌≤◌, ◌-◌, ◌+◌, ◌*◌}
-use native.Mathlib.Omega.{arith}
+use lib.ListN.{length, drop}
+use mathlib.Core.Path.{◌≡◌}
+use Prim.Native.Nat.{◌≤◌, ◌-◌}
 use Rattle.lines.proofs.reading.more_digits.Given as goal
 
 -- `lines::reading::more_digits` meets its contract. The number read from the start is the number read on from here with the digits so far as its value.

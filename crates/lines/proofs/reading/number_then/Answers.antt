@@ -3,7 +3,6 @@ use Rattle.lines.proofs.ReadingSteps.{ended_step, ended-done}
 use borrow.Author.Tests.{eq-eqb, ne_eqb}
 use mathlib.Core.Path.{◌∙◌}
 use native.Mathlib.Omega.{arith}
-use borrow.Author.Rules.{rules}
 use Rattle.lines.proofs.reading.number_then.Goals as goal
 
 pub returns-then-text-next : goal.returns-then-text-next

@@ -3,7 +3,6 @@ use borrow.Author.Tests.{eq-eqb, ne_eqb}
 use lib.ListN.{get_or}
 use mathlib.Core.Path.{sym, ◌∙◌}
 use native.Mathlib.Omega.{arith}
-use borrow.Author.Rules.{rules}
 use Rattle.lines.proofs.reading.read_number.Goals as goal
 
 -- `lines::reading::read_number` meets its contract. The first byte decides the case of the definition; the digits behind it are `more_digits`' part.
@@ -15,7 +14,7 @@ pub returns-then-byte-eq48 : goal.returns-then-byte-eq48
 returns-then-byte-eq48 c = record {
   means = number_step c.args.text.now c.args.at (omega arith) ∙ rw (eq-eqb _ _ c.if-byte-eq48.true);
   behind = (omega arith, omega arith);
-    }
+}
 
 pub overflow_sub-wide : goal.overflow_sub-wide
 overflow_sub-wide c = omega (arith, digit_bounds (get_or c.args.text.now c.args.at 0) (sym c.is_digit.ensures ∙ c.if-is_digit.true), c.wide.ensures)
@@ -35,4 +34,4 @@ pub returns : goal.returns
 returns c = record {
   means = number_step c.args.text.now c.args.at (omega arith) ∙ rw (ne_eqb _ _ c.if-byte-eq48.false, sym c.is_digit.ensures ∙ c.if-is_digit.false);
   behind = tt;
-    }
+}

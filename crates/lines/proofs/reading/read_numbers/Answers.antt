@@ -1,12 +1,11 @@
-use Rattle.lines.proofs.Carries.{Carries, carries_start, carries_number, carries_wrong, carries_done}
+use Rattle.lines.proofs.Carries.{carries_start, carries_number, carries_wrong, carries_done}
 use Rattle.lines.proofs.ReadingSteps.{numbers_step, numbers-done}
 use Rattle.lines.proofs.Answered.{number_found, number-missing}
 use Rattle.lines.specs.Reading.{value, no_number, number_then, numbers}
 use Rattle.lines.specs.Marks.{separator}
-use lib.ListN.{length, drop}
+use lib.ListN.{drop}
 use mathlib.Core.Path.{◌≡◌, refl, sym, ap, ◌∙◌}
-use Prim.Native.Nat.{ℕ, ◌≤◌, ◌-◌, ◌+◌}
-use borrow.Author.Rules.{rules}
+use Prim.Native.Nat.{ℕ, ◌-◌, ◌+◌}
 use native.Mathlib.Omega.{arith}
 use Rattle.lines.proofs.reading.read_numbers.Goals as goal
 

@@ -1,13 +1,8 @@
-use Rattle.lines.proofs.Carries.{Carries, carries_start, carries_number, carries_wrong, carries_done}
-use Rattle.lines.proofs.ReadingSteps.{numbers_step, numbers-done}
-use Rattle.lines.proofs.Answered.{number_found, number-missing}
-use Rattle.lines.specs.Reading.{value, no_number, number_then, numbers}
-use Rattle.lines.specs.Marks.{separator}
+use Rattle.lines.proofs.Carries.{Carries}
+use Rattle.lines.specs.Reading.{numbers}
 use lib.ListN.{length, drop}
-use mathlib.Core.Path.{◌≡◌, refl, sym, ap, ◌∙◌}
-use Prim.Native.Nat.{ℕ, ◌≤◌, ◌-◌, ◌+◌}
-use borrow.Author.Rules.{rules}
-use native.Mathlib.Omega.{arith}
+use mathlib.Core.Path.{◌≡◌}
+use Prim.Native.Nat.{◌≤◌, ◌+◌}
 use Rattle.lines.proofs.reading.read_numbers.Given as goal
 
 -- `lines::reading::read_numbers` meets its contract. The loop carries the reading of the numbers that are left (`Carries`): each number read is kept, and counts one down.

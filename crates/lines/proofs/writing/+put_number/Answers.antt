@@ -1,8 +1,7 @@
-use Prim.Native.Nat.{ℕ, ◌+◌, ◌/◌, ◌%◌, ◌<◌}
+use Prim.Native.Nat.{◌+◌, ◌/◌, ◌%◌}
 use mathlib.Core.Path.{◌≡◌, refl, ap, ◌∙◌}
 use mathlib.Core.List.{[], ◌∷◌, ◌++◌}
 use native.Mathlib.Omega.{arith}
-use borrow.Author.Rules.{rules}
 use lib.ListN.{length, length-append}
 use Rattle.lines.specs.Marks.{zero_digit}
 use Rattle.lines.specs.Writing.{decimal}

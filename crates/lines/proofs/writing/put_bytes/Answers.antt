@@ -1,11 +1,11 @@
-use Prim.Native.Nat.{◌≤◌, ◌-◌, ◌+◌}
+use Prim.Native.Nat.{◌+◌}
 use mathlib.Core.Path.{◌≡◌, refl, ◌∙◌}
 use mathlib.Core.List.{◌∷◌}
 use native.Mathlib.Numerals.{add-one}
 use native.Mathlib.Omega.{arith}
-use lib.ListN.{length, get_or, drop, drop_of_length-le}
+use lib.ListN.{get_or, drop, drop_of_length-le}
 use lib.Seq.{drop-cons}
-use Rattle.lines.proofs.Stores.{StillToPut, put_start, put_byte, put_end}
+use Rattle.lines.proofs.Stores.{put_start, put_byte, put_end}
 use Rattle.lines.proofs.writing.put_bytes.Goals as goal
 
 pub loop-i-init : goal.loop-i-init

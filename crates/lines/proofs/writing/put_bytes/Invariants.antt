@@ -1,11 +1,7 @@
-use Prim.Native.Nat.{◌≤◌, ◌-◌, ◌+◌}
-use mathlib.Core.Path.{◌≡◌, refl, ◌∙◌}
-use mathlib.Core.List.{◌∷◌}
-use native.Mathlib.Numerals.{add-one}
-use native.Mathlib.Omega.{arith}
-use lib.ListN.{length, get_or, drop, drop_of_length-le}
-use lib.Seq.{drop-cons}
-use Rattle.lines.proofs.Stores.{StillToPut, put_start, put_byte, put_end}
+use Prim.Native.Nat.{◌≤◌, ◌-◌}
+use mathlib.Core.Path.{◌≡◌}
+use lib.ListN.{length, drop}
+use Rattle.lines.proofs.Stores.{StillToPut}
 use Rattle.lines.proofs.writing.put_bytes.Given as goal
 
 -- `lines::writing::put_bytes` meets its contract. The loop's invariant: the bytes from `i` on are still to put, from `end` on.

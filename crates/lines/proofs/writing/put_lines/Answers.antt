@@ -1,11 +1,11 @@
-use Prim.Native.Nat.{ℕ, ◌≤◌, ◌-◌, ◌+◌, ◌*◌}
+use Prim.Native.Nat.{◌-◌, ◌+◌, ◌*◌}
 use mathlib.Core.Path.{◌≡◌, refl, ◌∙◌}
-use mathlib.Core.List.{List, ◌++◌}
+use mathlib.Core.List.{◌++◌}
 use native.Mathlib.Omega.{arith}
-use lib.ListN.{length, take, drop}
+use lib.ListN.{take, drop}
 use Rattle.lines.specs.Writing.{numbers_text, lines_text}
 use Rattle.lines.specs.Put.{furthest}
-use Rattle.lines.proofs.Stores.{times_step, StillToPut, put_start, put_on, put_fits, put_end}
+use Rattle.lines.proofs.Stores.{times_step, put_start, put_on, put_fits, put_end}
 use Rattle.lines.proofs.WritingSteps.{lines_step}
 use Rattle.lines.proofs.writing.put_lines.Goals as goal
 
@@ -16,7 +16,7 @@ pub put_bytes-behind-requires : goal.put_bytes-behind-requires
 put_bytes-behind-requires c = put_fits c.args.key.now ((numbers_text (take c.args.width (drop c.loop-left.place c.args.words.now))) ++ (lines_text c.args.key.now c.args.width (c.loop-left.left - 1) (drop (c.loop-left.place + c.args.width) c.args.words.now))) furthest c.loop-left.invariant.2 ((let the-fact : lines_text c.args.key.now c.args.width c.loop-left.left (drop c.loop-left.place c.args.words.now) ≡ c.args.key.now ++ ((numbers_text (take c.args.width (drop c.loop-left.place c.args.words.now))) ++ (lines_text c.args.key.now c.args.width (c.loop-left.left - 1) (drop (c.loop-left.place + c.args.width) c.args.words.now))) = lines_step c.args.key.now c.args.width c.args.words.now c.loop-left.place c.loop-left.left (omega arith) in the-fact)) c.requires.1
 
 pub put_numbers-end-requires : goal.put_numbers-end-requires
-put_numbers-end-requires c = 
+put_numbers-end-requires c =
     let keyed = put_on c.args.key.now ((numbers_text (take c.args.width (drop c.loop-left.place c.args.words.now))) ++ (lines_text c.args.key.now c.args.width (c.loop-left.left - 1) (drop (c.loop-left.place + c.args.width) c.args.words.now))) c.loop-left.invariant.2 ((let the-fact : lines_text c.args.key.now c.args.width c.loop-left.left (drop c.loop-left.place c.args.words.now) ≡ c.args.key.now ++ ((numbers_text (take c.args.width (drop c.loop-left.place c.args.words.now))) ++ (lines_text c.args.key.now c.args.width (c.loop-left.left - 1) (drop (c.loop-left.place + c.args.width) c.args.words.now))) = lines_step c.args.key.now c.args.width c.args.words.now c.loop-left.place c.loop-left.left (omega arith) in the-fact)) c.put_bytes-behind.ensures in
     (omega (arith, (let the-fact : c.args.width * c.loop-left.left ≡ c.args.width * (c.loop-left.left - 1) + c.args.width = times_step c.args.width c.loop-left.left (omega arith) in the-fact)), put_fits ((numbers_text (take c.args.width (drop c.loop-left.place c.args.words.now)))) ((lines_text c.args.key.now c.args.width (c.loop-left.left - 1) (drop (c.loop-left.place + c.args.width) c.args.words.now))) furthest keyed refl c.requires.1)
 
@@ -24,7 +24,7 @@ pub overflow_add-place : goal.overflow_add-place
 overflow_add-place c = omega (arith, (let the-fact : c.args.width * c.loop-left.left ≡ c.args.width * (c.loop-left.left - 1) + c.args.width = times_step c.args.width c.loop-left.left (omega arith) in the-fact))
 
 pub loop-left-preserved : goal.loop-left-preserved
-loop-left-preserved c = 
+loop-left-preserved c =
     let inv = c.loop-left.invariant in
     let keyed = put_on c.args.key.now ((numbers_text (take c.args.width (drop c.loop-left.place c.args.words.now))) ++ (lines_text c.args.key.now c.args.width (c.loop-left.left - 1) (drop (c.loop-left.place + c.args.width) c.args.words.now))) inv.2 ((let the-fact : lines_text c.args.key.now c.args.width c.loop-left.left (drop c.loop-left.place c.args.words.now) ≡ c.args.key.now ++ ((numbers_text (take c.args.width (drop c.loop-left.place c.args.words.now))) ++ (lines_text c.args.key.now c.args.width (c.loop-left.left - 1) (drop (c.loop-left.place + c.args.width) c.args.words.now))) = lines_step c.args.key.now c.args.width c.args.words.now c.loop-left.place c.loop-left.left (omega arith) in the-fact)) c.put_bytes-behind.ensures in (
       omega (arith, (let the-fact : c.args.width * c.loop-left.left ≡ c.args.width * (c.loop-left.left - 1) + c.args.width = times_step c.args.width c.loop-left.left (omega arith) in the-fact)),

@@ -1,12 +1,8 @@
-use Prim.Native.Nat.{ℕ, ◌≤◌, ◌-◌, ◌+◌, ◌*◌}
-use mathlib.Core.Path.{◌≡◌, refl, ◌∙◌}
-use mathlib.Core.List.{List, ◌++◌}
-use native.Mathlib.Omega.{arith}
-use lib.ListN.{length, take, drop}
-use Rattle.lines.specs.Writing.{numbers_text, lines_text}
-use Rattle.lines.specs.Put.{furthest}
-use Rattle.lines.proofs.Stores.{times_step, StillToPut, put_start, put_on, put_fits, put_end}
-use Rattle.lines.proofs.WritingSteps.{lines_step}
+use Prim.Native.Nat.{◌≤◌, ◌+◌, ◌*◌}
+use mathlib.Core.Path.{◌≡◌}
+use lib.ListN.{length, drop}
+use Rattle.lines.specs.Writing.{lines_text}
+use Rattle.lines.proofs.Stores.{StillToPut}
 use Rattle.lines.proofs.writing.put_lines.Given as goal
 
 -- `lines::writing::put_lines` meets its contract. The loop's invariant: the `left` lines of the words from `place` on are still to put, from `end` on.

@@ -1,13 +1,8 @@
-use Prim.Native.Nat.{ℕ, ◌≤◌, ◌-◌, ◌+◌}
-use mathlib.Core.Path.{◌≡◌, refl, ◌∙◌}
-use mathlib.Core.List.{List, ◌∷◌, ◌++◌}
-use native.Mathlib.Omega.{arith}
-use lib.ListN.{length, get_or, take, drop}
-use Rattle.lines.specs.Marks.{separator}
-use Rattle.lines.specs.Writing.{decimal, numbers_text}
-use Rattle.lines.specs.Put.{furthest}
-use Rattle.lines.proofs.Stores.{StillToPut, put_start, put_on, put_byte, put_fits, put_end}
-use Rattle.lines.proofs.WritingSteps.{numbers_step}
+use Prim.Native.Nat.{◌≤◌, ◌+◌}
+use mathlib.Core.Path.{◌≡◌}
+use lib.ListN.{length, take, drop}
+use Rattle.lines.specs.Writing.{numbers_text}
+use Rattle.lines.proofs.Stores.{StillToPut}
 use Rattle.lines.proofs.writing.put_numbers.Given as goal
 
 -- `lines::writing::put_numbers` meets its contract. The loop's invariant: the text of the `left` words from `place` on is still to put, from `end` on.

@@ -1,6 +1,5 @@
 use Rattle.node_judging.proofs.StepLaws.{both_set}
 use Rattle.nodes.proofs.Forms.{node_variables}
-use borrow.Author.Rules.{rules}
 use Rattle.node_judging.proofs.judging.judge_at.Goals as goal
 
 pub unbound_at-requires : goal.unbound_at-requires

@@ -1,5 +1,4 @@
 use borrow.Author.Tests.{eq-eqb, ne_eqb}
-use borrow.Author.Rules.{rules}
 use Rattle.node_judging.proofs.judging.taken_width.Goals as goal
 
 pub returns-then-attribute-eq0 : goal.returns-then-attribute-eq0

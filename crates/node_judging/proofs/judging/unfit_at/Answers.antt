@@ -1,4 +1,3 @@
-use borrow.Author.Rules.{rules}
 use Rattle.node_judging.proofs.judging.unfit_at.Goals as goal
 
 pub width_in-requires : goal.width_in-requires

@@ -1,4 +1,3 @@
-use borrow.Author.Rules.{rules}
 use Rattle.node_judging.proofs.judging.width_of.Goals as goal
 
 pub taken_width-requires : goal.taken_width-requires

@@ -1,6 +1,5 @@
 use Rattle.node_judging.specs.Steps.{add_widths}
 use native.Mathlib.Omega.{arith}
-use borrow.Author.Rules.{rules}
 use Rattle.node_judging.proofs.scope.add_widths.Goals as goal
 
 pub returns-then-a-gt-MOST_COLUMNS : goal.returns-then-a-gt-MOST_COLUMNS

@@ -1,6 +1,5 @@
 use Rattle.node_judging.proofs.StepLaws.{add_widths-small}
 use native.Mathlib.Omega.{arith}
-use borrow.Author.Rules.{rules}
 use Rattle.node_judging.proofs.scope.bind.Goals as goal
 
 pub overflow_cast-scope-3 : goal.overflow_cast-scope-3

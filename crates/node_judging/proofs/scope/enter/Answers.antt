@@ -1,5 +1,4 @@
 use borrow.Author.Tests.{lt-ltb, le-ltb}
-use borrow.Author.Rules.{rules}
 use Rattle.node_judging.proofs.scope.enter.Goals as goal
 
 pub returns-then-variable-lt-VARIABLES : goal.returns-then-variable-lt-VARIABLES

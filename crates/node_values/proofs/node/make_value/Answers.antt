@@ -1,26 +1,14 @@
 use mathlib.Core.Path.{◌≡◌, ap, ◌∙◌}
 use mathlib.Core.List.{List}
-use Prim.Native.Nat.{ℕ, ◌-◌, ◌≤◌}
+use Prim.Native.Nat.{ℕ, ◌-◌}
 use lib.ListN.{length, take, drop, length-drop}
 use lib.Seq.{take_all}
 use Rattle.relations.specs.Limits.{head_words, list_words, plan_node_words}
-use Rattle.relations.specs.PlanWords.{read_node}
-use Rattle.values.specs.Words.{rows_of}
-use Rattle.values.specs.Building.{Blank, Makes}
 use Rattle.values.proofs.MakeLaws.{builds_makes}
-use Rattle.values.specs.declared.rows.Value.{Value}
-use Rattle.values.specs.declared.placing.Placed.{Placed}
-use Rattle.catalogue.specs.Stored.{relations_of, columns_of, stored_tables}
-use Rattle.plan_reading.specs.Decoding.{operation_in}
-use Rattle.plan_reading.specs.declared.nodes.Operation.{Operation}
 use Rattle.plan_reading.specs.declared.nodes.Operation.TheVariants.{Load, Project, SelectConstant, SelectAttribute, Join, Semijoin, Antijoin, Divide, Unite, Intersect, Subtract, Tally}
-use Rattle.plan_reading.proofs.DecodeLaws.{Stands, stands}
-use Rattle.plan_reading.proofs.JudgeLaws.{width_made}
-use Rattle.node_values.specs.Standing.{values_in, standing}
-use Rattle.node_values.specs.NodeRun.{width_read, candidates_read}
-use Rattle.node_values.proofs.NodeLaws.{Asks, asks, offered, makes}
+use Rattle.plan_reading.proofs.DecodeLaws.{stands}
+use Rattle.node_values.proofs.NodeLaws.{asks, makes}
 use native.Mathlib.Omega.{arith}
-use borrow.Author.Rules.{rules}
 use Rattle.node_values.proofs.node.make_value.Goals as goal
 
 -- a node's list is what stands behind its head

@@ -3,7 +3,6 @@ use Rattle.values.specs.Words.{rows_of}
 use Rattle.relations.specs.Operations.{select_attribute_candidates}
 use Rattle.relations.specs.Columns as meaning
 use Rattle.operations.proofs.FillSteps.{builds_by}
-use borrow.Author.Rules.{rules}
 use Rattle.node_values.proofs.node.select_by_attribute.Goals as goal
 
 pub returns : goal.returns

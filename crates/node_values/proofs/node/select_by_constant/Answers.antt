@@ -6,7 +6,6 @@ use Rattle.relations.specs.Operations.{select_constant_candidates}
 use Rattle.values.specs.Words.{rows_of}
 use Rattle.terms.specs.Terms.{operator_in, constant_in}
 use Rattle.operations.proofs.FillSteps.{builds_by}
-use borrow.Author.Rules.{rules}
 use Rattle.node_values.proofs.node.select_by_constant.Goals as goal
 
 pub returns : goal.returns

@@ -1,6 +1,5 @@
 use Rattle.node_values.proofs.StandLaws.{value-inside, value_outside}
 use native.Mathlib.Omega.{arith}
-use borrow.Author.Rules.{rules}
 use Rattle.node_values.proofs.node.value_at.Goals as goal
 
 pub returns-then-place-widths : goal.returns-then-place-widths

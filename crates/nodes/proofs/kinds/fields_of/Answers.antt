@@ -1,6 +1,5 @@
 use borrow.Author.Tests.{eq-eqb, ne_eqb}
 use Rattle.nodes.specs.Kinds.{fields_of}
-use borrow.Author.Rules.{rules}
 use Rattle.nodes.proofs.kinds.fields_of.Goals as goal
 
 pub returns-then-kind-eq1 : goal.returns-then-kind-eq1

@@ -1,4 +1,3 @@
-use borrow.Author.Rules.{rules}
 use Rattle.nodes.proofs.kinds.is_of.Goals as goal
 
 pub returns-in-Target : goal.returns-in-Target

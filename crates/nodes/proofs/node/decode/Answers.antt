@@ -1,5 +1,4 @@
 use Rattle.nodes.specs.Nodes.{node_at}
-use borrow.Author.Rules.{rules}
 use Rattle.nodes.proofs.node.decode.Goals as goal
 
 pub returns-then-field_fits : goal.returns-then-field_fits

@@ -1,4 +1,3 @@
-use borrow.Author.Rules.{rules}
 use Rattle.nodes.proofs.node.field_fits.Goals as goal
 
 pub returns-in-Unused : goal.returns-in-Unused

@@ -1,4 +1,3 @@
-use borrow.Author.Rules.{rules}
 use Rattle.nodes.proofs.node.form_at.Goals as goal
 
 pub returns : goal.returns

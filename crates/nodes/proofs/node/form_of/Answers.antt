@@ -1,6 +1,5 @@
 use Rattle.nodes.specs.Nodes.{form_of}
 use borrow.Author.Tests.{ne_eqb}
-use borrow.Author.Rules.{rules}
 use Rattle.nodes.proofs.node.form_of.Goals as goal
 
 pub returns-in-1 : goal.returns-in-1

@@ -1,7 +1,6 @@
 use Rattle.nodes.specs.Nodes.{kind_named}
 use Rattle.nodes.proofs.Tests.{named_below}
 use native.Mathlib.Omega.{arith}
-use borrow.Author.Rules.{rules}
 use Rattle.nodes.proofs.node.kind_named.Goals as goal
 
 -- `nodes::node::kind_named` meets its contract. The test says that the reference names a lower node, whose kind word is inside the words. Assumes nothing.

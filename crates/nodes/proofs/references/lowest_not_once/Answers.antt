@@ -2,7 +2,6 @@ use Rattle.nodes.proofs.Bits.{placed}
 use Rattle.nodes.specs.References.{references_to}
 use lib.Bits.{xor_lt}
 use native.Mathlib.Omega.{arith}
-use borrow.Author.Rules.{rules}
 use Rattle.nodes.proofs.references.lowest_not_once.Goals as goal
 
 pub returns : goal.returns

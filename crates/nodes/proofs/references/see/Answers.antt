@@ -1,6 +1,5 @@
 use Rattle.nodes.proofs.Bits.{skipped, stepped, one_shifted}
 use native.Mathlib.Omega.{arith}
-use borrow.Author.Rules.{rules}
 use Rattle.nodes.proofs.references.see.Goals as goal
 
 -- `nodes::references::see` meets its contract. No node is named by 0; any other reference sets its own digit, in the second mask where the first had it. Assumes nothing.

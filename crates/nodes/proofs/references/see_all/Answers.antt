@@ -2,9 +2,7 @@ use Rattle.nodes.proofs.Forms.{node_lower}
 use Rattle.nodes.proofs.Bits.{none_marked, marked_node}
 use Rattle.nodes.specs.declared.node.Node.{Node}
 use Rattle.nodes.specs.References.{references_to}
-use Rattle.nodes.specs.Marks.{Marks}
 use mathlib.Core.Path.{◌≡◌, ap}
-use Prim.Native.Nat.{◌≤◌, ◌-◌}
 use native.Mathlib.Omega.{arith}
 use Rattle.nodes.proofs.references.see_all.Goals as goal
 

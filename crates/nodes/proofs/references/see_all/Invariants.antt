@@ -1,11 +1,6 @@
-use Rattle.nodes.proofs.Forms.{node_lower}
-use Rattle.nodes.proofs.Bits.{none_marked, marked_node}
-use Rattle.nodes.specs.declared.node.Node.{Node}
 use Rattle.nodes.specs.References.{references_to}
 use Rattle.nodes.specs.Marks.{Marks}
-use mathlib.Core.Path.{◌≡◌, ap}
 use Prim.Native.Nat.{◌≤◌, ◌-◌}
-use native.Mathlib.Omega.{arith}
 use Rattle.nodes.proofs.references.see_all.Given as goal
 
 -- `nodes::references::see_all` meets its contract. The loop's invariant: the masks are those of the references of the nodes passed, each at most the number of its node.

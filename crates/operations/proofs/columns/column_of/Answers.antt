@@ -1,7 +1,6 @@
 use Rattle.operations.proofs.ListLaws.{word_inside, word_outside}
 use mathlib.Core.Path.{sym}
 use native.Mathlib.Omega.{arith}
-use borrow.Author.Rules.{rules}
 use Rattle.operations.proofs.columns.column_of.Goals as goal
 
 pub returns-then-row-number : goal.returns-then-row-number

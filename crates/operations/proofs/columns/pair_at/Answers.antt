@@ -1,5 +1,4 @@
 use Rattle.operations.proofs.ListLaws.{first_word, next_word}
-use borrow.Author.Rules.{rules}
 use Rattle.operations.proofs.columns.pair_at.Goals as goal
 
 pub returns : goal.returns

@@ -1,7 +1,6 @@
 use mathlib.Core.Path.{ap, ◌∙◌}
 use mathlib.Core.Bool.{not}
 use borrow.Author.Tests.{eq-eqb, ne_eqb}
-use borrow.Author.Rules.{rules}
 use Rattle.relations.specs.Rows.{Row, row_before}
 use Rattle.values.specs.Words.{row_in}
 use Rattle.operations.proofs.copy.left_is_next.Goals as goal

@@ -1,14 +1,11 @@
-use mathlib.Core.Path.{◌≡◌}
-use mathlib.Core.Bool.{Bool, true, false}
-use Prim.Native.Nat.{◌+◌, ◌*◌, ◌≤◌, ◌<◌, ◌-◌}
+use Prim.Native.Nat.{◌+◌, ◌-◌}
 use mathlib.Core.List.{◌++◌}
 use Rattle.relations.specs.Rows.{row_before}
 use Rattle.values.specs.Words.{row_in, rows_at}
 use Rattle.values.proofs.RowsLaws.{times_step, times_least}
-use Rattle.values.proofs.MakeLaws.{Offered, offered_start, offered_on, offered_off, offered_end, builds_row}
+use Rattle.values.proofs.MakeLaws.{offered_start, offered_on, offered_off, offered_end, builds_row}
 use Rattle.operations.proofs.FillSteps.{filled_row}
 use Rattle.operations.proofs.CopyLaws.{left-some, right-some, left-next, right-next, both_over}
-use borrow.Author.Rules.{rules}
 use native.Mathlib.Omega.{arith}
 use Rattle.operations.proofs.copy.unite.Goals as goal
 
@@ -51,7 +48,7 @@ loop-more-preserved-then-left_is_next c = let s = c.args in let l = c.loop-more 
   offered_on l.invariant.2 (rows_at w (l.more - 1) (l.at + w) d ++ rows_at w l.others l.beside d)
       (left-next w l.more l.at l.others l.beside d some (omega (arith, c.requires.4)))
       (builds_row (filled_row l.invariant.2.filled l.at w (omega (arith, times_step l.more w some))) c.place_next.ensures) c.in-Rows.rows c.in-Rows.is,
-    )
+)
 
 pub place_next-requires-else-left_is_next : goal.place_next-requires-else-left_is_next
 place_next-requires-else-left_is_next c = let s = c.args in let l = c.loop-more in let w = s.left.width in let some = (let l = c.loop-more in right-some l.more l.others ((let l = c.loop-more in let w = c.args.left.width in row_before (row_in l.work l.beside w) (row_in l.work l.at w))) c.left_is_next.ensures c.if-left_is_next.false) in
@@ -85,7 +82,7 @@ loop-more-preserved c = let s = c.args in let l = c.loop-more in let w = s.left.
   offered_on l.invariant.2 (rows_at w l.more l.at d ++ rows_at w (l.others - 1) (l.beside + w) d)
       (right-next w l.more l.at l.others l.beside d some (omega (arith, c.requires.4)))
       (builds_row (filled_row l.invariant.2.filled l.beside w (omega (arith, times_step l.others w some))) c.place_next-else-left_is_next.ensures) c.in-Rows-place_next.rows c.in-Rows-place_next.is,
-    )
+)
 
 pub shape_of-work : goal.shape_of-work
 shape_of-work c = omega (arith, c.loop-more.invariant.2.filled.size)

@@ -1,15 +1,7 @@
-use mathlib.Core.Path.{◌≡◌}
-use mathlib.Core.Bool.{Bool, true, false}
-use Prim.Native.Nat.{◌+◌, ◌*◌, ◌≤◌, ◌<◌, ◌-◌}
+use Prim.Native.Nat.{◌+◌, ◌*◌, ◌≤◌}
 use mathlib.Core.List.{◌++◌}
-use Rattle.relations.specs.Rows.{row_before}
-use Rattle.values.specs.Words.{row_in, rows_at}
-use Rattle.values.proofs.RowsLaws.{times_step, times_least}
-use Rattle.values.proofs.MakeLaws.{Offered, offered_start, offered_on, offered_off, offered_end, builds_row}
-use Rattle.operations.proofs.FillSteps.{filled_row}
-use Rattle.operations.proofs.CopyLaws.{left-some, right-some, left-next, right-next, both_over}
-use borrow.Author.Rules.{rules}
-use native.Mathlib.Omega.{arith}
+use Rattle.values.specs.Words.{rows_at}
+use Rattle.values.proofs.MakeLaws.{Offered}
 use Rattle.operations.proofs.copy.unite.Given as goal
 
 abbrev pub invariant-loop-more : goal.invariant-loop-more

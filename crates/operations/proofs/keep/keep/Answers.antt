@@ -2,12 +2,11 @@ use Rattle.operations.proofs.TestLaws.{fits_now, kept_now}
 use Rattle.operations.proofs.FillSteps.{builds_by}
 use Rattle.operations.proofs.RowSteps.{filter_step, no_rows}
 use Rattle.operations.specs.Tests.{right_of, keeps}
-use Rattle.values.proofs.FillLaws.{Filled, filled_none, filled_on, filled_off, filled_end}
+use Rattle.values.proofs.FillLaws.{filled_none, filled_on, filled_off, filled_end}
 use Rattle.values.proofs.RowsLaws.{times_step}
 use Rattle.values.specs.Words.{rows_at}
 use Rattle.relations.specs.Lists.{filter}
-use Prim.Native.Nat.{◌+◌, ◌*◌, ◌≤◌, ◌-◌}
-use borrow.Author.Rules.{rules}
+use Prim.Native.Nat.{◌+◌, ◌≤◌, ◌-◌}
 use native.Mathlib.Omega.{arith}
 use Rattle.operations.proofs.keep.keep.Goals as goal
 

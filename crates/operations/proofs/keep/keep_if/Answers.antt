@@ -1,5 +1,4 @@
 use Rattle.values.proofs.FillLaws.{filled_still}
-use borrow.Author.Rules.{rules}
 use Rattle.operations.proofs.keep.keep_if.Goals as goal
 
 pub returns-then-kept : goal.returns-then-kept

@@ -2,7 +2,6 @@ use Rattle.operations.proofs.TestLaws.{fits-later}
 use lib.ListN.{length}
 use mathlib.Core.Path.{sym}
 use native.Mathlib.Omega.{arith}
-use borrow.Author.Rules.{rules}
 use Rattle.operations.proofs.keep.keep_row.Goals as goal
 
 pub passes-kept-requires : goal.passes-kept-requires

@@ -1,8 +1,6 @@
 use mathlib.Core.Path.{◌∙◌}
-use Prim.Native.Nat.{◌-◌}
 use lib.ListN.{length}
 use Rattle.operations.proofs.TestLaws.{fits_in, fits_not_in}
-use borrow.Author.Rules.{rules}
 use Rattle.operations.proofs.keep.passes.Goals as goal
 
 pub has_row-requires : goal.has_row-requires

@@ -1,7 +1,6 @@
 use Rattle.operations.proofs.MadeLaws.{two_runs}
 use Rattle.values.proofs.RowsLaws.{length_row}
 use Rattle.values.specs.Words.{row_in}
-use borrow.Author.Rules.{rules}
 use Rattle.operations.proofs.made.pair_row.Goals as goal
 
 pub returns : goal.returns

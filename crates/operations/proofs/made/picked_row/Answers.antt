@@ -1,10 +1,5 @@
 use Rattle.operations.proofs.MadeLaws.{pick_suc}
-use Rattle.relations.specs.Columns.{attribute, pick}
-use Rattle.operations.specs.Aside.{aside}
-use Rattle.relations.specs.Limits.{column_limit}
-use lib.ListN.{length, take, length-set}
-use Prim.Native.Nat.{◌≤◌, ◌-◌}
-use mathlib.Core.List.{map}
+use lib.ListN.{length-set}
 use mathlib.Core.Path.{◌≡◌, refl}
 use native.Mathlib.Omega.{arith}
 use Rattle.operations.proofs.made.picked_row.Goals as goal

@@ -1,12 +1,10 @@
-use Rattle.operations.proofs.MadeLaws.{pick_suc}
 use Rattle.relations.specs.Columns.{attribute, pick}
 use Rattle.operations.specs.Aside.{aside}
 use Rattle.relations.specs.Limits.{column_limit}
-use lib.ListN.{length, take, length-set}
+use lib.ListN.{length, take}
 use Prim.Native.Nat.{◌≤◌, ◌-◌}
 use mathlib.Core.List.{map}
-use mathlib.Core.Path.{◌≡◌, refl}
-use native.Mathlib.Omega.{arith}
+use mathlib.Core.Path.{◌≡◌}
 use Rattle.operations.proofs.made.picked_row.Given as goal
 
 abbrev pub invariant-loop-i : goal.invariant-loop-i

@@ -8,7 +8,6 @@ use mathlib.Core.List.{[], ◌∷◌, map}
 use mathlib.Core.Path.{ap, ◌∙◌}
 use native.Mathlib.Omega.{arith}
 use native.Mathlib.Omega.{arith}
-use borrow.Author.Rules.{rules}
 use Rattle.operations.proofs.project.place_picked.Goals as goal
 
 pub returns : goal.returns

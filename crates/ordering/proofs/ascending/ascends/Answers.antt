@@ -1,15 +1,10 @@
-use Prim.Native.Nat.{ℕ, ◌≤◌, ◌-◌, ◌+◌, ◌*◌}
+use Prim.Native.Nat.{ℕ, ◌-◌}
 use mathlib.Core.Path.{◌≡◌, refl, sym, ap, ◌∙◌}
-use mathlib.Core.List.{List}
 use mathlib.Core.Bool.{Bool, true, false}
-use borrow.Author.Tests.{not-true, not-false}
-use Rattle.relations.specs.Rows.{row_before}
-use Rattle.values.specs.Words.{row_in}
 use Rattle.values.proofs.RowsLaws.{times_inside}
 use Rattle.sorting.specs.Numbers.{all_below}
 use Rattle.sorting.proofs.SortLaws.{all_none, all_turn}
 use Rattle.ordering.proofs.AscendLaws.{before-next}
-use borrow.Author.Rules.{rules}
 use native.Mathlib.Omega.{arith}
 use Rattle.ordering.proofs.ascending.ascends.Invariants.{ahead}
 use Rattle.ordering.proofs.ascending.ascends.Goals as goal

@@ -1,7 +1,5 @@
-use Prim.Native.Nat.{◌-◌}
 use Rattle.ordering.proofs.AscendLaws.{copied_makes, copied_full}
 use native.Mathlib.Omega.{arith}
-use borrow.Author.Rules.{rules}
 use Rattle.ordering.proofs.ascending.copy_ascending.Goals as goal
 
 pub returns-then-work-out : goal.returns-then-work-out

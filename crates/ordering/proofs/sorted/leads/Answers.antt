@@ -1,5 +1,5 @@
 use borrow.Author.Tests.{ne_eqb, eq-eqb}
-use Prim.Native.Nat.{◌≤◌, ◌-◌, ◌+◌}
+use Prim.Native.Nat.{◌-◌, ◌+◌}
 use mathlib.Core.Path.{◌≡◌, refl, sym, ap, ◌∙◌}
 use lib.ListN.{get_or}
 use mathlib.Core.Bool.{true, false}
@@ -7,8 +7,6 @@ use lib.Dec.{eqb}
 use borrow.Author.Tests.{le-leb, lt-leb}
 use Rattle.sorting.specs.Numbers.{all_below}
 use Rattle.sorting.proofs.SortLaws.{all_none, all_turn}
-use Rattle.ordering.specs.Offering.{leads}
-use borrow.Author.Rules.{rules}
 use native.Mathlib.Omega.{arith}
 use Rattle.ordering.proofs.sorted.leads.Goals as goal
 

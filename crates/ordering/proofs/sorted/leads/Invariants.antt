@@ -1,15 +1,9 @@
-use borrow.Author.Tests.{ne_eqb, eq-eqb}
-use Prim.Native.Nat.{◌≤◌, ◌-◌, ◌+◌}
-use mathlib.Core.Path.{◌≡◌, refl, sym, ap, ◌∙◌}
+use Prim.Native.Nat.{◌≤◌, ◌+◌}
+use mathlib.Core.Path.{◌≡◌}
 use lib.ListN.{get_or}
-use mathlib.Core.Bool.{true, false}
 use lib.Dec.{eqb}
-use borrow.Author.Tests.{le-leb, lt-leb}
 use Rattle.sorting.specs.Numbers.{all_below}
-use Rattle.sorting.proofs.SortLaws.{all_none, all_turn}
 use Rattle.ordering.specs.Offering.{leads}
-use borrow.Author.Rules.{rules}
-use native.Mathlib.Omega.{arith}
 use Rattle.ordering.proofs.sorted.leads.Given as goal
 
 abbrev pub invariant-loop-left : goal.invariant-loop-left

@@ -7,7 +7,6 @@ use Rattle.values.proofs.RowsLaws.{rows_at-wide}
 use Rattle.ordering.proofs.OfferLaws.{all_columns_lem}
 use Rattle.ordering.proofs.AscendLaws.{ascends_rows}
 use native.Mathlib.Omega.{arith}
-use borrow.Author.Rules.{rules}
 use Rattle.ordering.proofs.sorted.load.Goals as goal
 
 pub copy_ascending-requires : goal.copy_ascending-requires

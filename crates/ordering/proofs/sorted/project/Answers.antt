@@ -1,4 +1,3 @@
-use Prim.Native.Nat.{◌-◌}
 use mathlib.Core.List.{map}
 use Rattle.values.specs.Words.{rows_of}
 use Rattle.values.specs.Building.{Makes}
@@ -6,7 +5,6 @@ use Rattle.values.proofs.RowsLaws.{rows_at-wide}
 use Rattle.ordering.specs.Offering.{picked_row}
 use Rattle.ordering.proofs.OfferLaws.{picks_fit, project-rows}
 use native.Mathlib.Omega.{arith}
-use borrow.Author.Rules.{rules}
 use Rattle.ordering.proofs.sorted.project.Goals as goal
 
 pub take_rows-requires : goal.take_rows-requires

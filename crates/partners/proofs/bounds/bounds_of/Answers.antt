@@ -1,8 +1,7 @@
-use mathlib.Core.Path.{◌≡◌, refl, sym}
-use Prim.Native.Nat.{◌+◌, ◌*◌, ◌-◌, ◌≤◌}
-use lib.ListN.{length, get_or, length-set}
-use Rattle.relations.specs.Limits.{triple_limit}
-use Rattle.partners.proofs.BoundSteps.{Begins, bounding_here, none_before-next, none_behind_here, none_behind-next, begins-next}
+use mathlib.Core.Path.{refl, sym}
+use Prim.Native.Nat.{◌+◌, ◌*◌}
+use lib.ListN.{get_or, length-set}
+use Rattle.partners.proofs.BoundSteps.{bounding_here, none_before-next, none_behind_here, none_behind-next, begins-next}
 use native.Mathlib.Omega.{arith}
 use Rattle.partners.proofs.bounds.bounds_of.Goals as goal
 

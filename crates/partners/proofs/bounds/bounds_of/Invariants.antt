@@ -1,9 +1,8 @@
-use mathlib.Core.Path.{◌≡◌, refl, sym}
-use Prim.Native.Nat.{◌+◌, ◌*◌, ◌-◌, ◌≤◌}
-use lib.ListN.{length, get_or, length-set}
+use mathlib.Core.Path.{◌≡◌}
+use Prim.Native.Nat.{◌-◌, ◌≤◌}
+use lib.ListN.{length}
 use Rattle.relations.specs.Limits.{triple_limit}
-use Rattle.partners.proofs.BoundSteps.{Begins, bounding_here, none_before-next, none_behind_here, none_behind-next, begins-next}
-use native.Mathlib.Omega.{arith}
+use Rattle.partners.proofs.BoundSteps.{Begins}
 use Rattle.partners.proofs.bounds.bounds_of.Given as goal
 
 abbrev pub invariant-loop-k : goal.invariant-loop-k

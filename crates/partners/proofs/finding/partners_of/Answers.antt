@@ -7,7 +7,6 @@ use Rattle.values.proofs.RowsLaws.{length-rows_at}
 use Rattle.values.proofs.PlaceLaws.{before-most}
 use Rattle.values.proofs.BoundLaws.{filter_from_words}
 use native.Mathlib.Omega.{arith}
-use borrow.Author.Rules.{rules}
 use Rattle.partners.proofs.finding.partners_of.Goals as goal
 
 pub slice_bounds-rows_before-end : goal.slice_bounds-rows_before-end

@@ -1,7 +1,6 @@
 use mathlib.Core.Path.{sym}
 use Rattle.values.specs.Words.{rows_of}
 use Rattle.partners.proofs.BoundSteps.{none_before-nothing}
-use borrow.Author.Rules.{rules}
 use Rattle.partners.proofs.finding.rows_before.Goals as goal
 
 pub returns-then-bound-eq0 : goal.returns-then-bound-eq0

@@ -1,11 +1,5 @@
-use mathlib.Core.Path.{◌≡◌, refl, ◌∙◌}
-use mathlib.Core.Bool.{◌&&◌}
-use Prim.Native.Nat.{◌+◌, ◌*◌, ◌≤◌}
-use lib.ListN.{length, drop}
-use Rattle.relations.specs.Rows.{Row}
-use Rattle.relations.specs.Columns.{meets}
-use Rattle.operations.specs.Lists.{triples_in}
-use Rattle.partners.specs.Sieves.{sifts}
+use mathlib.Core.Path.{refl, ◌∙◌}
+use lib.ListN.{drop}
 use Rattle.partners.proofs.SieveLaws.{filled_step, filled_over}
 use native.Mathlib.Omega.{arith}
 use Rattle.partners.proofs.sieve.fill.Goals as goal
@@ -23,10 +17,10 @@ loop-more-preserved c = let s = c.args in let l = c.loop-more in (
   omega (arith, c.narrow-made.auto, l.invariant.2),
   λ right.
       filled_step s.list.now l.at l.more s.row.now right (omega arith) c.column_of-word.ensures (rw c.operator_of-operator.ensures at c.span_of-span.ensures) c.narrow-made.ensures ∙ l.invariant.3 right,
-    )
+)
 
 pub returns : goal.returns
 returns c = let s = c.args in let l = c.loop-more in record {
   room = omega (arith, l.invariant.2);
   same = λ right. filled_over l.made l.more l.sieve (drop l.at s.list.now) s.row.now right (omega arith) ∙ l.invariant.3 right;
-    }
+}

@@ -1,4 +1,4 @@
-use mathlib.Core.Path.{◌≡◌, refl, ◌∙◌}
+use mathlib.Core.Path.{◌≡◌}
 use mathlib.Core.Bool.{◌&&◌}
 use Prim.Native.Nat.{◌+◌, ◌*◌, ◌≤◌}
 use lib.ListN.{length, drop}
@@ -6,8 +6,6 @@ use Rattle.relations.specs.Rows.{Row}
 use Rattle.relations.specs.Columns.{meets}
 use Rattle.operations.specs.Lists.{triples_in}
 use Rattle.partners.specs.Sieves.{sifts}
-use Rattle.partners.proofs.SieveLaws.{filled_step, filled_over}
-use native.Mathlib.Omega.{arith}
 use Rattle.partners.proofs.sieve.fill.Given as goal
 
 abbrev pub invariant-loop-more : goal.invariant-loop-more

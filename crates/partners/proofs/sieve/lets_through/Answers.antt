@@ -1,9 +1,6 @@
-use mathlib.Core.Path.{◌≡◌, refl, sym, ◌∙◌}
-use Prim.Native.Nat.{◌+◌, ◌*◌, ◌≤◌}
-use lib.ListN.{length, drop}
-use Rattle.partners.specs.Sieves.{sifts}
+use mathlib.Core.Path.{refl, sym, ◌∙◌}
+use lib.ListN.{drop}
 use Rattle.partners.proofs.SieveLaws.{too_low, too_high, left_out, goes_on_lem, sifts-over}
-use borrow.Author.Rules.{rules}
 use native.Mathlib.Omega.{arith}
 use Rattle.partners.proofs.sieve.lets_through.Goals as goal
 

@@ -1,10 +1,7 @@
-use mathlib.Core.Path.{◌≡◌, refl, sym, ◌∙◌}
+use mathlib.Core.Path.{◌≡◌}
 use Prim.Native.Nat.{◌+◌, ◌*◌, ◌≤◌}
 use lib.ListN.{length, drop}
 use Rattle.partners.specs.Sieves.{sifts}
-use Rattle.partners.proofs.SieveLaws.{too_low, too_high, left_out, goes_on_lem, sifts-over}
-use borrow.Author.Rules.{rules}
-use native.Mathlib.Omega.{arith}
 use Rattle.partners.proofs.sieve.lets_through.Given as goal
 
 abbrev pub invariant-loop-more : goal.invariant-loop-more

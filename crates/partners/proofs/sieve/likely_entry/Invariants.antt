@@ -1,6 +1,5 @@
 use mathlib.Core.Path.{◌≡◌}
 use Prim.Native.Nat.{◌*◌, ◌-◌, ◌≤◌}
-use native.Mathlib.Omega.{arith}
 use Rattle.partners.proofs.sieve.likely_entry.Given as goal
 
 abbrev pub invariant-loop-i : goal.invariant-loop-i

@@ -3,7 +3,6 @@ use lib.ListN.{get_or, length-set}
 use Rattle.partners.proofs.SpanLaws.{span_both}
 use Rattle.partners.proofs.SieveLaws.{narrows_at, narrows_on}
 use native.Mathlib.Omega.{arith}
-use borrow.Author.Rules.{rules}
 use Rattle.partners.proofs.sieve.narrow.Goals as goal
 
 pub bounds-sieve-at-then-greater_of-ge-NO_WORD-2 : goal.bounds-sieve-at-then-greater_of-ge-NO_WORD-2

@@ -1,6 +1,5 @@
 use Rattle.partners.proofs.SpanLaws.{span_equal, span_unequal, span_less, span_at_most, span_none, span_greater, span_at_least}
 use native.Mathlib.Omega.{arith}
-use borrow.Author.Rules.{rules}
 use Rattle.partners.proofs.sieve.span_of.Goals as goal
 
 pub returns-then-x-eq0 : goal.returns-then-x-eq0

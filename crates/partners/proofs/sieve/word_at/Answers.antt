@@ -1,7 +1,6 @@
 use mathlib.Core.Path.{sym}
 use Rattle.operations.proofs.ListLaws.{word_inside, word_outside}
 use native.Mathlib.Omega.{arith}
-use borrow.Author.Rules.{rules}
 use Rattle.partners.proofs.sieve.word_at.Goals as goal
 
 pub returns-then-row-number : goal.returns-then-row-number

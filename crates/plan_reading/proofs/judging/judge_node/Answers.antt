@@ -1,5 +1,4 @@
 use mathlib.Core.Path.{sym, ap, ◌∙◌}
-use borrow.Author.Rules.{rules}
 use Rattle.plan_reading.specs.Decoding.{head_decoded}
 use Rattle.plan_reading.proofs.JudgeLaws.{head_of_legal, judged_legal, judged_illegal, judged_nothing}
 use Rattle.plan_reading.proofs.DecodeLaws.{Stands, stands}

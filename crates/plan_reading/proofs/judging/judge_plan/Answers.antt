@@ -1,4 +1,4 @@
-use Prim.Native.Nat.{◌≤◌, ◌-◌, ◌*◌, ◌+◌, ◌/◌}
+use Prim.Native.Nat.{◌-◌, ◌+◌, ◌/◌}
 use mathlib.Core.List.{[]}
 use mathlib.Core.Path.{◌≡◌, refl, sym, ap, ◌∙◌}
 use native.Mathlib.Nat.{sub-zero}
@@ -6,9 +6,8 @@ use native.Mathlib.Omega.{arith}
 use lib.Seq.{length-take-le}
 use lib.ListN.{length, take, drop, length-set, length-drop}
 use borrow.Author.Tests.{eq-eqb, ne_eqb, le-leb, lt-leb}
-use borrow.Author.Rules.{rules}
 use Rattle.relations.specs.PlanWords.{read_node}
-use Rattle.relations.specs.Limits.{plan_node_limit, plan_node_words}
+use Rattle.relations.specs.Limits.{plan_node_words}
 use Rattle.plan_reading.specs.declared.judging.PlanJudgement.TheVariants.{Legal}
 use Rattle.plan_reading.specs.Judging.{judged_node, judge_plan_nodes, plan_judgement, plan_numbers}
 use Rattle.plan_reading.proofs.JudgeLaws.{judge_onward, judge_stopped, judge_ended, judge_sized}

@@ -1,9 +1,5 @@
-use Prim.Native.Nat.{◌<◌, ◌+◌, ◌*◌}
-use mathlib.Core.Path.{◌≡◌, refl, sym, ◌∙◌}
+use mathlib.Core.Path.{refl, sym, ◌∙◌}
 use native.Mathlib.Omega.{arith}
-use lib.ListN.{length, drop}
-use Rattle.relations.specs.Legality.{distinct}
-use Rattle.plan_reading.specs.Decoding.{spaced}
 use Rattle.plan_reading.proofs.WordLaws.{distinct-onward, distinct-stopped, distinct-ended}
 use Rattle.plan_reading.proofs.legal.distinct_lefts.Goals as goal
 

@@ -1,10 +1,8 @@
 use Prim.Native.Nat.{◌<◌, ◌+◌, ◌*◌}
-use mathlib.Core.Path.{◌≡◌, refl, sym, ◌∙◌}
-use native.Mathlib.Omega.{arith}
+use mathlib.Core.Path.{◌≡◌}
 use lib.ListN.{length, drop}
 use Rattle.relations.specs.Legality.{distinct}
 use Rattle.plan_reading.specs.Decoding.{spaced}
-use Rattle.plan_reading.proofs.WordLaws.{distinct-onward, distinct-stopped, distinct-ended}
 use Rattle.plan_reading.proofs.legal.distinct_lefts.Given as goal
 
 -- `plan_reading::legal::distinct_lefts` meets its contract. The loop's invariant: the attributes are distinct if the `left` attributes from `at` on are. The measure is `left`.

@@ -1,11 +1,7 @@
-use Prim.Native.Nat.{◌<◌, ◌+◌, ◌*◌}
-use mathlib.Core.Path.{◌≡◌, refl, sym, ◌∙◌}
+use mathlib.Core.Path.{refl, sym, ◌∙◌}
 use native.Mathlib.Omega.{arith}
 use lib.Dec.{eqb}
-use lib.ListN.{length, drop}
 use borrow.Author.Tests.{eq-eqb, ne_eqb}
-use Rattle.relations.specs.Columns.{listed}
-use Rattle.plan_reading.specs.Decoding.{spaced}
 use Rattle.plan_reading.proofs.WordLaws.{any-onward, any-stopped, any-ended}
 use Rattle.plan_reading.proofs.legal.is_listed.Goals as goal
 

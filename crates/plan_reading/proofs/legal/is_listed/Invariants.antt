@@ -1,12 +1,8 @@
 use Prim.Native.Nat.{◌<◌, ◌+◌, ◌*◌}
-use mathlib.Core.Path.{◌≡◌, refl, sym, ◌∙◌}
-use native.Mathlib.Omega.{arith}
-use lib.Dec.{eqb}
+use mathlib.Core.Path.{◌≡◌}
 use lib.ListN.{length, drop}
-use borrow.Author.Tests.{eq-eqb, ne_eqb}
 use Rattle.relations.specs.Columns.{listed}
 use Rattle.plan_reading.specs.Decoding.{spaced}
-use Rattle.plan_reading.proofs.WordLaws.{any-onward, any-stopped, any-ended}
 use Rattle.plan_reading.proofs.legal.is_listed.Given as goal
 
 -- `plan_reading::legal::is_listed` meets its contract. The loop's invariant: the number is listed if it is among the `left` attributes from `at` on. The measure is `left`.

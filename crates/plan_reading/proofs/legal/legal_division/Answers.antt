@@ -1,4 +1,3 @@
-use borrow.Author.Rules.{rules}
 use Rattle.plan_reading.proofs.legal.legal_division.Goals as goal
 
 pub returns : goal.returns

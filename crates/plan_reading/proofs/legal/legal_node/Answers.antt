@@ -1,6 +1,5 @@
 use mathlib.Core.Path.{sym}
 use native.Mathlib.Omega.{arith}
-use borrow.Author.Rules.{rules}
 use Rattle.plan_reading.specs.declared.nodes.Operation.TheVariants.{Project, Join, Semijoin, Antijoin, Divide}
 use Rattle.catalogue.specs.Stored.{relations_of}
 use Rattle.plan_reading.proofs.LegalLaws.{count-within, legal-load, legal-project, legal_select_constant, legal_select_attribute, legal-join, legal-semijoin, legal-antijoin, legal-divide, legal-unite, legal-intersect, legal-subtract, legal-tally}

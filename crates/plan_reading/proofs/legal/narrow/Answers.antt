@@ -2,7 +2,6 @@ use Prim.Native.Nat.{◌+◌}
 use mathlib.Core.Path.{sym}
 use native.Mathlib.Omega.{arith}
 use borrow.Author.Tests.{lt-leb}
-use borrow.Author.Rules.{rules}
 use Rattle.relations.specs.Plan.{width_at}
 use Rattle.relations.specs.Limits.{column_limit}
 use Rattle.plan_reading.proofs.legal.narrow.Goals as goal

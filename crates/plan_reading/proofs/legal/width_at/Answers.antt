@@ -1,6 +1,5 @@
 use mathlib.Core.Path.{sym}
 use lib.ListN.{get_or-eq_default}
-use borrow.Author.Rules.{rules}
 use Rattle.plan_reading.proofs.legal.width_at.Goals as goal
 
 pub returns-else-place-widths : goal.returns-else-place-widths

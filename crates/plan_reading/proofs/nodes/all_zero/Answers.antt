@@ -1,9 +1,6 @@
-use Prim.Native.Nat.{◌-◌}
-use mathlib.Core.Path.{◌≡◌, refl, sym, ◌∙◌}
+use mathlib.Core.Path.{refl, sym, ◌∙◌}
 use native.Mathlib.Omega.{arith}
-use lib.ListN.{length, drop}
 use borrow.Author.Tests.{eq-eqb, ne_eqb}
-use Rattle.relations.specs.PlanWords.{all_zero}
 use Rattle.plan_reading.proofs.WordLaws.{zero_onward, zero_stopped, zero_ended}
 use Rattle.plan_reading.proofs.nodes.all_zero.Goals as goal
 

@@ -1,10 +1,7 @@
 use Prim.Native.Nat.{◌-◌}
-use mathlib.Core.Path.{◌≡◌, refl, sym, ◌∙◌}
-use native.Mathlib.Omega.{arith}
+use mathlib.Core.Path.{◌≡◌}
 use lib.ListN.{length, drop}
-use borrow.Author.Tests.{eq-eqb, ne_eqb}
 use Rattle.relations.specs.PlanWords.{all_zero}
-use Rattle.plan_reading.proofs.WordLaws.{zero_onward, zero_stopped, zero_ended}
 use Rattle.plan_reading.proofs.nodes.all_zero.Given as goal
 
 -- `plan_reading::nodes::all_zero` meets its contract. The loop's invariant: all words from `from` on are 0 if those from `at` on are. The measure is what is left of the words.

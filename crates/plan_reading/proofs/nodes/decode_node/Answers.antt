@@ -3,7 +3,6 @@ use mathlib.Core.Path.{refl, ap, ◌∙◌}
 use native.Mathlib.Omega.{arith}
 use lib.ListN.{get_or, take, drop}
 use borrow.Author.Tests.{ne_eqb}
-use borrow.Author.Rules.{rules}
 use Rattle.relations.specs.PlanWords.{read_triples, read_pairs}
 use Rattle.relations.specs.Nodes.{load, project, select_constant, select_attribute, join, semijoin, antijoin, divide, unite, intersect, subtract, tally, selecting_constant, selecting_attribute}
 use Rattle.relations.specs.Columns.{attribute, constant}

@@ -1,5 +1,4 @@
 use mathlib.Core.Path.{sym, ◌∙◌}
-use borrow.Author.Rules.{rules}
 use Rattle.plan_reading.proofs.nodes.decode_plain.Goals as goal
 
 pub returns-then-shape_fits : goal.returns-then-shape_fits

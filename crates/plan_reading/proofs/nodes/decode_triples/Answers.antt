@@ -2,7 +2,6 @@ use Prim.Native.Nat.{◌*◌, ◌≤◌}
 use mathlib.Core.Path.{◌≡◌, sym, ◌∙◌}
 use native.Mathlib.Omega.{arith}
 use lib.ListN.{get_or}
-use borrow.Author.Rules.{rules}
 use Rattle.relations.specs.Limits.{list_words}
 use Rattle.plan_reading.specs.Decoding.{operation_in, operators_known}
 use Rattle.plan_reading.proofs.ShapeLaws.{count_room}

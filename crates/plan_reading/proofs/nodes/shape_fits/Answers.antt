@@ -1,6 +1,5 @@
 use mathlib.Core.Path.{sym}
 use native.Mathlib.Omega.{arith}
-use borrow.Author.Rules.{rules}
 use Rattle.plan_reading.specs.Decoding.{operation_in}
 use Rattle.plan_reading.proofs.ShapeLaws.{fits_too_few, fits_too_many, fits_rest, fits-room}
 use Rattle.plan_reading.proofs.nodes.shape_fits.Goals as goal

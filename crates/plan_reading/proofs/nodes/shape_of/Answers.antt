@@ -1,4 +1,3 @@
-use borrow.Author.Rules.{rules}
 use Rattle.plan_reading.proofs.nodes.shape_of.Goals as goal
 
 pub returns-in-Load : goal.returns-in-Load

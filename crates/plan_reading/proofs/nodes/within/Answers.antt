@@ -1,10 +1,6 @@
-use Prim.Native.Nat.{◌<◌, ◌+◌, ◌*◌}
-use mathlib.Core.Path.{◌≡◌, refl, sym, ◌∙◌}
+use mathlib.Core.Path.{refl, sym, ◌∙◌}
 use native.Mathlib.Omega.{arith}
-use lib.ListN.{length, drop}
 use Rattle.relations.specs.Legality.{between}
-use Rattle.relations.specs.Lists.{all}
-use Rattle.plan_reading.specs.Decoding.{spaced}
 use Rattle.plan_reading.proofs.WordLaws.{step_room, all_onward, all_stopped, all_ended}
 use Rattle.plan_reading.proofs.nodes.within.Goals as goal
 

@@ -1,11 +1,9 @@
 use Prim.Native.Nat.{◌<◌, ◌+◌, ◌*◌}
-use mathlib.Core.Path.{◌≡◌, refl, sym, ◌∙◌}
-use native.Mathlib.Omega.{arith}
+use mathlib.Core.Path.{◌≡◌}
 use lib.ListN.{length, drop}
 use Rattle.relations.specs.Legality.{between}
 use Rattle.relations.specs.Lists.{all}
 use Rattle.plan_reading.specs.Decoding.{spaced}
-use Rattle.plan_reading.proofs.WordLaws.{step_room, all_onward, all_stopped, all_ended}
 use Rattle.plan_reading.proofs.nodes.within.Given as goal
 
 -- `plan_reading::nodes::within` meets its contract. The loop's invariant: the words asked for pass if the `left` words from `at` on do, and the last of them is inside.

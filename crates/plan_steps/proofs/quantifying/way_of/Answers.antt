@@ -11,7 +11,6 @@ use Rattle.plan_steps.specs.declared.quantifying.Wanted.TheVariants.{Itself}
 use Rattle.nodes.specs.declared.node.Quantifier.{Quantifier}
 use Rattle.nodes.specs.declared.node.Quantifier.TheVariants.{Some, Every}
 use Rattle.plan_steps.specs.declared.quantifying.Way.TheVariants.{ByRule, ByDivision, Plain}
-use borrow.Author.Rules.{rules}
 use Rattle.plan_steps.proofs.quantifying.way_of.Goals as goal
 
 -- a test by what the code has found
@@ -25,36 +24,36 @@ every_way : (short : Bool) {b d : Bool} {quantifier : Quantifier} (wanted : Want
 every_way short wanted x f e h i = ap (λ (q : Quantifier). way_of short q wanted x f) e ∙ ap₂ (λ (b d : Bool). cond b (ByRule S4) (cond d ByDivision Plain)) h i
 
 pub returns-then-short-rule_fits : goal.returns-then-short-rule_fits
-returns-then-short-rule_fits c = 
+returns-then-short-rule_fits c =
     let f : Condition = condition_at c.args.words.now c.args.condition in
     sym (some-way c.args.short c.args.x f c.in-Some.is c.in-Itself.is (tested c.args.short c.rule_fits.ensures c.if-short-rule_fits.true))
 
 pub returns-then-short-rule_fits-2 : goal.returns-then-short-rule_fits-2
-returns-then-short-rule_fits-2 c = 
+returns-then-short-rule_fits-2 c =
     let f : Condition = condition_at c.args.words.now c.args.condition in
     sym (every_way c.args.short c.args.wanted c.args.x f c.in-Every.is (tested c.args.short c.rule_fits-in-Every.ensures c.if-short-rule_fits-2.true) refl)
 
 pub returns-then-short-rule_fits-3 : goal.returns-then-short-rule_fits-3
-returns-then-short-rule_fits-3 c = 
+returns-then-short-rule_fits-3 c =
     let f : Condition = condition_at c.args.words.now c.args.condition in
     sym (every_way c.args.short c.args.wanted c.args.x f c.in-Every.is (tested c.args.short c.rule_fits-in-Every.ensures c.if-short-rule_fits-2.false) (tested c.args.short c.rule_fits-in-Every-2.ensures c.if-short-rule_fits-3.true))
 
 pub returns-else-short-rule_fits : goal.returns-else-short-rule_fits
-returns-else-short-rule_fits c = 
+returns-else-short-rule_fits c =
     let f : Condition = condition_at c.args.words.now c.args.condition in
     sym (some-way c.args.short c.args.x f c.in-Some.is c.in-Itself.is (tested c.args.short c.rule_fits.ensures c.if-short-rule_fits.false))
 
 pub returns-in-Opposite : goal.returns-in-Opposite
-returns-in-Opposite c = 
+returns-in-Opposite c =
     let f : Condition = condition_at c.args.words.now c.args.condition in
     sym (ap₂ (λ (q : Quantifier) (w : Wanted). way_of c.args.short q w c.args.x f) c.in-Some.is c.in-Opposite.is)
 
 pub returns-in-Division : goal.returns-in-Division
-returns-in-Division c = 
+returns-in-Division c =
     let f : Condition = condition_at c.args.words.now c.args.condition in
     sym (ap₂ (λ (q : Quantifier) (w : Wanted). way_of c.args.short q w c.args.x f) c.in-Some.is c.in-Division.is)
 
 pub returns-else-short-rule_fits-3 : goal.returns-else-short-rule_fits-3
-returns-else-short-rule_fits-3 c = 
+returns-else-short-rule_fits-3 c =
     let f : Condition = condition_at c.args.words.now c.args.condition in
     sym (every_way c.args.short c.args.wanted c.args.x f c.in-Every.is (tested c.args.short c.rule_fits-in-Every.ensures c.if-short-rule_fits-2.false) (tested c.args.short c.rule_fits-in-Every-2.ensures c.if-short-rule_fits-3.false))

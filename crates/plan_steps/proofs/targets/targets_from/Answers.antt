@@ -3,7 +3,7 @@ use Prim.Native.Nat.{◌-◌}
 use Rattle.conditions.specs.Readings.{reading_at}
 use Rattle.conditions.proofs.Readings.{made_is, targets_is}
 use Rattle.conditions.proofs.OtherNodes.{no_targets}
-use Rattle.plan_steps.proofs.TargetLaws.{TargetsLeft, targets_start, next-lower, target_ready, targets_on, targets_end, targets-done}
+use Rattle.plan_steps.proofs.TargetLaws.{targets_start, next-lower, target_ready, targets_on, targets_end, targets-done}
 use native.Mathlib.Omega.{arith}
 use Rattle.plan_steps.proofs.targets.targets_from.Goals as goal
 

@@ -11,14 +11,13 @@ use Rattle.conditions.specs.Scopes.{scope_of}
 use Rattle.emission.specs.declared.node_list.NodeList.{NodeList}
 use Rattle.emission.proofs.NodeListLaws.{names_attributes, lists_attributes}
 use Rattle.emission.proofs.WrittenLaws.{written_as}
-use borrow.Author.Rules.{rules}
 use Rattle.plan_steps.proofs.targets.write_targets.Goals as goal
 
 pub write_project-count-requires : goal.write_project-count-requires
 write_project-count-requires c = (lists_attributes (flat (target_columns (scope_of c.args.scope.now)) (targets_at c.args.words.now c.args.target)) c.targets_from-columns.ensures, c.requires.2)
 
 pub returns : goal.returns
-returns c = 
+returns c =
     let columns : List Attribute = flat (target_columns (scope_of c.args.scope.now)) (targets_at c.args.words.now c.args.target) in
     let listed = c.targets_from-columns.ensures in
     record {

@@ -1,4 +1,4 @@
-use Prim.Native.Nat.{◌+◌, ◌*◌, ◌-◌, max}
+use Prim.Native.Nat.{◌-◌}
 use mathlib.Core.Path.{refl, sym, ap, ◌∙◌}
 use Rattle.catalogue.specs.Stored.{columns_of}
 use Rattle.question.specs.Trees.{atom_of}
@@ -14,10 +14,7 @@ use Rattle.plan_writing.proofs.BindingSteps.{chain, binding_made, none_bound, ca
 use Rattle.plan_writing.proofs.AlphaSteps.{alpha_asked, call_first, scope_starts, call_rest, some-joined, call_condition, call_targets, alpha-done, no_alpha}
 use Rattle.plan_writing.proofs.ConditionSteps.{ready_as, written-restriction, written_none, and_written, or_written, atom-written, atom_step, and_step, or_step, not_step, quantifier_step, left_ready, left-written, right_ready, right-written, room-behind_both, inner_few, inner_ready, opposite-done, room-behind_inner, not_done}
 use Rattle.plan_writing.proofs.QuantifierSteps.{range_ready, few-nodes, inner_grows, room_inner, rule_ready, rule_way, divisor_way, division_way, plain_way, rule-done, division_done, plain_done, call_below, written_below, inside_ready, inside-written, some_met, room-kept}
-use borrow.Author.Rules.{rules}
 use native.Mathlib.Omega.{arith}
-use Prim.Native.Nat.{ℕ, ◌<◌}
-use borrow.Fn.Kinds.{In}
 use Rattle.plan_writing.proofs.translate.+translate_alpha_translate_bindings_translate_condition_translate_part_translate_quantifier_translate_range_translate_ranges.Goals as goal
 
 pub translate_alpha-overflow_sub-binding : goal.translate_alpha-overflow_sub-binding

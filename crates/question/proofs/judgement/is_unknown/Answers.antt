@@ -1,4 +1,3 @@
-use borrow.Author.Rules.{rules}
 use Rattle.question.proofs.judgement.is_unknown.Goals as goal
 
 pub returns-in-Table : goal.returns-in-Table

@@ -1,6 +1,5 @@
 use Rattle.question.specs.Walk.{judged_by_walk}
 use mathlib.Core.Path.{sym, ◌∙◌}
-use borrow.Author.Rules.{rules}
 use Rattle.question.proofs.judgement.judge.Goals as goal
 
 pub judge_nodes-requires : goal.judge_nodes-requires

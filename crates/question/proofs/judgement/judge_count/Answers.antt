@@ -1,4 +1,3 @@
-use borrow.Author.Rules.{rules}
 use Rattle.question.proofs.judgement.judge_count.Goals as goal
 
 pub returns-then-count_ok : goal.returns-then-count_ok

@@ -2,7 +2,6 @@ use Rattle.question.proofs.Judgements.{ill_refused, once-refused, tree_judged, l
 use Rattle.question.proofs.Counts.{counted, lowest_not_once_lem}
 use mathlib.Core.Path.{refl, sym, ◌∙◌}
 use native.Mathlib.Omega.{arith}
-use borrow.Author.Rules.{rules}
 use Rattle.question.proofs.judgement.judge_nodes.Goals as goal
 
 -- `question::judgement::judge_nodes` meets its contract. Each return is the case of `judge_nodes` that the tests before it decide; no node refers to the last, so the search over 64 nodes ends there. Assumes nothing.

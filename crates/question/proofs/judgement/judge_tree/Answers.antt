@@ -5,7 +5,6 @@ use Rattle.question.specs.Trees.{question_tree}
 use Rattle.catalogue.specs.Stored.{columns_of}
 use mathlib.Core.Path.{◌∙◌}
 use native.Mathlib.Omega.{arith}
-use borrow.Author.Rules.{rules}
 use Rattle.question.proofs.judgement.judge_tree.Goals as goal
 
 pub returns-then-unknown-nodes : goal.returns-then-unknown-nodes

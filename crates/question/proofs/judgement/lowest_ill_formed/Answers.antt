@@ -1,8 +1,6 @@
 use Rattle.question.proofs.Searches.{search_start, search_found, search_on, search_end}
-use Rattle.nodes.specs.References.{lowest, first_from}
 use Rattle.nodes.specs.Nodes.{node_at, is_ill_formed}
-use mathlib.Core.Path.{◌≡◌, sym, ◌∙◌}
-use Prim.Native.Nat.{◌≤◌, ◌-◌}
+use mathlib.Core.Path.{sym, ◌∙◌}
 use native.Mathlib.Omega.{arith}
 use Rattle.question.proofs.judgement.lowest_ill_formed.Goals as goal
 

@@ -1,9 +1,7 @@
-use Rattle.question.proofs.Searches.{search_start, search_found, search_on, search_end}
 use Rattle.nodes.specs.References.{lowest, first_from}
 use Rattle.nodes.specs.Nodes.{node_at, is_ill_formed}
-use mathlib.Core.Path.{◌≡◌, sym, ◌∙◌}
+use mathlib.Core.Path.{◌≡◌}
 use Prim.Native.Nat.{◌≤◌, ◌-◌}
-use native.Mathlib.Omega.{arith}
 use Rattle.question.proofs.judgement.lowest_ill_formed.Given as goal
 
 -- `question::judgement::lowest_ill_formed` meets its contract. The loop's invariant: the lowest such node is the lowest from `i` on. The measure is the number of nodes left. Assumes nothing.

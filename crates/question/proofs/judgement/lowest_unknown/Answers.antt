@@ -1,9 +1,7 @@
 use Rattle.question.proofs.Searches.{search_start, search_found, search_on, search_end}
-use Rattle.nodes.specs.References.{lowest, first_from}
 use Rattle.question.specs.Judgement.{is_unknown}
 use Rattle.nodes.specs.Nodes.{node_at}
-use mathlib.Core.Path.{◌≡◌, sym, ◌∙◌}
-use Prim.Native.Nat.{◌≤◌, ◌-◌}
+use mathlib.Core.Path.{sym, ◌∙◌}
 use native.Mathlib.Omega.{arith}
 use Rattle.question.proofs.judgement.lowest_unknown.Goals as goal
 

@@ -1,10 +1,8 @@
-use Rattle.question.proofs.Searches.{search_start, search_found, search_on, search_end}
 use Rattle.nodes.specs.References.{lowest, first_from}
 use Rattle.question.specs.Judgement.{is_unknown}
 use Rattle.nodes.specs.Nodes.{node_at}
-use mathlib.Core.Path.{◌≡◌, sym, ◌∙◌}
+use mathlib.Core.Path.{◌≡◌}
 use Prim.Native.Nat.{◌≤◌, ◌-◌}
-use native.Mathlib.Omega.{arith}
 use Rattle.question.proofs.judgement.lowest_unknown.Given as goal
 
 -- `question::judgement::lowest_unknown` meets its contract. The loop's invariant: the lowest such node is the lowest from `i` on. The measure is the number of nodes left. Assumes nothing.

@@ -8,10 +8,8 @@ use Rattle.node_judging.specs.Steps.{no_widths, bound_by}
 use Rattle.relations.specs.Limits.{variable_count}
 use Rattle.question.proofs.TreeLaws.{tree_of_reference, tree_of_none}
 use Rattle.question.proofs.WalkLaws.{is_alpha_form, bound-within, is_binder, no_a, other_bound, none_walked, none_bound, alpha-walked, node_walked, binding_walked, other_walked, so_far_walked, so_far_bound, so_far_judged, back_again}
-use borrow.Author.Rules.{rules}
 use native.Mathlib.Omega.{arith}
-use Prim.Native.Nat.{ℕ, ◌+◌, ◌*◌, ◌-◌, ◌<◌}
-use borrow.Fn.Kinds.{In}
+use Prim.Native.Nat.{◌-◌, ◌<◌}
 use Rattle.question.proofs.walking.+walk_walk_bindings.Goals as goal
 
 pub walk-returns-then-reference-eq0 : goal.walk-returns-then-reference-eq0

@@ -5,7 +5,6 @@ use Rattle.emission.proofs.WrittenLaws.{room_after, room-less, written_as}
 use Rattle.emission.specs.NodeLists.{node_list}
 use Rattle.conditions.specs.Leaves.{atoms_of}
 use Rattle.conditions.specs.Scopes.{scope_of}
-use Rattle.calculus.specs.Question.{Atom}
 use Rattle.calculus.specs.ShortRules.{outside_triples, division_pairs}
 use Rattle.calculus.specs.Leaves.{equates_with, equates_outside}
 use Rattle.relations.specs.Columns.{Triple, Pair}
@@ -23,11 +22,11 @@ pub outside_triples-triples-requires : goal.outside_triples-triples-requires
 outside_triples-triples-requires c = (c.requires.0, c.requires.1.rule.leaves-fit, c.requires.1.few_outside)
 
 pub overflow_add-triples : goal.overflow_add-triples
-overflow_add-triples c = 
+overflow_add-triples c =
     omega (arith, outside_count (scope_of c.args.scope.now) c.args.z c.args.y ((atoms_of c.args.words.now false c.args.leaves.now)) c.outside_triples-triples.ensures, c.requires.1.few_outside)
 
 pub division_pairs-pairs-requires : goal.division_pairs-pairs-requires
-division_pairs-pairs-requires c = 
+division_pairs-pairs-requires c =
     (c.requires.1.rule.leaves-fit, c.requires.1.few_shared, omega (arith, outside_count (scope_of c.args.scope.now) c.args.z c.args.y ((atoms_of c.args.words.now false c.args.leaves.now)) c.outside_triples-triples.ensures, c.requires.1.few_outside))
 
 pub write_dividend-q-requires : goal.write_dividend-q-requires
@@ -42,22 +41,22 @@ pub overflow_sub-q : goal.overflow_sub-q
 overflow_sub-q c = omega (arith, c.requires.1.rule.some-nodes, c.write_dividend-q.ensures.counted)
 
 pub link-divided-requires : goal.link-divided-requires
-link-divided-requires c = 
+link-divided-requires c =
     let r = room_after 4 c.requires.1.rule.room c.write_dividend-q.ensures (omega (arith, dividend_size c.args.y c.args.z c.args.width ((atoms_of c.args.words.now false c.args.leaves.now)) c.args.n)) in
     (room-less 1 r (omega arith), lists_pairs ((division_pairs c.args.z (filter (equates_with c.args.z c.args.y) ((atoms_of c.args.words.now false c.args.leaves.now))) (suc (length (filter (equates_outside c.args.z c.args.y) ((atoms_of c.args.words.now false c.args.leaves.now))))))) ((let the-fact : c.division_pairs-pairs.result ≡ node_list (flat pair_words ((division_pairs c.args.z (filter (equates_with c.args.z c.args.y) ((atoms_of c.args.words.now false c.args.leaves.now))) (suc (length (filter (equates_outside c.args.z c.args.y) ((atoms_of c.args.words.now false c.args.leaves.now)))))))) = pairs-counted (scope_of c.args.scope.now) c.args.z c.args.y ((atoms_of c.args.words.now false c.args.leaves.now)) c.outside_triples-triples.ensures c.division_pairs-pairs.ensures in the-fact)))
 
 pub link-matched-requires : goal.link-matched-requires
-link-matched-requires c = 
+link-matched-requires c =
     let r = room_after 4 c.requires.1.rule.room c.write_dividend-q.ensures (omega (arith, dividend_size c.args.y c.args.z c.args.width ((atoms_of c.args.words.now false c.args.leaves.now)) c.args.n)) in
     (room_after 1 r c.link-divided.ensures (omega arith), lists_triples ((outside_triples (scope_of c.args.scope.now) c.args.z (filter (equates_outside c.args.z c.args.y) ((atoms_of c.args.words.now false c.args.leaves.now))) 1)) c.outside_triples-triples.ensures)
 
 pub link-unmatched-requires : goal.link-unmatched-requires
-link-unmatched-requires c = 
+link-unmatched-requires c =
     let r = room_after 4 c.requires.1.rule.room c.write_dividend-q.ensures (omega (arith, dividend_size c.args.y c.args.z c.args.width ((atoms_of c.args.words.now false c.args.leaves.now)) c.args.n)) in
     (room_after 1 (room_after 3 r c.link-divided.ensures (omega arith)) c.link-matched.ensures (omega arith), lists_triples [] c.no_list.ensures)
 
 pub pair-requires : goal.pair-requires
-pair-requires c = 
+pair-requires c =
     let r = room_after 4 c.requires.1.rule.room c.write_dividend-q.ensures (omega (arith, dividend_size c.args.y c.args.z c.args.width ((atoms_of c.args.words.now false c.args.leaves.now)) c.args.n)) in
     room_after 1 (room_after 2 (room_after 3 r c.link-divided.ensures (omega arith)) c.link-matched.ensures (omega arith)) c.link-unmatched.ensures (omega arith)
 
@@ -65,7 +64,7 @@ pub shape_of-plan : goal.shape_of-plan
 shape_of-plan c = (((c.pair.auto.plan ∙ c.link-unmatched.auto.plan) ∙ c.link-matched.auto.plan) ∙ c.link-divided.auto.plan) ∙ c.write_dividend-q.auto.plan
 
 pub returns : goal.returns
-returns c = 
+returns c =
     let q = c.write_dividend-q.result in
     division_written
     c.write_dividend-q.ensures

@@ -9,14 +9,13 @@ use Rattle.relations.specs.Columns.{attribute, constant}
 use mathlib.Core.List.{[], ◌∷◌}
 use mathlib.Core.Path.{sym, ap, ap₂, ◌∙◌}
 use Prim.Native.Nat.{ℕ}
-use borrow.Author.Rules.{rules}
 use Rattle.rule_writing.proofs.rules.write_select.Goals as goal
 
 pub column_of-with-requires : goal.column_of-with-requires
 column_of-with-requires c = (c.requires.0, rw c.in-Of.is at c.requires.1.operand)
 
 pub returns-in-Of : goal.returns-in-Of
-returns-in-Of c = 
+returns-in-Of c =
     let a = c.args.atom in
     let o = operator_named a.operator in
     written_as
@@ -25,7 +24,7 @@ returns-in-Of c =
     c.select.ensures
 
 pub returns-in-Fixed : goal.returns-in-Fixed
-returns-in-Fixed c = 
+returns-in-Fixed c =
     let a = c.args.atom in
     let o = operator_named a.operator in
     written_as

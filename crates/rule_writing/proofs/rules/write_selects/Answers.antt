@@ -2,16 +2,15 @@ use Rattle.short_rules.proofs.LeafSteps.{rest, count_next}
 use Rattle.rule_writing.proofs.RuleLaws.{alone_count, selects_next}
 use Rattle.calculus.proofs.SizeTheorem.{selects_size}
 use Rattle.calculus.specs.Question as calculus
-use Prim.Native.Nat.{◌-◌, ℕ, ◌+◌, ◌≤◌, pred}
+use Prim.Native.Nat.{◌-◌, ℕ, ◌+◌, pred}
 use Rattle.emission.proofs.WrittenLaws.{written_then, written-nothing, written-length, room_after, room-less, written_as}
-use Rattle.emission.specs.Written.{Room, Written}
-use Rattle.conditions.specs.Leaves.{leaf_count, leaf_at, atoms_of}
+use Rattle.conditions.specs.Leaves.{leaf_at}
 use Rattle.conditions.specs.Scopes.{scope_of}
 use Rattle.calculus.specs.ShortRules.{select_nodes}
 use Rattle.calculus.specs.Leaves.{alone_on}
 use Rattle.relations.specs.Lists.{filter}
 use lib.ListN.{length}
-use mathlib.Core.List.{List, [], ◌∷◌}
+use mathlib.Core.List.{[], ◌∷◌}
 use mathlib.Core.Path.{◌≡◌, refl, ap, sym}
 use native.Mathlib.Omega.{arith}
 use Rattle.rule_writing.proofs.rules.write_selects.Goals as goal
@@ -23,7 +22,7 @@ pub leaf-requires : goal.leaf-requires
 leaf-requires c = (c.requires.1, omega arith)
 
 pub write_if_alone-count-requires : goal.write_if_alone-count-requires
-write_if_alone-count-requires c = 
+write_if_alone-count-requires c =
     let l = c.loop-left in
     let words = c.args.words.now in
     let a = ap (alone_on c.args.x) c.leaf.ensures.0 in
@@ -33,7 +32,7 @@ write_if_alone-count-requires c =
     (c.requires.0, c.leaf.ensures.1, l.invariant.1, room-less _ l.invariant.2 (omega (arith, ap length f, g, k)))
 
 pub loop-left-preserved : goal.loop-left-preserved
-loop-left-preserved c = 
+loop-left-preserved c =
     let l = c.loop-left in
     let words = c.args.words.now in
     let f = ap (λ (b : calculus.Atom). filter (alone_on c.args.x) (b ∷ [])) c.leaf.ensures.0 in

@@ -1,19 +1,14 @@
-use Rattle.short_rules.proofs.LeafSteps.{rest, count_next}
-use Rattle.rule_writing.proofs.RuleLaws.{alone_count, selects_next}
-use Rattle.calculus.proofs.SizeTheorem.{selects_size}
-use Rattle.calculus.specs.Question as calculus
-use Prim.Native.Nat.{◌-◌, ℕ, ◌+◌, ◌≤◌, pred}
-use Rattle.emission.proofs.WrittenLaws.{written_then, written-nothing, written-length, room_after, room-less, written_as}
+use Rattle.short_rules.proofs.LeafSteps.{rest}
+use Prim.Native.Nat.{ℕ, ◌+◌, ◌≤◌, pred}
 use Rattle.emission.specs.Written.{Room, Written}
-use Rattle.conditions.specs.Leaves.{leaf_count, leaf_at, atoms_of}
+use Rattle.conditions.specs.Leaves.{leaf_count, atoms_of}
 use Rattle.conditions.specs.Scopes.{scope_of}
 use Rattle.calculus.specs.ShortRules.{select_nodes}
 use Rattle.calculus.specs.Leaves.{alone_on}
 use Rattle.relations.specs.Lists.{filter}
 use lib.ListN.{length}
-use mathlib.Core.List.{List, [], ◌∷◌}
-use mathlib.Core.Path.{◌≡◌, refl, ap, sym}
-use native.Mathlib.Omega.{arith}
+use mathlib.Core.List.{List}
+use mathlib.Core.Path.{◌≡◌}
 use Rattle.rule_writing.proofs.rules.write_selects.Given as goal
 
 abbrev pub invariant-loop-left : goal.invariant-loop-left

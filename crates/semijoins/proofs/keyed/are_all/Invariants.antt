@@ -1,6 +1,5 @@
-use mathlib.Core.Path.{◌≡◌, refl}
+use mathlib.Core.Path.{◌≡◌}
 use Prim.Native.Nat.{◌+◌, ◌-◌, ◌≤◌}
-use native.Mathlib.Omega.{arith}
 use Rattle.semijoins.proofs.keyed.are_all.Given as goal
 
 abbrev pub invariant-loop-i : goal.invariant-loop-i

@@ -1,7 +1,4 @@
 use mathlib.Core.Path.{◌≡◌, refl, sym, ◌∙◌}
-use Prim.Native.Nat.{◌+◌, ◌*◌, ◌-◌, ◌≤◌}
-use lib.ListN.{length, drop}
-use Rattle.semijoins.specs.Keys.{renumbers}
 use Rattle.semijoins.proofs.KeyLaws.{renumbers-left, renumbers-operator, renumbers-right, renumbers_on}
 use native.Mathlib.Omega.{arith}
 use Rattle.semijoins.proofs.keyed.are_renumbered.Goals as goal

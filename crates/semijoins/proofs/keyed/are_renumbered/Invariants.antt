@@ -1,9 +1,7 @@
-use mathlib.Core.Path.{◌≡◌, refl, sym, ◌∙◌}
-use Prim.Native.Nat.{◌+◌, ◌*◌, ◌-◌, ◌≤◌}
+use mathlib.Core.Path.{◌≡◌}
+use Prim.Native.Nat.{◌+◌, ◌*◌, ◌≤◌}
 use lib.ListN.{length, drop}
 use Rattle.semijoins.specs.Keys.{renumbers}
-use Rattle.semijoins.proofs.KeyLaws.{renumbers-left, renumbers-operator, renumbers-right, renumbers_on}
-use native.Mathlib.Omega.{arith}
 use Rattle.semijoins.proofs.keyed.are_renumbered.Given as goal
 
 abbrev pub invariant-loop-more : goal.invariant-loop-more

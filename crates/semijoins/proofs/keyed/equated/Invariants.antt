@@ -1,6 +1,5 @@
 use Prim.Native.Nat.{◌-◌, ◌≤◌}
 use Rattle.relations.specs.Limits.{column_limit}
-use native.Mathlib.Omega.{arith}
 use Rattle.semijoins.proofs.keyed.equated.Given as goal
 
 abbrev pub invariant-loop-number : goal.invariant-loop-number

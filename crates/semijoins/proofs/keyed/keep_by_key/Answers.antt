@@ -1,10 +1,8 @@
-use Prim.Native.Nat.{◌-◌}
 use lib.Seq.{take-length}
 use Rattle.values.specs.Words.{rows_of}
 use Rattle.operations.specs.Lists.{triples_in}
 use Rattle.semijoins.proofs.TriedLaws.{made_room, keys_built, keys_none, keys_made, tried_short, tried_made}
 use native.Mathlib.Omega.{arith}
-use borrow.Author.Rules.{rules}
 use Rattle.semijoins.proofs.keyed.keep_by_key.Goals as goal
 
 pub project-requires : goal.project-requires

@@ -1,8 +1,5 @@
-use Prim.Native.Nat.{◌-◌}
 use Rattle.values.proofs.MakeLaws.{builds_makes}
 use Rattle.semijoins.proofs.TriedLaws.{tried_told}
-use native.Mathlib.Omega.{arith}
-use borrow.Author.Rules.{rules}
 use Rattle.semijoins.proofs.keyed.keep_wanted.Goals as goal
 
 pub keep_by_rows-requires : goal.keep_by_rows-requires

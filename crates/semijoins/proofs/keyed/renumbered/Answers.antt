@@ -1,7 +1,5 @@
-use mathlib.Core.Path.{◌≡◌, refl}
-use Prim.Native.Nat.{◌-◌, ◌≤◌}
-use lib.ListN.{length, length-set}
-use Rattle.relations.specs.Limits.{column_limit}
+use mathlib.Core.Path.{refl}
+use lib.ListN.{length-set}
 use native.Mathlib.Omega.{arith}
 use Rattle.semijoins.proofs.keyed.renumbered.Goals as goal
 

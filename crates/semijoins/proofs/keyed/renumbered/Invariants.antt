@@ -1,8 +1,7 @@
-use mathlib.Core.Path.{◌≡◌, refl}
+use mathlib.Core.Path.{◌≡◌}
 use Prim.Native.Nat.{◌-◌, ◌≤◌}
-use lib.ListN.{length, length-set}
+use lib.ListN.{length}
 use Rattle.relations.specs.Limits.{column_limit}
-use native.Mathlib.Omega.{arith}
 use Rattle.semijoins.proofs.keyed.renumbered.Given as goal
 
 abbrev pub invariant-loop-i : goal.invariant-loop-i

@@ -1,5 +1,4 @@
 use Prim.Native.Nat.{◌-◌, ◌≤◌}
-use native.Mathlib.Omega.{arith}
 use Rattle.semijoins.proofs.keyed.triple_with.Given as goal
 
 abbrev pub invariant-loop-i : goal.invariant-loop-i

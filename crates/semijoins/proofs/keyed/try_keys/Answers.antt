@@ -1,11 +1,9 @@
 use mathlib.Core.Path.{◌≡◌, refl, sym, ◌∙◌}
-use Prim.Native.Nat.{◌-◌}
 use lib.ListN.{length, take}
 use lib.Seq.{length-take-le}
 use Rattle.values.specs.Words.{rows_of}
 use Rattle.semijoins.proofs.KeyLaws.{wanted_by_key}
 use native.Mathlib.Omega.{arith}
-use borrow.Author.Rules.{rules}
 use Rattle.semijoins.proofs.keyed.try_keys.Goals as goal
 
 pub returns-then-left-lt4 : goal.returns-then-left-lt4

@@ -1,5 +1,3 @@
-use Prim.Native.Nat.{◌-◌, ◌≤◌}
-use Rattle.relations.specs.Limits.{column_limit}
 use native.Mathlib.Omega.{arith}
 use Rattle.semijoins.proofs.keyed.with_rank.Goals as goal
 

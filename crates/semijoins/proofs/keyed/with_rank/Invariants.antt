@@ -1,6 +1,5 @@
 use Prim.Native.Nat.{◌-◌, ◌≤◌}
 use Rattle.relations.specs.Limits.{column_limit}
-use native.Mathlib.Omega.{arith}
 use Rattle.semijoins.proofs.keyed.with_rank.Given as goal
 
 abbrev pub invariant-loop-i : goal.invariant-loop-i

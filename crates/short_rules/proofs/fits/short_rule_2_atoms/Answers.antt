@@ -1,11 +1,11 @@
 use Rattle.relations.specs.Limits.{triple_limit}
-use Prim.Native.Nat.{ℕ, ◌+◌, ◌≤◌}
+use Prim.Native.Nat.{ℕ}
 use lib.Dec.{leb}
 use mathlib.Core.Bool.{false, and-true, ◌&&◌, ◌||◌}
-use Rattle.short_rules.proofs.LeafSteps.{rest, all_next, count_next}
-use Rattle.conditions.specs.Leaves.{leaf_count, atoms_of}
+use Rattle.short_rules.proofs.LeafSteps.{all_next, count_next}
+use Rattle.conditions.specs.Leaves.{atoms_of}
 use Rattle.calculus.specs.Leaves.{alone_on, compares_with_other}
-use Rattle.relations.specs.Lists.{all, filter}
+use Rattle.relations.specs.Lists.{filter}
 use lib.ListN.{length}
 use mathlib.Core.Path.{◌≡◌, refl, ap, ap₂, sym, ◌∙◌}
 use native.Mathlib.Omega.{arith}
@@ -21,7 +21,7 @@ pub overflow_add-comparing : goal.overflow_add-comparing
 overflow_add-comparing c = omega (arith, c.once-comparing.ensures.1)
 
 pub loop-left-preserved : goal.loop-left-preserved
-loop-left-preserved c = 
+loop-left-preserved c =
     let l = c.loop-left in
     let words = c.args.words.now in
     let a = c.leaf-atom.ensures.0 in

@@ -1,14 +1,11 @@
-use Rattle.relations.specs.Limits.{triple_limit}
-use Prim.Native.Nat.{ℕ, ◌+◌, ◌≤◌}
-use lib.Dec.{leb}
-use mathlib.Core.Bool.{false, and-true, ◌&&◌, ◌||◌}
-use Rattle.short_rules.proofs.LeafSteps.{rest, all_next, count_next}
+use Prim.Native.Nat.{◌+◌, ◌≤◌}
+use mathlib.Core.Bool.{false, ◌&&◌, ◌||◌}
+use Rattle.short_rules.proofs.LeafSteps.{rest}
 use Rattle.conditions.specs.Leaves.{leaf_count, atoms_of}
 use Rattle.calculus.specs.Leaves.{alone_on, compares_with_other}
 use Rattle.relations.specs.Lists.{all, filter}
 use lib.ListN.{length}
-use mathlib.Core.Path.{◌≡◌, refl, ap, ap₂, sym, ◌∙◌}
-use native.Mathlib.Omega.{arith}
+use mathlib.Core.Path.{◌≡◌}
 use Rattle.short_rules.proofs.fits.short_rule_2_atoms.Given as goal
 
 abbrev pub invariant-loop-left : goal.invariant-loop-left

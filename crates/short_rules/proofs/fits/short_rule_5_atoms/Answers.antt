@@ -1,13 +1,13 @@
 use Rattle.relations.specs.Limits.{pair_limit, triple_limit}
-use Rattle.short_rules.proofs.LeafSteps.{rest, all_next, count_next}
-use Rattle.conditions.specs.Leaves.{leaf_count, atoms_of}
+use Rattle.short_rules.proofs.LeafSteps.{all_next, count_next}
+use Rattle.conditions.specs.Leaves.{atoms_of}
 use Rattle.calculus.specs.Leaves.{alone_on, equates_with, equates_outside}
-use Rattle.relations.specs.Lists.{all, filter}
+use Rattle.relations.specs.Lists.{filter}
 use Rattle.relations.specs.Legality.{between}
 use lib.ListN.{length}
 use mathlib.Core.Bool.{false, ◌&&◌, ◌||◌, and-true}
 use mathlib.Core.Path.{◌≡◌, refl, ap, ap₂, sym, ◌∙◌}
-use Prim.Native.Nat.{ℕ, ◌+◌, ◌≤◌}
+use Prim.Native.Nat.{ℕ}
 use native.Mathlib.Omega.{arith}
 use Rattle.short_rules.proofs.fits.short_rule_5_atoms.Goals as goal
 
@@ -30,7 +30,7 @@ pub overflow_add-outside : goal.overflow_add-outside
 overflow_add-outside c = omega (arith, c.once-outside.ensures.1)
 
 pub loop-left-preserved : goal.loop-left-preserved
-loop-left-preserved c = 
+loop-left-preserved c =
     let l = c.loop-left in
     let words = c.args.words.now in
     let a = c.leaf-atom.ensures.0 in
@@ -46,7 +46,7 @@ loop-left-preserved c =
     )
 
 pub returns : goal.returns
-returns c = 
+returns c =
     let l = c.loop-left in
     let atoms = atoms_of c.args.words.now false c.args.leaves.now in
     let e : l.left ≡ 0 = omega arith in

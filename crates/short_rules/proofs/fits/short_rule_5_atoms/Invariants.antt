@@ -1,14 +1,11 @@
-use Rattle.relations.specs.Limits.{pair_limit, triple_limit}
-use Rattle.short_rules.proofs.LeafSteps.{rest, all_next, count_next}
+use Rattle.short_rules.proofs.LeafSteps.{rest}
 use Rattle.conditions.specs.Leaves.{leaf_count, atoms_of}
 use Rattle.calculus.specs.Leaves.{alone_on, equates_with, equates_outside}
 use Rattle.relations.specs.Lists.{all, filter}
-use Rattle.relations.specs.Legality.{between}
 use lib.ListN.{length}
-use mathlib.Core.Bool.{false, ◌&&◌, ◌||◌, and-true}
-use mathlib.Core.Path.{◌≡◌, refl, ap, ap₂, sym, ◌∙◌}
-use Prim.Native.Nat.{ℕ, ◌+◌, ◌≤◌}
-use native.Mathlib.Omega.{arith}
+use mathlib.Core.Bool.{false, ◌&&◌, ◌||◌}
+use mathlib.Core.Path.{◌≡◌}
+use Prim.Native.Nat.{◌+◌, ◌≤◌}
 use Rattle.short_rules.proofs.fits.short_rule_5_atoms.Given as goal
 
 abbrev pub invariant-loop-left : goal.invariant-loop-left

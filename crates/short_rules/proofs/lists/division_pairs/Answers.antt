@@ -1,27 +1,25 @@
 use Rattle.short_rules.proofs.ListLaws.{pairs-size}
 use Rattle.short_rules.proofs.LeafSteps.{rest, pairs_next}
-use Rattle.relations.specs.Limits.{list_words}
 use Rattle.calculus.specs.ShortRules.{division_pairs}
 use Rattle.calculus.specs.Leaves.{equates_with}
 use Rattle.relations.specs.PlanWords.{pair_words}
 use Rattle.emission.proofs.NodeListLaws.{grown_used, grown_step, grown_none, grown-list}
 use Rattle.emission.specs.declared.node_list.NodeList.{NodeList}
-use Rattle.emission.specs.NodeLists.{node_list, grown_by}
+use Rattle.emission.specs.NodeLists.{grown_by}
 use Rattle.conditions.specs.Atoms.{sides_of}
 use Rattle.conditions.specs.declared.atom.Sides.{Sides}
-use Rattle.conditions.specs.Leaves.{leaf_count, atoms_of}
+use Rattle.conditions.specs.Leaves.{atoms_of}
 use Rattle.relations.specs.Lists.{flat, filter}
 use lib.ListN.{length, length-append}
 use mathlib.Core.List.{[], ◌∷◌}
 use mathlib.Core.Bool.{false, cond}
 use mathlib.Core.Path.{◌≡◌, refl, ap, sym, ◌∙◌}
-use Prim.Native.Nat.{ℕ, ◌+◌, ◌-◌, ◌≤◌}
+use Prim.Native.Nat.{ℕ, ◌+◌, ◌-◌}
 use native.Mathlib.Omega.{arith}
-use borrow.Author.Rules.{rules}
 use Rattle.short_rules.proofs.lists.division_pairs.Goals as goal
 
 pub loop-left-init : goal.loop-left-init
-loop-left-init c = 
+loop-left-init c =
     let size = pairs-size c.args.z (filter (equates_with c.args.z c.args.y) (atoms_of c.args.words.now false c.args.leaves.now)) c.args.first in
     (omega arith, omega arith, omega (arith, c.requires.1, ap (λ (l : NodeList). l.used) c.no_list-list.ensures, size), grown-list _ c.no_list-list.ensures refl (omega (arith, c.requires.1, size)))
 
@@ -32,7 +30,7 @@ pub equates_with-with_y-requires : goal.equates_with-with_y-requires
 equates_with-with_y-requires c = c.leaf-atom.ensures.1
 
 pub with_words_if-list-requires : goal.with_words_if-list-requires
-with_words_if-list-requires c = 
+with_words_if-list-requires c =
     let l = c.loop-left in
     let a = c.leaf-atom.ensures.0 in
     let t = c.equates_with-with_y.ensures ∙ ap (equates_with c.args.z c.args.y) a in
@@ -44,7 +42,7 @@ pub overflow_add-column : goal.overflow_add-column
 overflow_add-column c = omega (arith, c.once-column.ensures.1, c.requires.2)
 
 pub loop-left-preserved : goal.loop-left-preserved
-loop-left-preserved c = 
+loop-left-preserved c =
     let l = c.loop-left in
     let a = c.leaf-atom.ensures.0 in
     let t = c.equates_with-with_y.ensures ∙ ap (equates_with c.args.z c.args.y) a in

@@ -2,7 +2,6 @@ use Rattle.short_rules.specs.Lists.{links}
 use Rattle.question.specs.Trees.{atom_of}
 use mathlib.Core.Bool.{Bool}
 use mathlib.Core.Path.{sym, ap, ◌∙◌}
-use borrow.Author.Rules.{rules}
 use Rattle.short_rules.proofs.lists.links.Goals as goal
 
 pub returns-then-outside : goal.returns-then-outside

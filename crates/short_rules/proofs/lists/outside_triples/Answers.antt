@@ -1,6 +1,5 @@
 use Rattle.short_rules.proofs.ListLaws.{outside_size}
 use Rattle.short_rules.proofs.LeafSteps.{rest, outside_next}
-use Rattle.relations.specs.Limits.{list_words}
 use Rattle.conditions.specs.Scopes.{scope_of}
 use Rattle.calculus.specs.ShortRules.{outside_triples}
 use Rattle.calculus.specs.Scope.{column_number}
@@ -8,23 +7,22 @@ use Rattle.calculus.specs.Leaves.{equates_outside}
 use Rattle.relations.specs.PlanWords.{triple_words}
 use Rattle.emission.proofs.NodeListLaws.{grown_used, grown_step, grown_none, grown-list}
 use Rattle.emission.specs.declared.node_list.NodeList.{NodeList}
-use Rattle.emission.specs.NodeLists.{node_list, grown_by}
+use Rattle.emission.specs.NodeLists.{grown_by}
 use Rattle.conditions.proofs.AtomLaws.{other_narrow}
 use Rattle.conditions.specs.Atoms.{sides_of}
 use Rattle.conditions.specs.declared.atom.Sides.{Sides}
-use Rattle.conditions.specs.Leaves.{leaf_count, atoms_of}
+use Rattle.conditions.specs.Leaves.{atoms_of}
 use Rattle.relations.specs.Lists.{flat, filter}
 use lib.ListN.{length, length-append}
 use mathlib.Core.List.{[], ◌∷◌}
 use mathlib.Core.Bool.{false, cond}
 use mathlib.Core.Path.{◌≡◌, refl, ap, sym, ◌∙◌}
-use Prim.Native.Nat.{ℕ, ◌+◌, ◌-◌, ◌≤◌}
+use Prim.Native.Nat.{ℕ, ◌+◌, ◌-◌}
 use native.Mathlib.Omega.{arith}
-use borrow.Author.Rules.{rules}
 use Rattle.short_rules.proofs.lists.outside_triples.Goals as goal
 
 pub loop-left-init : goal.loop-left-init
-loop-left-init c = 
+loop-left-init c =
     let size = outside_size (scope_of c.args.scope.now) c.args.z (filter (equates_outside c.args.z c.args.y) (atoms_of c.args.words.now false c.args.leaves.now)) 1 in
     (omega arith, omega arith, omega (arith, c.requires.2, ap (λ (l : NodeList). l.used) c.no_list-list.ensures, size), grown-list _ c.no_list-list.ensures refl (omega (arith, c.requires.2, size)))
 
@@ -38,7 +36,7 @@ pub column_of-other-requires : goal.column_of-other-requires
 column_of-other-requires c = (c.requires.0, other_narrow _ c.leaf-atom.result c.sides_of-sides.ensures c.leaf-atom.ensures.1)
 
 pub with_words_if-list-requires : goal.with_words_if-list-requires
-with_words_if-list-requires c = 
+with_words_if-list-requires c =
     let l = c.loop-left in
     let a = c.leaf-atom.ensures.0 in
     let t = c.equates_outside-with_other.ensures ∙ ap (equates_outside c.args.z c.args.y) a in
@@ -53,7 +51,7 @@ pub overflow_add-i : goal.overflow_add-i
 overflow_add-i c = omega (arith, c.requires.1.few)
 
 pub loop-left-preserved : goal.loop-left-preserved
-loop-left-preserved c = 
+loop-left-preserved c =
     let l = c.loop-left in
     let a = c.leaf-atom.ensures.0 in
     let t = c.equates_outside-with_other.ensures ∙ ap (equates_outside c.args.z c.args.y) a in

@@ -1,12 +1,11 @@
 use Rattle.short_rules.proofs.LeafSteps.{rest, triples_next}
 use Rattle.short_rules.proofs.ListLaws.{triples_fit}
-use Rattle.relations.specs.Limits.{list_words}
-use Rattle.conditions.specs.Leaves.{leaf_count, leaf_at, atoms_of}
+use Rattle.conditions.specs.Leaves.{leaf_at, atoms_of}
 use Rattle.calculus.specs.Question as calculus
-use Prim.Native.Nat.{◌-◌, ◌+◌, ◌≤◌}
+use Prim.Native.Nat.{◌-◌, ◌+◌}
 use Rattle.emission.proofs.NodeListLaws.{grown_used, grown_step, grown_none, grown-list}
 use Rattle.emission.specs.declared.node_list.NodeList.{NodeList}
-use Rattle.emission.specs.NodeLists.{node_list, grown_by}
+use Rattle.emission.specs.NodeLists.{grown_by}
 use Rattle.conditions.specs.Scopes.{scope_of}
 use Rattle.calculus.specs.ShortRules.{triples_of}
 use Rattle.relations.specs.PlanWords.{triple_words}
@@ -24,7 +23,7 @@ pub leaf-requires : goal.leaf-requires
 leaf-requires c = (c.requires.1, omega arith)
 
 pub with_triple_of-list-requires : goal.with_triple_of-list-requires
-with_triple_of-list-requires c = 
+with_triple_of-list-requires c =
     let l = c.loop-left in
     let words = c.args.words.now in
     let e = triples_next words c.args.opposite c.args.leaves.now l.i l.left (omega arith) (scope_of c.args.scope.now) c.args.x in
@@ -33,7 +32,7 @@ with_triple_of-list-requires c =
     (c.requires.0, c.leaf.ensures.1, omega (arith, l.invariant.1, ap length e, ap length a, m))
 
 pub loop-left-preserved : goal.loop-left-preserved
-loop-left-preserved c = 
+loop-left-preserved c =
     let l = c.loop-left in
     let words = c.args.words.now in
     let e = triples_next words c.args.opposite c.args.leaves.now l.i l.left (omega arith) (scope_of c.args.scope.now) c.args.x in

@@ -1,20 +1,12 @@
-use Rattle.short_rules.proofs.LeafSteps.{rest, own_next, own_count}
-use Rattle.relations.specs.Limits.{list_words}
+use Rattle.short_rules.proofs.LeafSteps.{own_next, own_count}
 use mathlib.Core.Bool.{false}
 use Rattle.emission.proofs.NodeListLaws.{grown_used, grown_step, grown_none}
-use Rattle.emission.specs.NodeLists.{grown_by, numbers_of}
+use Rattle.emission.specs.NodeLists.{grown_by}
 use Rattle.short_rules.specs.Lists.{links}
-use Rattle.conditions.specs.Leaves.{leaf_count, atoms_of}
 use Rattle.conditions.specs.Atoms.{sides_of}
 use Rattle.conditions.specs.declared.atom.Sides.{Sides}
-use Rattle.calculus.specs.Leaves.{own_attribute}
-use Rattle.relations.specs.Lists.{filter}
-use lib.ListN.{length}
-use mathlib.Core.List.{map}
 use mathlib.Core.Path.{◌≡◌, refl, ap, sym, ◌∙◌}
-use Prim.Native.Nat.{◌+◌, ◌≤◌}
 use native.Mathlib.Omega.{arith}
-use borrow.Author.Rules.{rules}
 use Rattle.short_rules.proofs.lists.with_own_columns.Goals as goal
 
 pub loop-left-init : goal.loop-left-init
@@ -27,14 +19,14 @@ pub links-requires : goal.links-requires
 links-requires c = c.leaf-atom.ensures.1
 
 pub with_words_if-longer-requires : goal.with_words_if-longer-requires
-with_words_if-longer-requires c = 
+with_words_if-longer-requires c =
     let l = c.loop-left in
     let a = c.leaf-atom.ensures.0 in
     let t = c.links.ensures ∙ ap (links c.args.outside c.args.z c.args.y) a in
     omega (arith, l.invariant.1, own_count c.args.words.now false c.args.leaves.now l.i l.left (omega arith) (links c.args.outside c.args.z c.args.y) c.sides_of-sides.result.own.0 _ t)
 
 pub loop-left-preserved : goal.loop-left-preserved
-loop-left-preserved c = 
+loop-left-preserved c =
     let l = c.loop-left in
     let a = c.leaf-atom.ensures.0 in
     let t = c.links.ensures ∙ ap (links c.args.outside c.args.z c.args.y) a in

@@ -1,20 +1,15 @@
-use Rattle.short_rules.proofs.LeafSteps.{rest, own_next, own_count}
+use Rattle.short_rules.proofs.LeafSteps.{rest}
 use Rattle.relations.specs.Limits.{list_words}
 use mathlib.Core.Bool.{false}
-use Rattle.emission.proofs.NodeListLaws.{grown_used, grown_step, grown_none}
 use Rattle.emission.specs.NodeLists.{grown_by, numbers_of}
 use Rattle.short_rules.specs.Lists.{links}
 use Rattle.conditions.specs.Leaves.{leaf_count, atoms_of}
-use Rattle.conditions.specs.Atoms.{sides_of}
-use Rattle.conditions.specs.declared.atom.Sides.{Sides}
 use Rattle.calculus.specs.Leaves.{own_attribute}
 use Rattle.relations.specs.Lists.{filter}
 use lib.ListN.{length}
 use mathlib.Core.List.{map}
-use mathlib.Core.Path.{◌≡◌, refl, ap, sym, ◌∙◌}
+use mathlib.Core.Path.{◌≡◌}
 use Prim.Native.Nat.{◌+◌, ◌≤◌}
-use native.Mathlib.Omega.{arith}
-use borrow.Author.Rules.{rules}
 use Rattle.short_rules.proofs.lists.with_own_columns.Given as goal
 
 abbrev pub invariant-loop-left : goal.invariant-loop-left

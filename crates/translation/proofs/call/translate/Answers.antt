@@ -1,7 +1,6 @@
 use mathlib.Core.Path.{sym, ap, ◌∙◌}
 use Rattle.catalogue.specs.Judging.{catalogue_numbers}
 use Rattle.translation.proofs.CallLaws.{catalogue-good, good_translated, wrong-refused}
-use borrow.Author.Rules.{rules}
 use Rattle.translation.proofs.call.translate.Goals as goal
 
 pub translate_question-requires : goal.translate_question-requires

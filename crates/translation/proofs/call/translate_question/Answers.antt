@@ -1,7 +1,6 @@
 use mathlib.Core.Path.{sym, ◌∙◌}
 use Rattle.question.specs.declared.judgement.Judgement.TheVariants.{Accepted, Refused}
 use Rattle.translation.proofs.CallLaws.{count-refused, plan-short, question_judged}
-use borrow.Author.Rules.{rules}
 use Rattle.translation.proofs.call.translate_question.Goals as goal
 
 pub returns-in-Refused : goal.returns-in-Refused

@@ -1,6 +1,5 @@
 use Rattle.values.proofs.ClearLaws.{clear_all}
 use mathlib.Core.Path.{◌∙◌}
-use borrow.Author.Rules.{rules}
 use Rattle.values.proofs.clearing.clear_from.Goals as goal
 
 pub returns : goal.returns

@@ -1,7 +1,6 @@
-use Prim.Native.Nat.{◌-◌, ◌≤◌}
+use Prim.Native.Nat.{◌-◌}
 use mathlib.Core.Path.{◌≡◌, refl, ◌∙◌}
-use lib.ListN.{length, replicate, length-set}
-use lib.Seq.{sets}
+use lib.ListN.{length-set}
 use Rattle.values.proofs.ClearLaws.{clear_turn}
 use native.Mathlib.Omega.{arith}
 use Rattle.values.proofs.clearing.clear_words.Goals as goal

@@ -1,9 +1,7 @@
 use Prim.Native.Nat.{◌-◌, ◌≤◌}
-use mathlib.Core.Path.{◌≡◌, refl, ◌∙◌}
-use lib.ListN.{length, replicate, length-set}
+use mathlib.Core.Path.{◌≡◌}
+use lib.ListN.{length, replicate}
 use lib.Seq.{sets}
-use Rattle.values.proofs.ClearLaws.{clear_turn}
-use native.Mathlib.Omega.{arith}
 use Rattle.values.proofs.clearing.clear_words.Given as goal
 
 abbrev pub invariant-loop-i : goal.invariant-loop-i

@@ -1,5 +1,4 @@
 use mathlib.Core.Path.{refl, sym}
-use borrow.Author.Rules.{rules}
 use Rattle.values.proofs.clearing.finish.Goals as goal
 
 pub returns-in-Rows : goal.returns-in-Rows

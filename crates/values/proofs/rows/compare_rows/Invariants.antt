@@ -1,9 +1,7 @@
-use Rattle.values.proofs.OrderLaws.{order_less, order_greater, order_on, order_longer, order_shorter, order_ended}
 use Rattle.values.specs.Orders.{order_of}
 use lib.ListN.{length, drop}
 use Prim.Native.Nat.{◌≤◌, ◌-◌}
-use mathlib.Core.Path.{◌≡◌, refl, sym, ◌∙◌}
-use native.Mathlib.Omega.{arith}
+use mathlib.Core.Path.{◌≡◌}
 use Rattle.values.proofs.rows.compare_rows.Given as goal
 
 abbrev pub invariant-loop-i : goal.invariant-loop-i

@@ -3,7 +3,6 @@ use lib.ListN.{length}
 use Prim.Native.Nat.{◌+◌, ◌-◌}
 use mathlib.Core.Path.{◌≡◌}
 use native.Mathlib.Omega.{arith}
-use borrow.Author.Rules.{rules}
 use Rattle.values.proofs.rows.part_of.Goals as goal
 
 pub returns-then-words-start : goal.returns-then-words-start

@@ -1,4 +1,3 @@
-use borrow.Author.Rules.{rules}
 use Rattle.values.proofs.rows.row.Goals as goal
 
 pub returns-then-in_work : goal.returns-then-in_work
