@@ -11,7 +11,7 @@ older() {
   [ ! -e "$made" ] || [ -n "$(find "$@" -type f ! -path '*/must-fail/*' ! -path '*/out/*' -newer "$made" -print -quit)" ]
 }
 
-# the crates that `rt check NAME` looks at, a line for each
+# the crates on which this one stands, and itself, a line for each
 crates_below() {
   awk -F: -v name="$1" '
     function visit(crate, list, i, count) {
@@ -20,7 +20,7 @@ crates_below() {
       count = split(below[crate], list, " ")
       for (i = 1; i <= count; i++) visit(list[i])
     }
-    /^[a-z]/ { below[$1] = $2 }
+    /^[a-z]/ { split($1, head, " "); below[head[1]] = $2 }
     END { visit(name) }' "$here/crates.txt"
 }
 
@@ -40,18 +40,16 @@ rt_build() {
   ! command -v flock >/dev/null || flock 9
   log=$here/target/desk-build.log
   begun=$here/target/desk-build.begun
-  left=$(crates_below "$3" | wc -l)
+  all=$(crates_below "$3" | wc -l)
   if stale "$2" "$3"; then
     : >"$begun"
-    told=' '
     (cd "$here/crates/$3" && rt "$4" </dev/null 2>&1 9>&-) | tee "$log" | while read -r what name rest; do
       case $what in
       crate) crate=${name%:} ;;
       logic=proved)
-        case $told in *" $crate "*) continue ;; esac
-        told="$told$crate "
-        left=$((left - 1))
-        echo "desk: proved $crate, $left left" ;;
+        # what a crate stands on is proved before it, or was earlier
+        proved=$(printf '%s\n' "${proved:-}" "$(crates_below "$crate")" | sed '/^$/d' | sort -u)
+        echo "desk: proved $crate, $((all - $(printf '%s\n' "$proved" | wc -l))) left" ;;
       esac
     done >&2
     [ "${PIPESTATUS[0]}" -eq 0 ] || { tail -n 5 "$log" >&2; fail "$1 could not be built; $log tells why"; }

@@ -1,6 +1,5 @@
 // A reader, and the lines of a bundle that it reads. Every line is read by `read_line`, and wrong at the line of its reader.
-// The two functions over a reader are thin, since the proof of each is a walk by hand: one takes it apart for a function on the
-// slice and the numbers, the other makes it of them.
+// The two functions over a reader are thin: one takes it apart for a function on the slice and the numbers, the other makes it of them.
 #![tactic(auto)]
 
 ghost use Rattle.std.specs.Prelude.{◌+◌, ◌≤◌, drop};

@@ -1,5 +1,5 @@
-// `desk`: reads a bundle from standard input, answers its question, and prints the answer's listing, or the refusal. A program has no exit status of
-// its own: input that can't be read and a listing that can't be written whole are told on standard error, where nothing else is written.
+// `desk`: reads a bundle from standard input, answers its question, and prints the answer's listing, or the refusal. It ends with 0
+// in any case: input that can't be read and a listing that can't be written whole are told on standard error, where nothing else is written.
 #![tactic(auto)]
 
 ghost use Rattle.listing.specs.Listing.{Listable};

@@ -1,4 +1,4 @@
-// Standard input, read as a bundle into lent buffers.
+// Standard input, or another reader, read as a bundle into lent buffers.
 #![tactic(auto)]
 
 ghost use Rattle.io.specs.Counts.{IsPrefixLen};
@@ -14,7 +14,7 @@ pub struct TextRead {
     pub failed: bool,
 }
 
-// What standard input was read as: a read that failed; a refusal's status and place; or a bundle's mode and how many words of each buffer are its own.
+// What the input was read as: a read that failed; a refusal's status and place; or a bundle's mode and how many words of each buffer are its own.
 #[derive(Clone, Copy)]
 pub struct Input {
     pub failed: bool,
