@@ -40,7 +40,7 @@ short_rule1_fits width attributes = same_attributes attributes (all_columns widt
 abbrev pub project_nodes : Bool → ℕ → ℕ → List Attribute → List Node
 project_nodes short width p attributes = cond (short && short_rule1_fits width attributes) [] (project p attributes ∷ [])
 
--- S2. "Some x" whose and_tree has only atoms, each on x alone or comparing x with another variable, the latter at most 8: range, a select for each atom on x alone, semijoin from P.
+-- S2. "Some x" whose and-tree has only atoms, each on x alone or comparing x with another variable, the latter at most 8: range, a select for each atom on x alone, semijoin from P.
 
 -- "atoms of S2's kinds and number"
 abbrev pub short_rule2_atoms : ℕ → List Atom → Bool
@@ -90,7 +90,7 @@ short_rule4_fits x f = is_or_tree f && short_rule2_atoms x (leaves f)
 abbrev pub short_rule4_nodes : Scope → ℕ → ℕ → List Atom → List Node → ℕ → ℕ → List Node
 short_rule4_nodes s x width atoms range p n = short_rule3_nodes s x width (map opposite_atom atoms) range p n
 
--- S5. "Every y" directly above "some z" whose and_tree has only atoms: on z alone; z = y; z = a variable outside; 1 to 8 of each of the last two.
+-- S5. "Every y" directly above "some z" whose and-tree has only atoms: on z alone; z = y; z = a variable outside; 1 to 8 of each of the last two.
 
 abbrev pub short_rule5_atoms : ℕ → ℕ → List Atom → Bool
 short_rule5_atoms z y atoms = all (λ a. alone_on z a || (equates_with z y a || equates_outside z y a)) atoms && (between 1 pair_limit (length (filter (equates_with z y) atoms)) && between 1 triple_limit (length (filter (equates_outside z y) atoms)))

@@ -6,7 +6,7 @@ use bundle_writing::{Writing, write};
 use relations::limits::{CATALOGUE_WORDS, QUESTION_WORDS, WORDS};
 use std::io;
 
-fn show(rt: &HostRuntime, case: &str, status: u32, place: usize) -> io::Result<()> {
+fn show(rt: &HostRuntime, case: &str, status: u64, place: usize) -> io::Result<()> {
     println!(rt; "{case} status={status}")?;
     println!(rt; "place={place}")?;
     Ok(())

@@ -103,8 +103,8 @@ module _ (catalogue question : List ℕ) (mode : ℕ) (plan : List ℕ) where
         go true h = refl
         go false h = let never : ◌≡◌ {A = ℕ} 0 1 = cc in absurd (omega arith)
 
-    pub plan-short : length plan < plan_buffer_words → unwritten catalogue question mode plan 8 0 ≡ behind_catalogue catalogue question mode plan
-    plan-short h = rw (count-good, lt-ltb (length plan) plan_buffer_words h)
+    pub plan_short : length plan < plan_buffer_words → unwritten catalogue question mode plan 8 0 ≡ behind_catalogue catalogue question mode plan
+    plan_short h = rw (count-good, lt-ltb (length plan) plan_buffer_words h)
 
     pub question_judged : catalogue_ok catalogue ≡ true → plan_buffer_words ≤ length plan → (judgement : Judgement) → judgement ≡ judged_by_walk catalogue question → judged_outcome catalogue question mode plan judgement ≡ behind_catalogue catalogue question mode plan
     question_judged ok h judgement e =

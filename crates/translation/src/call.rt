@@ -39,6 +39,7 @@ fn translate_accepted(
 }
 
 // Refusals 1 to 6 and 8, over a good catalogue.
+#[tactic(auto, using(crate::proofs::CallLaws::plan_short))]
 fn translate_question(
     catalogue: &[u32],
     question: &[u32],
