@@ -1,38 +1,32 @@
 -- One line of each kind: what it reads as by the tests that decide it, and what a caller knows when it was read. Assumes nothing.
-use mathlib.Core.Path.{◌≡◌, refl, sym, ap, subst, ◌∙◌}
-use Prim.Native.Nat.{ℕ, ◌+◌, ◌*◌, ◌≤◌, ◌<◌}
+use mathlib.Core.Path.{◌≡◌, refl, sym, ap, ◌∙◌}
+use Prim.Native.Nat.{ℕ, ◌+◌, ◌*◌, ◌<◌}
 use mathlib.Core.List.{List}
 use mathlib.Core.Bool.{Bool, true, false, cond, ◌&&◌}
 use native.Mathlib.Omega.{arith}
 use lib.Dec.{leb, ltb}
 use lib.ListN.{length, drop}
 use lib.Seq.{sets, drop-drop}
-use borrow.Author.Tests.{lt-ltb, le-ltb, ltb-true}
+use borrow.Author.Tests.{ltb-true}
 use Rattle.relations.specs.Limits.{word_limit, question_node_limit, question_node_words}
 use Rattle.catalogue.specs.Judging.{pair_ok}
 use Rattle.lines.specs.Marks.{line_feed, space, plain_line, short_line, relation_key, row_key, node_key}
 use Rattle.lines.specs.Reading.{value, no_number, number_then, goes_on, wrong_at, Read, nothing, begins, keyed_line}
 use Rattle.bundles.specs.Reading.{Relation, relation, no_relation, with_rows, with_columns, relation_of}
-use Rattle.lines.specs.Answers.{Placed, LinesRead}
-use Rattle.bundle_lines.specs.OneLine.{Lawful, LineAsked, mode_read, pair_read, one_line}
-use Rattle.lines.specs.declared.reading.Cursor.{Cursor}
-use Rattle.lines.specs.declared.reading.Step.TheVariants.{Next as Onward, Wrong as Stop}
+use Rattle.lines.specs.Answers.{GoneOn, LinesRead}
+use Rattle.lines.proofs.Answered.{stands_behind}
+use Rattle.bundle_lines.specs.OneLine.{Lawful, mode_read, pair_read, one_line}
+use Rattle.lines.specs.declared.reader.Reader.{Reader}
+use Rattle.std.specs.Prelude.{Ok}
 use Rattle.bundle_lines.specs.declared.Line.{Line}
 use Rattle.bundle_lines.specs.declared.Line.TheVariants.{Mode as ModeLine, Relation as RelationLine, Row as RowLine, Node as NodeLine}
 use Rattle.lines.proofs.ReadingLaws.{no-next, keyed_line-length, line_cut}
 
 -- What is read, and what is wrong.
-module _ {text before : List ℕ} {to : ℕ} {found : Read} where
-  pub line_read : {after words : List ℕ} (cursor : Cursor) → found ≡ record { words = words; next = goes_on cursor.line (drop cursor.at text) } → Placed text cursor → after ≡ sets before to words
-      → LinesRead text found to before after (Onward cursor)
-  line_read cursor e placed kept = rw e (record { means = refl; placed = placed; words = kept })
-
-  pub line-wrong : {line : ℕ} → found ≡ nothing (wrong_at line) → LinesRead text found to before before (Stop line)
-  line-wrong e = rw e (record { means = refl; placed = tt; words = refl })
-
--- what a line asks, once its kind is known
-pub asked_as : (text : List ℕ) (at line to : ℕ) {kind other : Line} → LineAsked text at line kind to → kind ≡ other → LineAsked text at line other to
-asked_as text at line to ok e = subst (λ (k : Line). LineAsked text at line k to) e ok
+module _ {start : Reader} {before : List ℕ} {to : ℕ} {found : Read} where
+  pub line_read : {T : Type 0} {value : T} {after words : List ℕ} {stop : Reader} {next : ℕ} → found ≡ record { words = words; next = goes_on (start.line + 1) (drop next start.text.now) } → GoneOn start next stop → after ≡ sets before to words
+      → LinesRead start found to before after stop (Ok value)
+  line_read e g kept = rw e (record { means = sym (stands_behind g); text = g.text; words = kept })
 
 -- The mode's line.
 module _ (text : List ℕ) (at line : ℕ) where
@@ -41,9 +35,6 @@ module _ (text : List ℕ) (at line : ℕ) where
 
   pub mode-short : begins plain_line (drop at text) ≡ false → begins short_line (drop at text) ≡ true → one_line ModeLine line (drop at text) ≡ mode_read 1 line (drop (at + 11) text)
   mode-short e f = rw (e, f, drop-drop (length short_line) at text)
-
-  pub mode_none : begins plain_line (drop at text) ≡ false → begins short_line (drop at text) ≡ false → one_line ModeLine line (drop at text) ≡ nothing (wrong_at line)
-  mode_none e f = rw (e, f)
 
 -- A relation line: its two numbers, and what they are judged by.
 module _ (total : ℕ) (bytes : List ℕ) where
@@ -60,21 +51,13 @@ module _ (total : ℕ) (bytes : List ℕ) where
   unfolding relation_of
   no_columns e = ap (with_columns total) e
 
-module _ (total : ℕ) (text : List ℕ) (at line : ℕ) where
-  pub relation_begun : {found : Relation} → begins relation_key (drop at text) ≡ true → relation_of total (drop (at + 9) text) ≡ found → one_line (RelationLine total) line (drop at text) ≡ pair_read line found
-  relation_begun e f = rw (e, drop-drop (length relation_key) at text) (ap (pair_read line) f)
-
-  pub relation_other : begins relation_key (drop at text) ≡ false → one_line (RelationLine total) line (drop at text) ≡ nothing (wrong_at line)
-  relation_other e = rw e
+-- the pair as the code hands it on
+pub pair_begun : (total : ℕ) (text : List ℕ) (at : ℕ) {found : Relation} → begins relation_key (drop at text) ≡ true → relation_of total (drop (at + 9) text) ≡ found
+    → cond (begins relation_key (drop at text)) (relation_of total (drop (length relation_key) (drop at text))) no_relation ≡ found
+pair_begun total text at e f = rw (e, drop-drop (length relation_key) at text) f
 
 -- A node line: within the limit, or beyond it.
 module _ (before line : ℕ) (bytes : List ℕ) where
-  pub node_within : before < question_node_limit → one_line (NodeLine before) line bytes ≡ keyed_line node_key question_node_words line bytes
-  node_within h = rw (lt-ltb before question_node_limit h)
-
-  pub node_beyond : question_node_limit ≤ before → one_line (NodeLine before) line bytes ≡ nothing (wrong_at line)
-  node_beyond h = rw (le-ltb before question_node_limit h)
-
   pub node_read : {after : ℕ} {rest : List ℕ} → (one_line (NodeLine before) line bytes).next ≡ goes_on after rest
       → (before < question_node_limit) × (length (one_line (NodeLine before) line bytes).words ≡ question_node_words)
   node_read {after} {rest} e = go (ltb before question_node_limit) refl e

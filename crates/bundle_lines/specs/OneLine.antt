@@ -1,5 +1,5 @@
 -- Each line that a bundle may have next: what it reads as, by the definitions of `lines` and `bundles`, and where it may be asked for. Assumes nothing.
-use Rattle.std.specs.Prelude.{ℕ, ◌+◌, ◌≤◌, ◌<◌, List, [], ◌∷◌, cond, ltb, length, drop}
+use Rattle.std.specs.Prelude.{ℕ, ◌+◌, ◌≤◌, ◌<◌, ◌≡◌, List, [], ◌∷◌, cond, ltb, length, drop, Option, Some, None}
 use Rattle.relations.specs.Limits.{word_limit, question_node_limit, question_node_words}
 use Rattle.lines.specs.Marks.{plain_line, short_line, relation_key, row_key, node_key}
 use Rattle.lines.specs.Put.{furthest}
@@ -7,7 +7,7 @@ use Rattle.lines.specs.Reading.{goes_on, wrong_at, Read, nothing, begins, keyed_
 use Rattle.bundles.specs.Reading.{relation, no_relation, relation_of}
 use Rattle.bundle_lines.specs.declared.Line.{Line}
 use Rattle.bundle_lines.specs.declared.Line.TheVariants.{Mode, Relation, Row, Node}
-use Rattle.lines.specs.Answers.{Placed}
+use Rattle.lines.specs.declared.reader.Reader.{Reader}
 use Rattle.bundles.specs.Reading as reads
 
 -- The line that must come next: the words on it, what was kept to so far, and what it reads as.
@@ -39,6 +39,19 @@ one_line (Relation total) line bytes =
 one_line (Row columns) line bytes = keyed_line row_key columns line bytes
 one_line (Node before) line bytes = cond (ltb before question_node_limit) (keyed_line node_key question_node_words line bytes) (nothing (wrong_at line))
 
--- where a line is read: the text goes on there, its words have a place, and the limits were kept so far
-abbrev pub LineAsked : (text : List ℕ) (at line : ℕ) → Line → (to : ℕ) → Type 0
-LineAsked text at line kind to = Lawful kind × (to + words_on kind ≤ furthest) × Placed text (record { at = at; line = line })
+-- where a line is asked for: the limits were kept so far, and its words have a place
+abbrev pub LineAsked : Line → (to : ℕ) → Type 0
+LineAsked kind to = Lawful kind × (to + words_on kind ≤ furthest)
+
+-- a relation line's pair, as the code hands it on: what is read there, and where the line ends
+abbrev pub pair_in : (text : List ℕ) → Option (ℕ × ℕ × ℕ) → reads.Relation
+pair_in text (Some (columns, rows, next)) = relation columns rows (drop next text)
+pair_in text None = no_relation
+
+abbrev pub PairBehind : Reader → Option (ℕ × ℕ × ℕ) → Type 0
+PairBehind reader (Some (columns, rows, next)) = (reader.at + 1 ≤ next) × (next ≤ length reader.text.now)
+PairBehind reader None = Unit {0}
+
+pub record PairRead (reader : Reader) (total : ℕ) (answer : Option (ℕ × ℕ × ℕ)) : Type 0 where
+  pub means : cond (begins relation_key (drop reader.at reader.text.now)) (relation_of total (drop (length relation_key) (drop reader.at reader.text.now))) no_relation ≡ pair_in reader.text.now answer
+  pub behind : PairBehind reader answer

@@ -7,251 +7,185 @@ ghost use Rattle.lines.specs.Marks.{relation_key, row_key};
 ghost use Rattle.lines.specs.Put.{furthest};
 ghost use Rattle.lines.specs.Reading.{begins, keyed_lines};
 ghost use Rattle.bundles.specs.Reading.{table_of, tables_of, nodes_of, with_tables, lines_of};
-ghost use Rattle.lines.specs.Answers.{Placed, LinesRead};
+ghost use Rattle.lines.specs.Answers.{LinesRead};
 ghost use Rattle.bundle_reading.specs.Answers.{TablesFound, NodesFound, lines_answer, BundleFound};
 ghost use Rattle.bundle_reading.specs.ReadAnswer.{read_numbers};
 ghost use Rattle.bundles.specs.ReadCall.{read_outcome};
 
 use bundle_lines::{Line, next_line};
-use catalogue::judging::wide;
-use lines::reading::{Cursor, Step, begins_with, keep};
+use lines::reader::{Reader, WrongLine};
+use lines::reading::{begins_with, keep};
 use relations::limits::{
-    CATALOGUE_PAIRS, CATALOGUE_WORDS, QUESTION_NODE_WORDS, QUESTION_WORDS, TEXT_BYTES, WORDS,
+    CATALOGUE_PAIRS, CATALOGUE_WORDS, QUESTION_NODE_WORDS, QUESTION_NODES, QUESTION_WORDS,
+    TEXT_BYTES, WORDS,
 };
 
-// How much was read, and where that ends.
-#[derive(Clone, Copy)]
+// How much was read: pairs of the catalogue, and words of the tables.
+#[derive(Clone, Copy, PartialEq, Eq, Debug)]
 pub struct TablesRead {
     pub pairs: usize,
     pub words: usize,
-    pub step: Step,
 }
 
-#[derive(Clone, Copy)]
-pub struct NodesRead {
+// The numbers of a bundle that was read.
+#[derive(Clone, Copy, PartialEq, Eq, Debug)]
+pub struct Bundle {
+    pub mode: u32,
+    pub pairs: usize,
+    pub words: usize,
     pub nodes: usize,
-    pub step: Step,
 }
 
-// A bundle was read, or the line of that number is wrong.
-#[derive(Clone, Copy)]
-pub enum Lines {
-    Read {
-        mode: u32,
-        pairs: usize,
-        words: usize,
-        nodes: usize,
-    },
-    Wrong(usize),
-}
-
-// What reading a bundle answers: its numbers; refusal 12 at a line; or refusal 14.
-#[derive(Clone, Copy)]
-pub enum Reading {
-    Bundle {
-        mode: u32,
-        pairs: usize,
-        words: usize,
-        nodes: usize,
-    },
+// Why no bundle was read: refusal 12 at a line, or refusal 14.
+#[derive(Clone, Copy, PartialEq, Eq, Debug)]
+pub enum ReadRefusal {
     WrongLine(usize),
     SmallBuffer,
 }
 
+impl ReadRefusal {
+    pub fn status(self) -> u32
+        ensures { result ≡ (read_numbers (Err self)).status }
+    {
+        match self {
+            ReadRefusal::WrongLine(_) => 12,
+            ReadRefusal::SmallBuffer => 14,
+        }
+    }
+
+    pub fn place(self) -> usize
+        ensures { result ≡ (read_numbers (Err self)).place }
+    {
+        match self {
+            ReadRefusal::WrongLine(line) => line,
+            ReadRefusal::SmallBuffer => 0,
+        }
+    }
+}
+
+impl From<WrongLine> for ReadRefusal {
+    ghost use Rattle.std.specs.Prelude.{◌≡◌};
+    ghost use Rattle.bundle_reading.specs.declared.ReadRefusal.TheVariants.{WrongLine};
+
+    ghost from_gives = { λ wrong refusal. refusal ≡ WrongLine wrong.0 };
+
+    fn from(wrong: WrongLine) -> ReadRefusal {
+        ReadRefusal::WrongLine(wrong.0)
+    }
+}
+
 // The rows of a table.
 fn read_rows(
-    text: &[u8],
-    start: Cursor,
+    reader: &mut Reader,
     columns: usize,
     rows: usize,
     tables: &mut [u32],
     to: usize,
-) -> Step
-    requires { (0 < columns) × (to + columns * rows ≤ furthest) × Placed text.now start }
-    ensures { LinesRead text.now (keyed_lines row_key columns rows start.line (drop start.at text.now)) to tables.old tables.new result }
+) -> Result<(), WrongLine>
+    requires { (0 < columns) × (to + columns * rows ≤ furthest) }
+    ensures { LinesRead reader.old (keyed_lines row_key columns rows reader.old.line (drop reader.old.at reader.old.text.now)) to tables.old tables.new reader.new result }
 {
-    let mut at = start.at;
-    let mut line = start.line;
-    let mut left = rows;
-    let mut place = to;
-    while 0 < left {
-        match next_line(text, at, line, Line::Row { columns }, tables, place) {
-            Step::Next(next) => {
-                at = next.at;
-                line = next.line;
-            }
-            Step::Wrong(wrong) => {
-                return Step::Wrong(wrong);
-            }
-        }
-        place += columns;
-        left -= 1;
+    for row in 0..rows {
+        next_line(reader, Line::Row { columns }, tables, to + columns * row)?;
     }
-    Step::Next(Cursor { at, line })
+    Ok(())
 }
 
-// A table: its relation line, whose key has been seen, and its rows.
+// A table behind those that were read: its relation line, whose key has been seen, and its rows.
 fn read_table(
-    text: &[u8],
-    start: Cursor,
-    pairs: usize,
-    total: usize,
+    reader: &mut Reader,
+    read: TablesRead,
     catalogue: &mut [u32],
     tables: &mut [u32],
-) -> TablesRead
-    requires { (pairs < catalogue_pair_limit) × (total ≤ word_limit) × Placed text.now start × (begins relation_key (drop start.at text.now) ≡ true) }
-    ensures { TablesFound text.now (table_of total start.line (drop start.at text.now)) pairs total catalogue.old catalogue.new tables.old tables.new result }
+) -> Result<TablesRead, WrongLine>
+    requires { (read.pairs < catalogue_pair_limit) × (read.words ≤ word_limit) × (begins relation_key (drop reader.old.at reader.old.text.now) ≡ true) }
+    ensures { TablesFound reader.old (table_of read.words reader.old.line (drop reader.old.at reader.old.text.now)) read catalogue.old catalogue.new tables.old tables.new reader.new result }
 {
-    let at = start.at;
-    let line = start.line;
+    let pairs = read.pairs;
     let mut pair = [0u32; 2];
-    match next_line(text, at, line, Line::Relation { total }, &mut pair, 0) {
-        Step::Next(next) => {
-            let columns = wide(pair[0]);
-            let rows = wide(pair[1]);
-            keep(catalogue, 2 * pairs, pair[0]);
-            keep(catalogue, 2 * pairs + 1, pair[1]);
-            let step = read_rows(text, next, columns, rows, tables, total);
-            TablesRead {
-                pairs: pairs + 1,
-                words: total + columns * rows,
-                step,
-            }
-        }
-        Step::Wrong(wrong) => TablesRead {
-            pairs,
-            words: total,
-            step: Step::Wrong(wrong),
-        },
-    }
+    next_line(reader, Line::Relation { total: read.words }, &mut pair, 0)?;
+    keep(catalogue, 2 * pairs, pair[0]);
+    keep(catalogue, 2 * pairs + 1, pair[1]);
+    let columns = pair[0] as usize;
+    let rows = pair[1] as usize;
+    read_rows(reader, columns, rows, tables, read.words)?;
+    Ok(TablesRead {
+        pairs: pairs + 1,
+        words: read.words + columns * rows,
+    })
 }
 
 // The tables, as many as there are relation lines, up to the limit.
-fn read_tables(text: &[u8], start: Cursor, catalogue: &mut [u32], tables: &mut [u32]) -> TablesRead
-    requires { Placed text.now start }
-    ensures { TablesFound text.now (tables_of catalogue_pair_limit 0 start.line (drop start.at text.now)) 0 0 catalogue.old catalogue.new tables.old tables.new result }
+fn read_tables(
+    reader: &mut Reader,
+    catalogue: &mut [u32],
+    tables: &mut [u32],
+) -> Result<TablesRead, WrongLine>
+    ensures { TablesFound reader.old (tables_of catalogue_pair_limit 0 reader.old.line (drop reader.old.at reader.old.text.now)) (record { pairs = 0; words = 0 }) catalogue.old catalogue.new tables.old tables.new reader.new result }
 {
-    let mut at = start.at;
-    let mut line = start.line;
-    let mut pairs: usize = 0;
-    let mut words: usize = 0;
-    while pairs < CATALOGUE_PAIRS {
-        if begins_with(text, at, b"relation=") {
-            let read = read_table(text, Cursor { at, line }, pairs, words, catalogue, tables);
-            pairs = read.pairs;
-            words = read.words;
-            let step = read.step;
-            match step {
-                Step::Next(next) => {
-                    at = next.at;
-                    line = next.line;
-                }
-                Step::Wrong(wrong) => {
-                    return TablesRead {
-                        pairs,
-                        words,
-                        step: Step::Wrong(wrong),
-                    };
-                }
-            }
-        } else {
-            return TablesRead {
-                pairs,
-                words,
-                step: Step::Next(Cursor { at, line }),
-            };
-        }
+    let mut read = TablesRead { pairs: 0, words: 0 };
+    // No `for`: what is left to read is a pair of numbers, which each table hands on, and the text says when the last was read.
+    while read.pairs < CATALOGUE_PAIRS && begins_with(reader.text, reader.at, b"relation=") {
+        read = read_table(reader, read, catalogue, tables)?;
     }
-    TablesRead {
-        pairs,
-        words,
-        step: Step::Next(Cursor { at, line }),
-    }
+    Ok(read)
 }
 
-// The nodes, to the text's end.
-fn read_nodes(text: &[u8], start: Cursor, question: &mut [u32]) -> NodesRead
-    requires { Placed text.now start }
-    ensures { NodesFound text.now (nodes_of question_node_limit start.line (drop start.at text.now)) question.old question.new result }
+// The nodes, to the text's end; how many there are.
+fn read_nodes(reader: &mut Reader, question: &mut [u32]) -> Result<usize, WrongLine>
+    ensures { NodesFound reader.old (nodes_of question_node_limit reader.old.line (drop reader.old.at reader.old.text.now)) question.old question.new reader.new result }
 {
-    let mut at = start.at;
-    let mut line = start.line;
-    let mut nodes: usize = 0;
-    loop {
-        match next_line(
-            text,
-            at,
-            line,
-            Line::Node { before: nodes },
+    for before in 0..QUESTION_NODES {
+        next_line(
+            reader,
+            Line::Node { before },
             question,
-            QUESTION_NODE_WORDS * nodes,
-        ) {
-            Step::Next(next) => {
-                at = next.at;
-                line = next.line;
-            }
-            Step::Wrong(wrong) => {
-                return NodesRead {
-                    nodes,
-                    step: Step::Wrong(wrong),
-                };
-            }
-        }
-        nodes += 1;
-        if text.len() <= at {
-            return NodesRead {
-                nodes,
-                step: Step::Next(Cursor { at, line }),
-            };
+            QUESTION_NODE_WORDS * before,
+        )?;
+        if reader.text.len() <= reader.at {
+            return Ok(before + 1);
         }
     }
+    Err(WrongLine(reader.line))
 }
 
 // The tables and the nodes, behind the mode's line.
 fn read_behind_mode(
-    text: &[u8],
-    start: Cursor,
+    reader: &mut Reader,
     mode: u32,
     catalogue: &mut [u32],
     tables: &mut [u32],
     question: &mut [u32],
-) -> Lines
-    requires { Placed text.now start }
-    ensures { BundleFound (with_tables mode (tables_of catalogue_pair_limit 0 start.line (drop start.at text.now))) catalogue.old catalogue.new tables.old tables.new question.old question.new result }
+) -> Result<Bundle, WrongLine>
+    ensures { BundleFound (with_tables mode (tables_of catalogue_pair_limit 0 reader.old.line (drop reader.old.at reader.old.text.now))) catalogue.old catalogue.new tables.old tables.new question.old question.new result }
 {
-    let read = read_tables(text, start, catalogue, tables);
-    let step = read.step;
-    match step {
-        Step::Wrong(wrong) => Lines::Wrong(wrong),
-        Step::Next(next) => {
-            let last = read_nodes(text, next, question);
-            let end = last.step;
-            match end {
-                Step::Wrong(wrong) => Lines::Wrong(wrong),
-                Step::Next(_) => Lines::Read {
-                    mode,
-                    pairs: read.pairs,
-                    words: read.words,
-                    nodes: last.nodes,
-                },
-            }
-        }
-    }
+    let TablesRead { pairs, words } = read_tables(reader, catalogue, tables)?;
+    let nodes = read_nodes(reader, question)?;
+    Ok(Bundle {
+        mode,
+        pairs,
+        words,
+        nodes,
+    })
 }
 
 // Every line; each word is kept where there is room.
-fn read_all(text: &[u8], catalogue: &mut [u32], tables: &mut [u32], question: &mut [u32]) -> Lines
+fn read_all(
+    text: &[u8],
+    catalogue: &mut [u32],
+    tables: &mut [u32],
+    question: &mut [u32],
+) -> Result<Bundle, WrongLine>
     ensures { BundleFound (lines_of text.now) catalogue.old catalogue.new tables.old tables.new question.old question.new result }
 {
+    let mut reader = Reader::new(text);
     let mut mode = [0u32; 1];
-    match next_line(text, 0, 1, Line::Mode, &mut mode, 0) {
-        Step::Next(next) => read_behind_mode(text, next, mode[0], catalogue, tables, question),
-        Step::Wrong(wrong) => Lines::Wrong(wrong),
-    }
+    next_line(&mut reader, Line::Mode, &mut mode, 0)?;
+    read_behind_mode(&mut reader, mode[0], catalogue, tables, question)
 }
 
 // What `read_all` would answer, with no buffer written.
-fn judge(text: &[u8]) -> Lines
+fn judge(text: &[u8]) -> Result<Bundle, WrongLine>
     ensures { result ≡ lines_answer (lines_of text.now) (lines_of text.now).next }
 {
     let mut catalogue = [0u32; 1];
@@ -261,36 +195,23 @@ fn judge(text: &[u8]) -> Lines
 }
 
 // Reads a bundle to the front of the three buffers. A refusal changes none of them, so the text is judged first.
-pub fn read(text: &[u8], catalogue: &mut [u32], tables: &mut [u32], question: &mut [u32]) -> Reading
+pub fn read(
+    text: &[u8],
+    catalogue: &mut [u32],
+    tables: &mut [u32],
+    question: &mut [u32],
+) -> Result<Bundle, ReadRefusal>
     ensures { record { numbers = read_numbers result; catalogue = catalogue.new; tables = tables.new; question = question.new } ≡ read_outcome text.now catalogue.old tables.old question.old }
 {
-    if catalogue.len() < CATALOGUE_WORDS {
-        return Reading::SmallBuffer;
-    }
-    if tables.len() < WORDS {
-        return Reading::SmallBuffer;
-    }
-    if question.len() < QUESTION_WORDS {
-        return Reading::SmallBuffer;
+    if catalogue.len() < CATALOGUE_WORDS
+        || tables.len() < WORDS
+        || question.len() < QUESTION_WORDS
+    {
+        return Err(ReadRefusal::SmallBuffer);
     }
     if TEXT_BYTES < text.len() {
-        return Reading::WrongLine(0);
+        return Err(ReadRefusal::WrongLine(0));
     }
-    match judge(text) {
-        Lines::Wrong(line) => Reading::WrongLine(line),
-        Lines::Read {
-            mode,
-            pairs,
-            words,
-            nodes,
-        } => {
-            read_all(text, catalogue, tables, question);
-            Reading::Bundle {
-                mode,
-                pairs,
-                words,
-                nodes,
-            }
-        }
-    }
+    judge(text)?;
+    Ok(read_all(text, catalogue, tables, question)?)
 }

@@ -1,2 +1,3 @@
 pub mod WritingSteps
+pub mod WriteLaws
 pub mod Rooms

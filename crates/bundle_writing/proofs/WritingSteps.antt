@@ -2,20 +2,22 @@
 use Prim.Native.Nat.{ℕ, ◌+◌, ◌*◌, ◌/◌, ◌<◌, ◌≤◌}
 use mathlib.Core.Path.{◌≡◌, refl, sym, ap, ◌∙◌}
 use mathlib.Core.List.{List, [], ◌∷◌, ◌++◌, append_assoc}
-use mathlib.Core.Bool.{Bool, true, false, cond}
+use mathlib.Core.Bool.{Bool, true, false, cond, false≢true}
 use native.Mathlib.Omega.{arith}
-use lib.Dec.{eqb}
-use lib.ListN.{length, get_or, take, drop, length-append}
+use lib.Dec.{eqb, ltb}
+use lib.ListN.{length, get_or, take, drop, length-append, length-drop, drop_of_length-le}
 use lib.Seq.{drop-drop}
 use Rattle.relations.specs.Limits.{question_node_words, question_node_limit}
 use Rattle.lines.specs.Marks.{plain_line, short_line, relation_key, row_key, node_key}
 use Rattle.catalogue.specs.Judging.{pair_ok, pairs_ok, catalogue_words, tables_ok}
 use Rattle.lines.specs.Writing.{numbers_text, lines_text}
 use Rattle.bundles.specs.Writing.{tables_text, mode_text, bundle_text}
-use Rattle.lines.specs.Put.{furthest}
+use Rattle.lines.specs.Put.{Put, furthest}
+use Rattle.lines.proofs.Stores.{StillToPut, put_on, put_fits}
+use borrow.Author.Tests.{ltb-true, ltb-false}
 use Rattle.relations.proofs.BoolLaws.{and_left, and_right}
 use Rattle.catalogue.proofs.Judgements.{good_pair, GoodTables, good-tables}
-use Rattle.catalogue.proofs.PairLaws.{drop_pair, pairs-good, pairs_first, pair_whole, words_pair}
+use Rattle.catalogue.proofs.PairLaws.{drop_pair, pairs-good, pairs_first, words_pair}
 use Rattle.lines.proofs.WritingSteps.{length-lines, rows_words, length-numbers}
 
 regroup : (a b c d : List ℕ) → a ++ b ++ c ++ d ≡ a ++ (b ++ (c ++ d))
@@ -31,6 +33,18 @@ tables_step catalogue tables more columns rows place e =
     rw e (
     regroup relation_key numbers lines (tables_text more (drop (columns * rows) (drop place tables)))
     ∙ ap (λ (l : List ℕ). relation_key ++ (numbers ++ (lines ++ tables_text more l))) (drop-drop (columns * rows) place tables))
+
+-- A pair that begins in good pairs is whole.
+two_left : (l : List ℕ) → pairs_ok l ≡ true → 0 < length l → 1 < length l
+unfolding pairs_ok
+two_left [] ok h = absurd (omega arith)
+two_left (columns ∷ []) ok h = absurd (false≢true ok)
+two_left (columns ∷ rows ∷ more) ok h = omega arith
+
+pair_whole : (l : List ℕ) (at : ℕ) → at < length l → pairs_ok (drop at l) ≡ true → at + 1 < length l
+pair_whole l at h ok =
+    let some : 0 < length (drop at l) = rw length-drop (omega arith) in
+    omega (arith, two_left (drop at l) ok some, length-drop at l)
 
 -- A turn of the loop over the catalogue, at the pair that stands in front of what is left.
 pub record TableTurn (catalogue tables : List ℕ) (pair place columns rows : ℕ) : Type 0 where
@@ -54,10 +68,51 @@ table_turn catalogue tables pair place columns rows h ok e f =
       text = tables_step (drop pair catalogue) tables more columns rows place front;
     }
 
-pub bundle_parts : (mode : ℕ) (catalogue tables nodes : List ℕ)
-    → bundle_text mode catalogue tables nodes ≡ mode_text mode ++ (tables_text catalogue tables ++ lines_text node_key question_node_words (length nodes / question_node_words) nodes)
+-- and when no pair is left
+pub last_pair : (catalogue : List ℕ) (pair : ℕ) → length catalogue ≤ pair + 1 → pairs_ok (drop pair catalogue) ≡ true → drop pair catalogue ≡ []
+last_pair catalogue pair h ok = go (ltb pair (length catalogue)) refl
+  where
+    go : (some : Bool) → ltb pair (length catalogue) ≡ some → drop pair catalogue ≡ []
+    go true e = absurd (omega (arith, pair_whole catalogue pair (ltb-true _ _ e) ok))
+    go false e = drop_of_length-le catalogue {i = pair} (ltb-false _ _ e)
+
+-- What the turn puts: the key, the pair and the rows, each behind the other.
+module _ {catalogue tables before now : List ℕ} {at end pair place columns rows : ℕ} {whole : List ℕ} (turn : TableTurn catalogue tables pair place columns rows)
+    (still : StillToPut at whole before end (tables_text (drop pair catalogue) (drop place tables)) now) (fits : at + length whole ≤ furthest) where
+  abbrev numbers : List ℕ
+  numbers = numbers_text (take 2 (drop pair catalogue))
+
+  abbrev lines : List ℕ
+  lines = lines_text row_key columns rows (drop place tables)
+
+  abbrev others : List ℕ
+  others = tables_text (drop (pair + 2) catalogue) (drop (place + columns * rows) tables)
+
+  pub key_fits : end + length relation_key ≤ furthest
+  key_fits = put_fits relation_key (numbers ++ (lines ++ others)) furthest still turn.text fits
+
+  module _ {keyed : List ℕ} {behind : ℕ} (key_put : Put end relation_key now keyed behind) where
+    still_numbers : StillToPut at whole before behind (numbers ++ (lines ++ others)) keyed
+    still_numbers = put_on relation_key (numbers ++ (lines ++ others)) still turn.text key_put
+
+    pub numbers_fit : behind + length numbers ≤ furthest
+    numbers_fit = put_fits numbers (lines ++ others) furthest still_numbers refl fits
+
+    module _ {numbered : List ℕ} {rows_at : ℕ} (numbers_put : Put behind numbers keyed numbered rows_at) where
+      still_lines : StillToPut at whole before rows_at (lines ++ others) numbered
+      still_lines = put_on numbers (lines ++ others) still_numbers refl numbers_put
+
+      pub lines_fit : rows_at + length lines ≤ furthest
+      lines_fit = put_fits lines others furthest still_lines refl fits
+
+      pub lines_put : {after : List ℕ} {stop : ℕ} → Put rows_at lines numbered after stop → StillToPut at whole before stop others after
+      lines_put p = put_on lines others still_lines refl p
+
+-- The parts of a bundle's text, and how long they are.
+pub length-bundle : (mode : ℕ) (catalogue tables nodes : List ℕ)
+    → length (bundle_text mode catalogue tables nodes) ≡ length (mode_text mode) + length (tables_text catalogue tables) + length (lines_text node_key question_node_words (length nodes / question_node_words) nodes)
 unfolding bundle_text
-bundle_parts mode catalogue tables nodes = append_assoc (mode_text mode) (tables_text catalogue tables) (lines_text node_key question_node_words (length nodes / question_node_words) nodes)
+length-bundle mode catalogue tables nodes = simp length-append
 
 length-tables : (catalogue tables : List ℕ) → pairs_ok catalogue ≡ true → length (tables_text catalogue tables) ≤ 31 * length catalogue + 15 * catalogue_words catalogue
 unfolding tables_text pairs_ok catalogue_words

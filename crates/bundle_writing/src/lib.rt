@@ -9,17 +9,29 @@ ghost use Rattle.lines.specs.Put.{Put, furthest};
 ghost use Rattle.bundle_writing.specs.WriteAnswer.{write_numbers};
 ghost use Rattle.bundles.specs.WriteCall.{write_outcome};
 
-use catalogue::judging::{tables_ok, wide};
+use catalogue::judging::tables_ok;
 use lines::writing::{put_bytes, put_lines, put_numbers};
 use relations::limits::{QUESTION_NODE_WORDS, QUESTION_NODES, TEXT_BYTES};
 
-// What writing a bundle answers: its bytes; or refusal 7, 1 or 13.
-#[derive(Clone, Copy)]
-pub enum Writing {
-    Bytes(usize),
+// Why no bundle was written: refusal 7, 1 or 13.
+#[derive(Clone, Copy, PartialEq, Eq, Debug)]
+pub enum WriteRefusal {
     WrongTables,
     WrongNodes,
     SmallBuffer,
+}
+
+impl WriteRefusal {
+    // Its place is 0.
+    pub fn status(self) -> u32
+        ensures { result ≡ (write_numbers (Err self)).status }
+    {
+        match self {
+            WriteRefusal::WrongTables => 7,
+            WriteRefusal::WrongNodes => 1,
+            WriteRefusal::SmallBuffer => 13,
+        }
+    }
 }
 
 // For each pair of the catalogue its line and the lines of its table.
@@ -28,16 +40,15 @@ fn put_tables(text: &mut [u8], at: usize, catalogue: &[u32], tables: &[u32]) -> 
     ensures { Put at (tables_text catalogue.now tables.now) text.old text.new result }
 {
     let mut end = at;
-    let mut pair: usize = 0;
-    let mut place: usize = 0;
-    while pair < catalogue.len() {
-        let columns = wide(catalogue[pair]);
-        let rows = wide(catalogue[pair + 1]);
+    let mut place = 0;
+    for table in 0..catalogue.len() / 2 {
+        let pair = 2 * table;
+        let columns = catalogue[pair] as usize;
+        let rows = catalogue[pair + 1] as usize;
         let behind = put_bytes(text, end, b"relation=");
-        let rows_at = put_numbers(text, behind, catalogue, pair, 2);
-        end = put_lines(text, rows_at, b"row=", columns, rows, tables, place);
+        let rows_at = put_numbers(text, behind, &catalogue[pair..pair + 2]);
+        end = put_lines(text, rows_at, b"row=", columns, rows, &tables[place..]);
         place += columns * rows;
-        pair += 2;
     }
     end
 }
@@ -47,9 +58,10 @@ fn put_mode(text: &mut [u8], mode: u32) -> usize
     ensures { Put 0 (mode_text mode) text.old text.new result }
 {
     if mode == 0 {
-        return put_bytes(text, 0, b"mode=plain\n");
+        put_bytes(text, 0, b"mode=plain\n")
+    } else {
+        put_bytes(text, 0, b"mode=short\n")
     }
-    put_bytes(text, 0, b"mode=short\n")
 }
 
 fn put_bundle(mode: u32, catalogue: &[u32], tables: &[u32], nodes: &[u32], text: &mut [u8]) -> usize
@@ -65,7 +77,6 @@ fn put_bundle(mode: u32, catalogue: &[u32], tables: &[u32], nodes: &[u32], text:
         QUESTION_NODE_WORDS,
         nodes.len() / QUESTION_NODE_WORDS,
         nodes,
-        0,
     )
 }
 
@@ -85,29 +96,20 @@ pub fn write(
     tables: &[u32],
     nodes: &[u32],
     text: &mut [u8],
-) -> Writing
+) -> Result<usize, WriteRefusal>
     ensures { record { numbers = write_numbers result; text = text.new } ≡ write_outcome mode catalogue.now tables.now nodes.now text.old }
 {
     if !tables_ok(catalogue, tables) {
-        return Writing::WrongTables;
+        return Err(WriteRefusal::WrongTables);
     }
     let count = nodes.len() / QUESTION_NODE_WORDS;
-    if nodes.len() % QUESTION_NODE_WORDS != 0 {
-        return Writing::WrongNodes;
-    }
-    if count == 0 {
-        return Writing::WrongNodes;
-    }
-    if QUESTION_NODES < count {
-        return Writing::WrongNodes;
+    if nodes.len() % QUESTION_NODE_WORDS != 0 || count == 0 || QUESTION_NODES < count {
+        return Err(WriteRefusal::WrongNodes);
     }
     let bytes = count_bytes(mode, catalogue, tables, nodes);
-    if TEXT_BYTES < bytes {
-        return Writing::SmallBuffer;
-    }
-    if text.len() < bytes {
-        return Writing::SmallBuffer;
+    if TEXT_BYTES < bytes || text.len() < bytes {
+        return Err(WriteRefusal::SmallBuffer);
     }
     put_bundle(mode, catalogue, tables, nodes, text);
-    Writing::Bytes(bytes)
+    Ok(bytes)
 }

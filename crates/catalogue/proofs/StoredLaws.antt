@@ -36,6 +36,14 @@ start_room catalogue relation later h =
     let is : relation + 1 + (later - (relation + 1)) ≡ later = omega arith in
     rw (← start_next catalogue relation) (rw is at (start_later catalogue (relation + 1) (later - (relation + 1))))
 
+-- a relation's words, by the numbers that the code read of its pair
+module _ (catalogue : List ℕ) (relation : ℕ) {start columns rows : ℕ} (here : start ≡ start_of catalogue relation) (wide : columns ≡ columns_of catalogue relation) (long : rows ≡ row_count_of catalogue relation) where
+  pub start_over : start + columns * rows ≡ start_of catalogue (relation + 1)
+  start_over = rw (here, wide, long, start_next catalogue relation) refl
+
+  pub over_within : (later : ℕ) → relation < later → start + columns * rows ≤ start_of catalogue later
+  over_within later h = rw (here, wide, long) (start_room catalogue relation later h)
+
 -- pair by pair from the front: the sum of columns x rows before the relation
 pub start_pair : (columns rows : ℕ) (more : List ℕ) (relation : ℕ) → start_of (columns ∷ rows ∷ more) (suc relation) ≡ columns * rows + start_of more relation
 unfolding start_of

@@ -1,8 +1,7 @@
 -- Document 01, "What the desk holds": the catalogue, its number of words, and refusal 7 in its two forms. Assumes nothing.
-use Rattle.std.specs.Prelude.{ℕ, ◌+◌, ◌*◌, List, [], ◌∷◌, Bool, true, false, cond, ◌&&◌, length, leb, eqb}
+use Rattle.std.specs.Prelude.{ℕ, ◌+◌, ◌*◌, List, [], ◌∷◌, Bool, true, false, cond, ◌&&◌, length, leb, eqb, Result, Ok, Err}
 use Rattle.relations.specs.Limits.{catalogue_pair_limit, stored_column_limit, row_limit, word_limit}
-use Rattle.catalogue.specs.declared.judging.Judged.{Judged}
-use Rattle.catalogue.specs.declared.judging.Judged.TheVariants.{Words, Wrong}
+use Rattle.catalogue.specs.declared.judging.WrongCatalogue.{WrongCatalogue}
 
 -- "pairs (columns 1 to 8, rows 0 to 16,384)"
 abbrev pub pair_ok : ℕ → ℕ → Bool
@@ -34,9 +33,9 @@ pub record CatalogueNumbers : Type 0 where
   pub words : ℕ
 
 -- the numbers of each case of the answer
-abbrev pub catalogue_numbers : Judged → CatalogueNumbers
-catalogue_numbers (Words count) = record { status = 0; place = 0; words = count }
-catalogue_numbers Wrong = record { status = 7; place = 0; words = 0 }
+abbrev pub catalogue_numbers : Result ℕ WrongCatalogue → CatalogueNumbers
+catalogue_numbers (Ok count) = record { status = 0; place = 0; words = count }
+catalogue_numbers (Err wrong) = record { status = 7; place = 0; words = 0 }
 
 -- 7, "pairs and their total of words only": "catalogue .. wrong", at 0
 abbrev pub judged_catalogue : List ℕ → CatalogueNumbers

@@ -4,18 +4,9 @@ ghost use Rattle.catalogue.specs.Judging.{pair_ok, tables_ok, catalogue_numbers,
 
 use relations::limits::{CATALOGUE_WORDS, STORED_COLUMNS, STORED_ROWS, WORDS};
 
-// The number of words that the tables have, or refusal 7.
+// Refusal 7: a pair, or the pairs together, are none of a catalogue.
 #[derive(Clone, Copy)]
-pub enum Judged {
-    Words(usize),
-    Wrong,
-}
-
-pub fn wide(word: u32) -> usize
-    ensures { result ≡ word }
-{
-    word as usize
-}
+pub struct WrongCatalogue;
 
 // Columns 1 to 8, rows 0 to 16,384.
 pub fn pair_ok(columns: usize, rows: usize) -> bool
@@ -24,32 +15,27 @@ pub fn pair_ok(columns: usize, rows: usize) -> bool
     (1 <= columns) & (columns <= STORED_COLUMNS) & (rows <= STORED_ROWS)
 }
 
-// Refusal 7 as translation asks for it: the pairs and their total of words.
-pub fn judge_catalogue(catalogue: &[u32]) -> Judged
+// The number of words that the tables have, or refusal 7 as translation asks for it: the pairs and their total of words.
+pub fn judge_catalogue(catalogue: &[u32]) -> Result<usize, WrongCatalogue>
     ensures { catalogue_numbers result ≡ judged_catalogue catalogue.now }
 {
-    if CATALOGUE_WORDS < catalogue.len() {
-        return Judged::Wrong;
+    if CATALOGUE_WORDS < catalogue.len() || catalogue.len() % 2 != 0 {
+        return Err(WrongCatalogue);
     }
     let mut words: usize = 0;
-    let mut at: usize = 0;
-    while at + 1 < catalogue.len() {
-        let columns = wide(catalogue[at]);
-        let rows = wide(catalogue[at + 1]);
-        if pair_ok(columns, rows) {
-            words += columns * rows;
-            at += 2;
-        } else {
-            return Judged::Wrong;
+    for pair in catalogue.chunks_exact(2) {
+        let columns = pair[0] as usize;
+        let rows = pair[1] as usize;
+        if !pair_ok(columns, rows) {
+            return Err(WrongCatalogue);
         }
+        words += columns * rows;
     }
-    if at < catalogue.len() {
-        return Judged::Wrong;
+    if words <= WORDS {
+        Ok(words)
+    } else {
+        Err(WrongCatalogue)
     }
-    if WORDS < words {
-        return Judged::Wrong;
-    }
-    Judged::Words(words)
 }
 
 // Refusal 7 as all others ask for it: the tables' length is compared too.
@@ -57,7 +43,7 @@ pub fn tables_ok(catalogue: &[u32], tables: &[u32]) -> bool
     ensures { result ≡ tables_ok catalogue.now tables.now }
 {
     match judge_catalogue(catalogue) {
-        Judged::Words(words) => tables.len() == words,
-        Judged::Wrong => false,
+        Ok(words) => tables.len() == words,
+        Err(WrongCatalogue) => false,
     }
 }

@@ -3,8 +3,6 @@ ghost use Rattle.std.specs.Prelude.{◌≡◌, ◌≤◌};
 ghost use Rattle.relations.specs.Limits.{word_limit};
 ghost use Rattle.catalogue.specs.Stored.{relations_of, columns_of, row_count_of, start_of};
 
-use crate::judging::wide;
-
 pub fn relations_of(catalogue: &[u32]) -> usize
     ensures { result ≡ relations_of catalogue.now }
 {
@@ -39,10 +37,8 @@ pub fn start_of(catalogue: &[u32], relation: usize) -> usize
     ensures { result ≡ start_of catalogue.now relation }
 {
     let mut start = 0;
-    let mut passed = 0;
-    while passed < relation {
-        start += wide(columns_of(catalogue, passed)) * wide(rows_of(catalogue, passed));
-        passed += 1;
+    for passed in 0..relation {
+        start += columns_of(catalogue, passed) as usize * rows_of(catalogue, passed) as usize;
     }
     start
 }

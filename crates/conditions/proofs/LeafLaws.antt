@@ -2,15 +2,14 @@
 use Prim.Native.Nat.{ℕ, zero, suc, ◌+◌, ◌*◌, ◌-◌, ◌≤◌, ◌<◌}
 use mathlib.Core.Path.{◌≡◌, refl, sym, ap, ap₂, ◌∙◌}
 use mathlib.Core.Bool.{Bool, true, false, cond, not, ◌&&◌}
-use mathlib.Core.List.{List, [], ◌∷◌, ◌++◌, map, append_assoc, map-append, map-map}
+use mathlib.Core.List.{List, [], ◌∷◌, ◌++◌, map, map-append, map-map}
 use native.Mathlib.Nat.{zero-add}
 use native.Mathlib.Omega.{arith}
 use lib.Dec.{ltb, leb}
-use lib.ListN.{length, get_or, take, drop, set, replicate, length-set, length-append, length-map, length-replicate, get_or-append}
-use lib.Seq.{sets, length-sets, sets-eq, set-set, set_comm, set-get_or, get_or-set_same, get_or-set_other, get_or-append-add, length-take-le}
+use lib.ListN.{length, get_or, length-append, length-map, length-replicate}
+use lib.Seq.{length-sets, sets-eq, take-append_seam}
 use borrow.Author.Tests.{leb-true}
-use Rattle.relations.specs.Limits.{column_limit, question_node_limit, question_node_words, variable_count, operator_count}
-use Rattle.relations.specs.Comparison.{operator_number, operator_named}
+use Rattle.relations.specs.Limits.{column_limit, question_node_limit, question_node_words, variable_count}
 use Rattle.relations.specs.Lists.{All}
 use Rattle.relations.proofs.ListLaws.{all_append}
 use Rattle.relations.proofs.StoreLaws.{sets-append}
@@ -29,15 +28,14 @@ use Rattle.nodes.specs.declared.node.Quantifier.TheVariants.{Some, Every, AtLeas
 use Rattle.nodes.specs.declared.node.Binder.TheVariants.{Binding, Quantifies}
 use Rattle.nodes.specs.declared.node.Form.{Form}
 use Rattle.nodes.specs.declared.node.Form.TheVariants.{Table, Alpha, Target, Binds, Combines, Compares, Connects, IllFormed}
-use Rattle.nodes.proofs.Forms.{form_fits, operand_fits, first_of, second_of, third_of}
+use Rattle.nodes.proofs.Forms.{form_fits, operand_fits, third_of}
 use Rattle.question.proofs.TreeLaws.{tree_of_reference}
-use Rattle.conditions.specs.Entries.{entries}
 use Rattle.conditions.specs.Atoms.{OperandNarrow, AtomNarrow}
-use Rattle.conditions.specs.Leaves.{empty_atom, atom_in, leaf_of, numbers_below, leaf_numbers, leaf_words, leaf_count, with_leaves, is_tree, leaf_numbered, leaf_at, atoms_of, LeavesFit, Collectable}
+use Rattle.conditions.specs.Leaves.{empty_atom, atom_in, leaf_of, numbers_below, leaf_numbers, no_leaves, numbers_in, with_leaves, is_tree, leaf_numbered, atoms_of, LeavesFit, Collectable}
 use Rattle.conditions.specs.Readings.{Names, condition_at}
 use Rattle.conditions.proofs.Readings.{made, reading_in, fits_in, condition_is, Part, and_parts, or_parts}
 use Rattle.conditions.proofs.OtherNodes.{NoLeaves, not_leaves}
-use Rattle.conditions.proofs.EntryLaws.{entries-map}
+use Rattle.conditions.specs.declared.leaves.Leaves.{Leaves}
 
 -- an atom of the table is narrow
 
@@ -45,18 +43,8 @@ operand-narrow : (operand : Operand) → operand_fits operand ≡ true → Opera
 operand-narrow (Of variable attribute) h = leb-true attribute.0 column_limit (third_of (ltb variable variable_count) (leb 1 attribute.0) (leb attribute.0 column_limit) h)
 operand-narrow (Fixed constant) h = tt
 
-operator-number : (number : ℕ) → 1 ≤ number → number ≤ operator_count → number ≡ operator_number (operator_named number)
-operator-number zero h k = absurd (omega arith)
-operator-number (suc zero) h k = refl
-operator-number (suc (suc zero)) h k = refl
-operator-number (suc (suc (suc zero))) h k = refl
-operator-number (suc (suc (suc (suc zero)))) h k = refl
-operator-number (suc (suc (suc (suc (suc zero))))) h k = refl
-operator-number (suc (suc (suc (suc (suc (suc zero)))))) h k = refl
-operator-number (suc (suc (suc (suc (suc (suc (suc n))))))) h k = absurd (omega arith)
-
 pub empty_narrow : AtomNarrow empty_atom
-empty_narrow = record { attribute = omega arith; operand = tt; operator = refl }
+empty_narrow = record { attribute = omega arith; operand = tt }
 
 pub atom-narrow : (form : Form) → form_fits form ≡ true → AtomNarrow (atom_in form)
 atom-narrow (Table relation) h = empty_narrow
@@ -68,13 +56,9 @@ atom-narrow (Compares atom) h =
     let v : Bool = ltb atom.variable variable_count in
     let a : Bool = leb 1 atom.attribute.0 in
     let b : Bool = leb atom.attribute.0 column_limit in
-    let p : Bool = leb 1 atom.operator in
-    let q : Bool = leb atom.operator operator_count in
-    let k : (v && a && b && p && q) ≡ true = and_left (v && a && b && p && q) (operand_fits atom.operand) h in
     record {
-      attribute = leb-true atom.attribute.0 column_limit (third_of v a b (first_of (v && a && b) p q k));
-      operand = operand-narrow atom.operand (and_right (v && a && b && p && q) (operand_fits atom.operand) h);
-      operator = operator-number atom.operator (leb-true 1 atom.operator (second_of (v && a && b) p q k)) (leb-true atom.operator operator_count (third_of (v && a && b) p q k));
+      attribute = leb-true atom.attribute.0 column_limit (third_of v a b (and_left (v && a && b) (operand_fits atom.operand) h));
+      operand = operand-narrow atom.operand (and_right (v && a && b) (operand_fits atom.operand) h);
     }
 atom-narrow (Connects connective) h = empty_narrow
 atom-narrow IllFormed h = empty_narrow
@@ -113,60 +97,41 @@ either false tree = refl
 
 -- leaves behind others
 
-sets_behind : (l : List ℕ) (k a : ℕ) (numbers : List ℕ) → 0 < k → sets (set l 0 a) k numbers ≡ set (sets l k numbers) 0 a
-sets_behind l k a [] h = refl
-sets_behind l k a (number ∷ numbers) h =
-    ap (λ (m : List ℕ). sets m (suc k) numbers) (set_comm l 0 k a number (λ e. omega arith)) ∙ sets_behind (set l k number) (suc k) a numbers (omega arith)
+abbrev leaves_of : List ℕ → ℕ → Leaves
+leaves_of numbers count = record { numbers = numbers; count = count }
 
-sets_at : (l : List ℕ) (k : ℕ) (numbers : List ℕ) (i : ℕ) → i < length numbers → k + length numbers ≤ length l → get_or (sets l k numbers) (k + i) 0 ≡ get_or numbers i 0
-sets_at l k numbers i h room =
-    let rest : List ℕ = numbers ++ drop (k + length numbers) l in
-    ap (λ (m : List ℕ). get_or m (k + i) 0) (sets-eq numbers l k room ∙ append_assoc (take k l) numbers (drop (k + length numbers) l))
-    ∙ ap (λ (j : ℕ). get_or (take k l ++ rest) (j + i) 0) (sym (length-take-le k l (omega arith)))
-    ∙ get_or-append-add (take k l) rest i 0
-    ∙ get_or-append numbers (drop (k + length numbers) l) 0 i h
-
-length-behind : (before numbers : List ℕ) → length (with_leaves before numbers) ≡ length before
+pub length-behind : (before : Leaves) (more : List ℕ) → length (with_leaves before more).numbers ≡ length before.numbers
 unfolding with_leaves
-length-behind before numbers = length-set (sets before (1 + leaf_count before) numbers) 0 (leaf_count before + length numbers) ∙ length-sets before (1 + leaf_count before) numbers
+length-behind before more = length-sets before.numbers before.count more
 
-module _ (before : List ℕ) (size : length before ≡ leaf_words) where
-  pub count-behind : (numbers : List ℕ) → leaf_count (with_leaves before numbers) ≡ leaf_count before + length numbers
-  unfolding with_leaves
-  count-behind numbers = get_or-set_same (sets before (1 + leaf_count before) numbers) 0 (leaf_count before + length numbers) 0 (omega (arith, size, length-sets before (1 + leaf_count before) numbers))
+pub count-behind : (before : Leaves) (more : List ℕ) → (with_leaves before more).count ≡ before.count + length more
+unfolding with_leaves
+count-behind before more = refl
 
-  pub none_behind : before ≡ with_leaves before []
-  unfolding with_leaves
-  none_behind = sym (ap (set before 0) (omega arith) ∙ set-get_or before 0 0)
+pub none_behind : (before : Leaves) → before ≡ with_leaves before []
+unfolding with_leaves
+none_behind before = ap (leaves_of before.numbers) (omega arith)
 
-  twice : (xs ys : List ℕ) → leaf_count (with_leaves before xs) ≡ leaf_count before + length xs → with_leaves (with_leaves before xs) ys ≡ with_leaves before (xs ++ ys)
-  unfolding with_leaves
-  twice xs ys e =
-      let count : ℕ = leaf_count before in
-      let both : ℕ = count + length xs in
-      let one : List ℕ = sets before (1 + count) xs in
-      let place : 1 + both ≡ 1 + count + length xs = omega arith in
-      let sum : both + length ys ≡ count + length (xs ++ ys) = omega (arith, length-append xs ys) in
-      ap (λ (k : ℕ). set (sets (set one 0 both) (1 + k) ys) 0 (k + length ys)) e
-      ∙ ap (λ (l : List ℕ). set l 0 (both + length ys)) (sets_behind one (1 + both) both ys (omega arith))
-      ∙ set-set (sets one (1 + both) ys) 0 both (both + length ys)
-      ∙ ap₂ (λ (l : List ℕ) (k : ℕ). set l 0 k) (ap (λ (k : ℕ). sets one k ys) place ∙ sym (sets-append before (1 + count) xs ys)) sum
+-- collected one after the other
+pub leaves-behind : (before : Leaves) (xs ys : List ℕ) → with_leaves (with_leaves before xs) ys ≡ with_leaves before (xs ++ ys)
+unfolding with_leaves
+leaves-behind before xs ys =
+    let sum : before.count + length xs + length ys ≡ before.count + length (xs ++ ys) = omega (arith, length-append xs ys) in
+    ap₂ leaves_of (sym (sets-append before.numbers before.count xs ys)) sum
 
-  -- collected one after the other
-  pub leaves-behind : (xs ys : List ℕ) → with_leaves (with_leaves before xs) ys ≡ with_leaves before (xs ++ ys)
-  leaves-behind xs ys = twice xs ys (count-behind xs)
+-- the first ones
 
-  -- the first ones
-  module _ (none : leaf_count before ≡ 0) (numbers : List ℕ) (few : length numbers ≤ question_node_limit) where
-    pub count-first : leaf_count (with_leaves before numbers) ≡ length numbers
-    count-first = omega (arith, count-behind numbers, none)
+none_first : no_leaves.count ≡ 0
+unfolding no_leaves
+none_first = refl
 
-    pub number-first : (i : ℕ) → i < length numbers → get_or (with_leaves before numbers) (1 + i) 0 ≡ get_or numbers i 0
-    unfolding with_leaves
-    number-first i h =
-        get_or-set_other (sets before (1 + leaf_count before) numbers) 0 (1 + i) (leaf_count before + length numbers) 0 (λ e. omega arith)
-        ∙ ap (λ (k : ℕ). get_or (sets before (1 + k) numbers) (1 + i) 0) none
-        ∙ sets_at before 1 numbers i h (omega (arith, size, few))
+none-room : length no_leaves.numbers ≡ question_node_limit
+unfolding no_leaves
+none-room = length-replicate {A = ℕ} question_node_limit 0
+
+pub first_numbers : (numbers : List ℕ) → length numbers ≤ question_node_limit → numbers_in (with_leaves no_leaves numbers) ≡ numbers
+unfolding with_leaves no_leaves
+first_numbers numbers few = rw (sets-eq numbers no_leaves.numbers 0 (omega arith), zero-add (length numbers)) (take-append_seam numbers _)
 
 module _ (words : List ℕ) where
   -- the numbers of a node's leaves, by those of its references
@@ -178,7 +143,7 @@ module _ (words : List ℕ) where
       rw e (ap leaf_numbers t ∙ ap (λ (g : calculus.Condition). numbers_below g (reference - 1) (leaf_numbers (tree_of words (node_at words (reference - 1)).a)) (leaf_numbers (tree_of words (node_at words (reference - 1)).b))) (ap (λ (tree : Tree). (reading tree).condition) (sym t) ∙ c))
 
   -- what `collect` ensures
-  abbrev pub Collected : Bool → ℕ → List ℕ → List ℕ → Bool → Type 0
+  abbrev pub Collected : Bool → ℕ → Leaves → Leaves → Bool → Type 0
   Collected disjoined reference before after tree = (after ≡ with_leaves before (leaf_numbers (tree_of words reference))) × (tree ≡ is_tree disjoined (condition_at words reference))
 
   module _ {reference : ℕ} (h : 1 ≤ reference) where
@@ -192,9 +157,9 @@ module _ (words : List ℕ) where
       pub or_numbers : made (Connects Or) left right c ≡ node_at words (reference - 1) → Sides
       or_numbers e = leaf_numbers_lem reference (made (Connects Or) left right c) h e (condition_is words reference (made (Connects Or) left right c) h e)
 
-      module _ (disjoined : Bool) (before : List ℕ) (size : length before ≡ leaf_words) {middle after : List ℕ} {first second : Bool} (one : Collected disjoined left before middle first) (two : Collected disjoined right middle after second) where
+      module _ (disjoined : Bool) (before : Leaves) {middle after : Leaves} {first second : Bool} (one : Collected disjoined left before middle first) (two : Collected disjoined right middle after second) where
         both_stored : Sides → after ≡ with_leaves before (leaf_numbers (tree_of words reference))
-        both_stored n = two.0 ∙ ap (λ (l : List ℕ). with_leaves l (leaf_numbers (tree_of words right))) one.0 ∙ leaves-behind before size (leaf_numbers (tree_of words left)) (leaf_numbers (tree_of words right)) ∙ ap (with_leaves before) (sym n)
+        both_stored n = two.0 ∙ ap (λ (l : Leaves). with_leaves l (leaf_numbers (tree_of words right))) one.0 ∙ leaves-behind before (leaf_numbers (tree_of words left)) (leaf_numbers (tree_of words right)) ∙ ap (with_leaves before) (sym n)
 
         pub collected_and : made (Connects And) left right c ≡ node_at words (reference - 1) → Collected disjoined reference before after (not disjoined && (first && second))
         collected_and e = (both_stored (and_numbers e), joined_and disjoined (condition_at words left) (condition_at words right) one.1 two.1 ∙ ap (is_tree disjoined) (sym (condition_is words reference (made (Connects And) left right c) h e)))
@@ -202,29 +167,29 @@ module _ (words : List ℕ) where
         pub collected_or : made (Connects Or) left right c ≡ node_at words (reference - 1) → Collected disjoined reference before after (disjoined && (first && second))
         collected_or e = (both_stored (or_numbers e), joined_or disjoined (condition_at words left) (condition_at words right) one.1 two.1 ∙ ap (is_tree disjoined) (sym (condition_is words reference (made (Connects Or) left right c) h e)))
 
-    module _ (disjoined : Bool) (before : List ℕ) {node : Node} (e : node ≡ node_at words (reference - 1)) where
-      pub collected_none : length before ≡ leaf_words → NoLeaves (reading_in words node).condition → Collected disjoined reference before before false
-      collected_none size none =
+    module _ (disjoined : Bool) (before : Leaves) {node : Node} (e : node ≡ node_at words (reference - 1)) where
+      pub collected_none : NoLeaves (reading_in words node).condition → Collected disjoined reference before before false
+      collected_none none =
           let f = condition_is words reference node h e in
-          (none_behind before size ∙ ap (with_leaves before) (sym (leaf_numbers_lem reference node h e f ∙ none.no_numbers _ _ _)), sym (none.no_tree disjoined) ∙ ap (is_tree disjoined) (sym f))
+          (none_behind before ∙ ap (with_leaves before) (sym (leaf_numbers_lem reference node h e f ∙ none.no_numbers _ _ _)), sym (none.no_tree disjoined) ∙ ap (is_tree disjoined) (sym f))
 
-    pub collected_leaf : (disjoined : Bool) (before : List ℕ) {atom : Atom} {a b c : ℕ} → made (Compares atom) a b c ≡ node_at words (reference - 1) → {after : List ℕ} → after ≡ with_leaves before ((reference - 1) ∷ []) → Collected disjoined reference before after true
+    pub collected_leaf : (disjoined : Bool) (before : Leaves) {atom : Atom} {a b c : ℕ} → made (Compares atom) a b c ≡ node_at words (reference - 1) → {after : Leaves} → after ≡ with_leaves before ((reference - 1) ∷ []) → Collected disjoined reference before after true
     collected_leaf disjoined before {atom} {a} {b} {c} e stored =
         let f = condition_is words reference (made (Compares atom) a b c) h e in
         (stored ∙ ap (with_leaves before) (sym (leaf_numbers_lem reference (made (Compares atom) a b c) h e f)), either disjoined true ∙ ap (is_tree disjoined) (sym f))
 
   -- the two sides of an "and" or an "or"
-  module _ {reference left right : ℕ} {before : List ℕ} (s : Collectable words reference before) (n : leaf_numbers (tree_of words reference) ≡ leaf_numbers (tree_of words left) ++ leaf_numbers (tree_of words right)) (p : Part words reference left × Part words reference right) where
+  module _ {reference left right : ℕ} {before : Leaves} (s : Collectable words reference before) (n : leaf_numbers (tree_of words reference) ≡ leaf_numbers (tree_of words left) ++ leaf_numbers (tree_of words right)) (p : Part words reference left × Part words reference right) where
     pub collect_left : Collectable words left before
     collect_left = record { named = p.0.0.0; inside = p.0.0.1; whole = s.whole; room = omega (arith, s.room, ap length n, length-append (leaf_numbers (tree_of words left)) (leaf_numbers (tree_of words right))) }
 
-    pub collect_right : {middle : List ℕ} → middle ≡ with_leaves before (leaf_numbers (tree_of words left)) → Collectable words right middle
+    pub collect_right : {middle : Leaves} → middle ≡ with_leaves before (leaf_numbers (tree_of words left)) → Collectable words right middle
     collect_right e =
         record {
           named = p.1.0.0;
           inside = p.1.0.1;
-          whole = ap length e ∙ length-behind before (leaf_numbers (tree_of words left)) ∙ s.whole;
-          room = omega (arith, s.room, ap leaf_count e, count-behind before s.whole (leaf_numbers (tree_of words left)), ap length n, length-append (leaf_numbers (tree_of words left)) (leaf_numbers (tree_of words right)));
+          whole = ap (λ (l : Leaves). length l.numbers) e ∙ length-behind before (leaf_numbers (tree_of words left)) ∙ s.whole;
+          room = omega (arith, s.room, ap (λ (l : Leaves). l.count) e, count-behind before (leaf_numbers (tree_of words left)), ap length n, length-append (leaf_numbers (tree_of words left)) (leaf_numbers (tree_of words right)));
         }
 
   abbrev Stored : ℕ → Type 0
@@ -293,22 +258,25 @@ module _ (words : List ℕ) where
     few : length numbers ≤ question_node_limit
     few = omega (arith, small, sym (length-map numbers (leaf_numbered words)) ∙ ap length read.atoms, leaves-size (condition_at words reference))
 
-    pub collectable : Collectable words reference (replicate leaf_words 0)
-    collectable = record { named = h.0; inside = h.1; whole = length-replicate {A = ℕ} leaf_words 0; room = omega (arith, few) }
+    pub collectable : {start : Leaves} → start ≡ no_leaves → Collectable words reference start
+    collectable none = rw none (record { named = h.0; inside = h.1; whole = none-room; room = omega (arith, few, none_first) })
 
     at : (xs : List ℕ) (k : ℕ) → All Stored xs → k < length xs → Stored (get_or xs k 0)
     at [] k all l = absurd (omega arith)
     at (x ∷ xs) zero all l = all.0
     at (x ∷ xs) (suc k) all l = at xs k all.1 (omega arith)
 
-    pub found_leaves : {found : List ℕ} → found ≡ with_leaves (replicate leaf_words 0) numbers → FoundLeaves (condition_at words reference) found
-    found_leaves {found} e =
-        let count : leaf_count found ≡ length numbers = ap leaf_count e ∙ count-first (replicate leaf_words 0) (length-replicate {A = ℕ} leaf_words 0) refl numbers few in
-        let number : (i : ℕ) → i < length numbers → get_or found (1 + i) 0 ≡ get_or numbers i 0 = λ i l. ap (λ (m : List ℕ). get_or m (1 + i) 0) e ∙ number-first (replicate leaf_words 0) (length-replicate {A = ℕ} leaf_words 0) refl numbers few i l in
-        let listed : (opposite : Bool) → atoms_of words opposite found ≡ map (λ k. cond opposite (opposite_atom (leaf_numbered words k)) (leaf_numbered words k)) numbers =
-        λ opposite. ap (λ (k : ℕ). entries (leaf_at words opposite found) 0 k) count ∙ entries-map (leaf_at words opposite found) (λ k. cond opposite (opposite_atom (leaf_numbered words k)) (leaf_numbered words k)) 0 numbers (λ i l. ap (λ (k : ℕ). cond opposite (opposite_atom (leaf_numbered words k)) (leaf_numbered words k)) (ap (λ (j : ℕ). get_or found (1 + j) 0) (zero-add i) ∙ number i l)) in
-        record {
-          fit = record { few = omega (arith, count, few); inside = λ i l. rw (number i (omega (arith, count, l))) (at numbers i read.inside (omega (arith, count, l))) };
-          straight = listed false ∙ read.atoms;
-          turned = listed true ∙ sym (map-map opposite_atom (leaf_numbered words) numbers) ∙ ap (map opposite_atom) read.atoms;
-        }
+    module _ {start found : Leaves} (none : start ≡ no_leaves) (e : found ≡ with_leaves start numbers) where
+      collected : found ≡ with_leaves no_leaves numbers
+      collected = e ∙ ap (λ (l : Leaves). with_leaves l numbers) none
+
+      pub found_few : found.count ≤ question_node_limit
+      found_few = omega (arith, ap (λ (l : Leaves). l.count) collected, count-behind no_leaves numbers, none_first, few)
+
+      pub found_leaves : {listed : List ℕ} → listed ≡ numbers_in found → FoundLeaves (condition_at words reference) listed
+      found_leaves i =
+          rw (i ∙ ap numbers_in collected ∙ first_numbers numbers few) (record {
+            fit = record { few = few; inside = λ j l. at numbers j read.inside l };
+            straight = read.atoms;
+            turned = sym (map-map opposite_atom (leaf_numbered words) numbers) ∙ ap (map opposite_atom) read.atoms;
+          })

@@ -1,5 +1,4 @@
 -- Lists in arrays, the scope
-pub mod EntryLaws
 pub mod ScopeLaws
 -- Atoms
 pub mod AtomLaws

@@ -1,7 +1,6 @@
--- An atom's words are small enough to be written, and an operator's number is that of an operator; an atom by its sides. Assumes nothing.
-use Rattle.std.specs.Prelude.{ℕ, ◌≤◌, ◌≡◌}
+-- An atom's attributes are small enough to be written; an atom by its sides. Assumes nothing.
+use Rattle.std.specs.Prelude.{ℕ, ◌≤◌}
 use Rattle.relations.specs.Limits.{column_limit}
-use Rattle.relations.specs.Comparison.{operator_number, operator_named}
 use Rattle.calculus.specs.Question as calculus
 use Rattle.calculus.specs.Leaves.{own_attribute, other_variable, other_attribute}
 use Rattle.nodes.specs.declared.node.Operand.{Operand}
@@ -16,7 +15,6 @@ OperandNarrow (Fixed constant) = Unit {0}
 pub record AtomNarrow (atom : Atom) : Type 0 where
   pub attribute : atom.attribute.0 ≤ column_limit
   pub operand : OperandNarrow atom.operand
-  pub operator : atom.operator ≡ operator_number (operator_named atom.operator)
 
 abbrev pub sides_of : ℕ → calculus.Atom → Sides
 sides_of z atom = record { own = record { 0 = (own_attribute z atom).number }; variable = other_variable z atom; other = record { 0 = (other_attribute z atom).number } }

@@ -1,19 +1,20 @@
 -- The leaves that the code collects, and the atoms of `calculus` that they stand for. Assumes nothing.
-use Rattle.std.specs.Prelude.{ℕ, ◌+◌, ◌*◌, ◌≤◌, ◌<◌, ◌≡◌, Bool, cond, List, [], ◌∷◌, ◌++◌, length, get_or, set}
+use Rattle.std.specs.Prelude.{ℕ, ◌+◌, ◌*◌, ◌≤◌, ◌<◌, ◌≡◌, Bool, cond, List, [], ◌∷◌, ◌++◌, map, length, get_or, take, replicate}
 use Rattle.std.proofs.lemmas.List.Edits.{sets}
 use Rattle.relations.specs.Limits.{question_node_limit, question_node_words}
 use Rattle.calculus.specs.Question as calculus
 use Rattle.calculus.specs.Leaves.{is_and_tree, is_or_tree, opposite_atom}
+use Rattle.terms.specs.declared.operator.Operator.TheVariants.{Equal}
 use Rattle.nodes.specs.Nodes.{node_at}
 use Rattle.question.specs.Trees.{Tree, nothing, branch, tree_of, reading, atom_of}
 use Rattle.nodes.specs.declared.node.Operand.TheVariants.{Fixed}
 use Rattle.nodes.specs.declared.node.Atom.{Atom}
 use Rattle.nodes.specs.declared.node.Form.{Form}
 use Rattle.nodes.specs.declared.node.Form.TheVariants.{Table, Alpha, Target, Binds, Combines, Compares, Connects, IllFormed}
-use Rattle.conditions.specs.Entries.{entries}
+use Rattle.conditions.specs.declared.leaves.Leaves.{Leaves}
 
 abbrev pub empty_atom : Atom
-empty_atom = record { variable = 0; attribute = record { 0 = 0 }; operator = 1; operand = Fixed (record { 0 = 0 }) }
+empty_atom = record { variable = 0; attribute = record { 0 = 0 }; operator = Equal; operand = Fixed (record { 0 = 0 }) }
 
 -- a node's atom; a node of another form has the empty one
 abbrev pub atom_in : Form → Atom
@@ -44,16 +45,15 @@ unfoldable pub leaf_numbers : Tree → List ℕ
 leaf_numbers nothing = []
 leaf_numbers (branch number form a b c) = numbers_below (reading (branch number form a b c)).condition number (leaf_numbers a) (leaf_numbers b)
 
--- how many leaves there are, then their numbers
-abbrev pub leaf_words : ℕ
-leaf_words = 1 + question_node_limit
+unfoldable pub no_leaves : Leaves
+no_leaves = record { numbers = replicate question_node_limit 0; count = 0 }
 
-abbrev pub leaf_count : List ℕ → ℕ
-leaf_count leaves = get_or leaves 0 0
+abbrev pub numbers_in : Leaves → List ℕ
+numbers_in leaves = take leaves.count leaves.numbers
 
 -- more leaves behind those there are
-unfoldable pub with_leaves : List ℕ → List ℕ → List ℕ
-with_leaves leaves numbers = set (sets leaves (1 + leaf_count leaves) numbers) 0 (leaf_count leaves + length numbers)
+unfoldable pub with_leaves : Leaves → List ℕ → Leaves
+with_leaves leaves more = record { numbers = sets leaves.numbers leaves.count more; count = leaves.count + length more }
 
 -- "or" above every leaf and nothing else, or "and"
 abbrev pub is_tree : Bool → calculus.Condition → Bool
@@ -63,20 +63,20 @@ module _ (words : List ℕ) where
   abbrev pub leaf_numbered : ℕ → calculus.Atom
   leaf_numbered number = leaf_of (node_at words number).form
 
-  -- leaf i, or its opposite
-  abbrev pub leaf_at : Bool → List ℕ → ℕ → calculus.Atom
-  leaf_at opposite leaves i = cond opposite (opposite_atom (leaf_numbered (get_or leaves (1 + i) 0))) (leaf_numbered (get_or leaves (1 + i) 0))
+  -- the atom of a leaf, or its opposite
+  abbrev pub leaf_at : Bool → ℕ → calculus.Atom
+  leaf_at opposite number = cond opposite (opposite_atom (leaf_numbered number)) (leaf_numbered number)
 
   abbrev pub atoms_of : Bool → List ℕ → List calculus.Atom
-  atoms_of opposite leaves = entries (leaf_at opposite leaves) 0 (leaf_count leaves)
+  atoms_of opposite numbers = map (leaf_at opposite) numbers
 
-  pub record LeavesFit (leaves : List ℕ) : Type 0 where
-    pub few : leaf_count leaves ≤ question_node_limit
-    pub inside : (i : ℕ) → i < leaf_count leaves → get_or leaves (1 + i) 0 * question_node_words + question_node_words ≤ length words
+  pub record LeavesFit (numbers : List ℕ) : Type 0 where
+    pub few : length numbers ≤ question_node_limit
+    pub inside : (i : ℕ) → i < length numbers → get_or numbers i 0 * question_node_words + question_node_words ≤ length words
 
   -- a reference's leaves can be collected behind others
-  pub record Collectable (reference : ℕ) (leaves : List ℕ) : Type 0 where
+  pub record Collectable (reference : ℕ) (leaves : Leaves) : Type 0 where
     pub named : 1 ≤ reference
     pub inside : reference * question_node_words ≤ length words
-    pub whole : length leaves ≡ leaf_words
-    pub room : leaf_count leaves + length (leaf_numbers (tree_of words reference)) ≤ question_node_limit
+    pub whole : length leaves.numbers ≡ question_node_limit
+    pub room : leaves.count + length (leaf_numbers (tree_of words reference)) ≤ question_node_limit

@@ -1,5 +1,4 @@
 -- What the code carries, and what it stands for
-pub mod Entries
 pub mod Scopes
 pub mod Atoms
 pub mod Readings

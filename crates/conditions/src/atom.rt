@@ -1,33 +1,20 @@
 // What the rules ask of an atom.
 ghost use Rattle.std.specs.Prelude.{◌≡◌};
-ghost use Rattle.relations.specs.Comparison.{operator_number, operator_named};
-ghost use Rattle.relations.specs.Comparison as comparison;
 ghost use Rattle.calculus.specs.Leaves.{opposite_atom, alone_on, compares_with_other, are_both, equates_with, equates_outside};
 ghost use Rattle.question.specs.Trees.{operand_of, atom_of};
 ghost use Rattle.conditions.specs.Atoms.{AtomNarrow, sides_of};
 
 use nodes::node::{Atom, Operand};
 use terms::attribute::Attribute;
-use terms::operator::{number_of, operator_of, opposite};
-
-// The number of the operator for the sides turned.
-pub fn turned(operator: u32) -> u32
-    ensures { result ≡ operator_number (comparison.turned (operator_named operator)) }
-{
-    number_of(terms::operator::turned(operator_of(operator)))
-}
+use terms::operator::Operator;
 
 pub fn opposite_atom(atom: Atom) -> Atom
     requires { AtomNarrow atom }
     ensures { (atom_of result ≡ opposite_atom (atom_of atom)) × AtomNarrow result }
 {
-    let attribute = atom.attribute;
-    let operand = atom.operand;
     Atom {
-        variable: atom.variable,
-        attribute,
-        operator: number_of(opposite(operator_of(atom.operator))),
-        operand,
+        operator: atom.operator.opposite(),
+        ..atom
     }
 }
 
@@ -35,12 +22,8 @@ pub fn opposite_atom(atom: Atom) -> Atom
 pub fn alone_on(x: u32, atom: Atom) -> bool
     ensures { result ≡ alone_on x (atom_of atom) }
 {
-    let operand = atom.operand;
-    match operand {
-        Operand::Of {
-            variable,
-            attribute: _,
-        } => (atom.variable == x) & (variable == x),
+    match atom.operand {
+        Operand::Of { variable, .. } => atom.variable == x && variable == x,
         Operand::Fixed(_) => atom.variable == x,
     }
 }
@@ -49,16 +32,13 @@ pub fn alone_on(x: u32, atom: Atom) -> bool
 pub fn compares_with_other(x: u32, atom: Atom) -> bool
     ensures { result ≡ compares_with_other x (atom_of atom) }
 {
-    let operand = atom.operand;
-    match operand {
-        Operand::Of {
-            variable,
-            attribute: _,
-        } => {
+    match atom.operand {
+        Operand::Of { variable, .. } => {
             if atom.variable == x {
-                return variable != x;
+                variable != x
+            } else {
+                variable == x
             }
-            variable == x
         }
         Operand::Fixed(_) => false,
     }
@@ -68,30 +48,28 @@ pub fn compares_with_other(x: u32, atom: Atom) -> bool
 fn are_both(z: u32, y: u32, atom: Atom) -> bool
     ensures { result ≡ are_both z y atom.variable (operand_of atom.operand) }
 {
-    let operand = atom.operand;
-    match operand {
-        Operand::Of {
-            variable,
-            attribute: _,
-        } => { ((atom.variable == z) & (variable == y)) | ((atom.variable == y) & (variable == z)) }
+    match atom.operand {
+        Operand::Of { variable, .. } => {
+            (atom.variable == z && variable == y) || (atom.variable == y && variable == z)
+        }
         Operand::Fixed(_) => false,
     }
 }
 
 // z = y.
 pub fn equates_with(z: u32, y: u32, atom: Atom) -> bool
-    requires { AtomNarrow atom }
     ensures { result ≡ equates_with z y (atom_of atom) }
 {
-    (atom.operator == 1) & are_both(z, y, atom)
+    matches!(atom.operator, Operator::Equal) && are_both(z, y, atom)
 }
 
 // z = a variable outside, which is neither z nor y.
 pub fn equates_outside(z: u32, y: u32, atom: Atom) -> bool
-    requires { AtomNarrow atom }
     ensures { result ≡ equates_outside z y (atom_of atom) }
 {
-    (atom.operator == 1) & (compares_with_other(z, atom) & !are_both(z, y, atom))
+    matches!(atom.operator, Operator::Equal)
+        && compares_with_other(z, atom)
+        && !are_both(z, y, atom)
 }
 
 // An atom that compares z with another variable: z's attribute, the other variable, and its attribute.
@@ -105,30 +83,24 @@ pub struct Sides {
 pub fn sides_of(z: u32, atom: Atom) -> Sides
     ensures { result ≡ sides_of z (atom_of atom) }
 {
-    let first = atom.attribute;
-    let operand = atom.operand;
-    match operand {
+    match atom.operand {
         Operand::Of {
             variable,
             attribute,
-        } => {
-            if atom.variable == z {
-                return Sides {
-                    own: first,
-                    variable,
-                    other: attribute,
-                };
-            }
-            Sides {
-                own: attribute,
-                variable: atom.variable,
-                other: first,
-            }
-        }
-        Operand::Fixed(_) => Sides {
-            own: first,
+        } if atom.variable == z => Sides {
+            own: atom.attribute,
+            variable,
+            other: attribute,
+        },
+        Operand::Of { attribute, .. } => Sides {
+            own: attribute,
             variable: atom.variable,
-            other: first,
+            other: atom.attribute,
+        },
+        Operand::Fixed(_) => Sides {
+            own: atom.attribute,
+            variable: atom.variable,
+            other: atom.attribute,
         },
     }
 }

@@ -5,13 +5,13 @@ use mathlib.Core.Bool.{true, So}
 use mathlib.Core.List.{List}
 use lib.ListN.{length}
 use borrow.Author.Tests.{le-ltb}
+use Rattle.std.specs.Prelude.{Ok}
 use Rattle.relations.specs.Lists.{flat}
 use Rattle.relations.specs.Nodes.{Node}
 use Rattle.relations.specs.Legality.{legal_plan}
 use Rattle.relations.specs.PlanWords.{node_words}
 use Rattle.catalogue.specs.Judging.{catalogue_ok, tables_ok}
 use Rattle.judgements.specs.Faults.{judged_question}
-use Rattle.question.specs.declared.judgement.Judgement.TheVariants.{Accepted}
 use Rattle.judgements.proofs.FaultsDecide.{accepted-count}
 use Rattle.catalogue.specs.Stored.{relations_of, columns_of}
 use Rattle.translation.specs.TranslateCall.{plan_buffer_words, plan_of, written, translate_outcome}
@@ -28,14 +28,14 @@ unfolding run_outcome
 legal_ran catalogue tables ok nodes legal work output = rw (ok, words_judged catalogue nodes legal, words_read catalogue nodes legal)
 
 -- an accepted question is translated
-pub accepted-written : (catalogue question : List ℕ) (mode : ℕ) (plan : List ℕ) → catalogue_ok catalogue ≡ true → judged_question catalogue question ≡ Accepted → plan_buffer_words ≤ length plan
+pub accepted-written : (catalogue question : List ℕ) (mode : ℕ) (plan : List ℕ) → catalogue_ok catalogue ≡ true → judged_question catalogue question ≡ Ok tt → plan_buffer_words ≤ length plan
     → translate_outcome catalogue question mode plan ≡ written catalogue question mode plan
 unfolding translate_outcome
 accepted-written catalogue question mode plan ok accepted long = rw (ok, accepted-count catalogue question accepted, le-ltb (length plan) plan_buffer_words long, accepted)
 
 module _ (catalogue tables question : List ℕ) (mode : ℕ) (plan work output : List ℕ) where
   -- and its plan is run
-  pub written_ran : tables_ok catalogue tables ≡ true → judged_question catalogue question ≡ Accepted → plan_buffer_words ≤ length plan
+  pub written_ran : tables_ok catalogue tables ≡ true → judged_question catalogue question ≡ Ok tt → plan_buffer_words ≤ length plan
       → translated_outcome catalogue tables question mode plan work output (written catalogue question mode plan)
       ≡ plan_ran (written catalogue question mode plan) (ran_outcome catalogue tables (plan_of catalogue question mode) (cleared work) output (fit_within catalogue tables (plan_of catalogue question mode) (capacity_of work)))
   written_ran ok accepted long =
@@ -43,7 +43,7 @@ module _ (catalogue tables question : List ℕ) (mode : ℕ) (plan work output :
       rw (words-front catalogue (plan_of catalogue question mode) legal plan long)
       (ap (plan_ran (written catalogue question mode plan)) (legal_ran catalogue tables ok (plan_of catalogue question mode) legal work output))
 
-  pub accepted_ran : tables_ok catalogue tables ≡ true → judged_question catalogue question ≡ Accepted → plan_buffer_words ≤ length plan
+  pub accepted_ran : tables_ok catalogue tables ≡ true → judged_question catalogue question ≡ Ok tt → plan_buffer_words ≤ length plan
       → answer_outcome catalogue tables question mode plan work output
       ≡ plan_ran (written catalogue question mode plan) (ran_outcome catalogue tables (plan_of catalogue question mode) (cleared work) output (fit_within catalogue tables (plan_of catalogue question mode) (capacity_of work)))
   unfolding answer_outcome

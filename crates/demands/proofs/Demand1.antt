@@ -7,11 +7,11 @@ use native.Mathlib.Omega.{arith}
 use lib.ListN.{length}
 use lib.Seq.{sets}
 use borrow.Author.Tests.{ltb-false, not-false}
+use Rattle.std.specs.Prelude.{Ok}
 use Rattle.relations.specs.Lists.{flat}
 use Rattle.relations.specs.PlanWords.{node_words}
 use Rattle.catalogue.specs.Judging.{catalogue_ok, tables_ok}
 use Rattle.judgements.specs.Faults.{judged_question}
-use Rattle.question.specs.declared.judgement.Judgement.TheVariants.{Accepted}
 use Rattle.judgements.proofs.FaultsDecide.{faults_accept_exactly}
 use Rattle.catalogue.proofs.TableLaws.{known_columns}
 use Rattle.plan_reading.proofs.PlanTheorem.{judged_exactly}
@@ -45,7 +45,7 @@ module _ (catalogue tables question : List ℕ) (mode : ℕ) (plan work output :
     tables-good : tables_ok catalogue tables ≡ true
     tables-good = not-false (tables_ok catalogue tables) none.0
 
-    accepted : judged_question catalogue question ≡ Accepted
+    accepted : judged_question catalogue question ≡ Ok tt
     accepted = accepted_by_lines catalogue question (none.1.0, none.1.1.1)
 
     long : plan_buffer_words ≤ length plan

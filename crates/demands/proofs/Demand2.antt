@@ -7,6 +7,7 @@ use native.Mathlib.Omega.{arith}
 use lib.Dec.{eqb}
 use lib.ListN.{length, take, get_or}
 use lib.Seq.{sets, take_at, get_or-append_seam}
+use Rattle.std.specs.Prelude.{Ok}
 use Rattle.relations.specs.Lists.{flat}
 use Rattle.relations.specs.Rows.{Row}
 use Rattle.relations.specs.Values.{Rows, Tables}
@@ -22,10 +23,8 @@ use Rattle.catalogue.specs.Judging.{catalogue_ok}
 use Rattle.catalogue.specs.Stored.{stored_tables}
 use Rattle.bundles.proofs.RoundTrip.{round_trip}
 use Rattle.judgements.specs.Faults.{judged_question}
-use Rattle.question.specs.declared.judgement.Judgement.TheVariants.{Accepted}
-use Rattle.plan_reading.specs.Judging.{plan_judgement, plan_numbers, nodes_of_plan}
-use Rattle.plan_reading.specs.declared.judging.PlanJudgement.{PlanJudgement}
-use Rattle.plan_reading.specs.declared.judging.PlanJudgement.TheVariants.{Legal, Illegal}
+use Rattle.std.specs.Prelude.{Ok, Err}
+use Rattle.plan_reading.specs.Judging.{PlanJudgement, plan_judgement, plan_numbers, nodes_of_plan}
 use Rattle.plan_reading.proofs.PlanTheorem.{judged_exactly}
 use Rattle.translation.specs.TranslateCall.{plan_buffer_words, plan_of, written}
 use Rattle.running.specs.RunCall.{cleared, answered, run_outcome}
@@ -75,8 +74,8 @@ module _ (catalogue tables plan work output : List ℕ) (good : (run_outcome cat
   run_none = (demand_1.running catalogue tables plan work output).exactly.0 good
 
   legal-words : (judged : PlanJudgement) → plan_judgement catalogue plan ≡ judged → eqb (plan_numbers judged).status 9 ≡ false → flat node_words (nodes_of_plan plan) ≡ plan
-  legal-words (Legal count) is e = ((judged_exactly catalogue).sound plan count is).1
-  legal-words (Illegal place) is e = let never : ◌≡◌ {A = ℕ} 0 1 = cc in absurd (omega arith)
+  legal-words (Ok count) is e = ((judged_exactly catalogue).sound plan count is).1
+  legal-words (Err illegal) is e = let never : ◌≡◌ {A = ℕ} 0 1 = cc in absurd (omega arith)
 
   run_exact : RunExact catalogue tables plan work output
   run_exact =
@@ -86,7 +85,7 @@ module _ (catalogue tables plan work output : List ℕ) (good : (run_outcome cat
         left = (demand_1.running catalogue tables plan work output).table ∙ none_answered (run_lines catalogue tables plan work output) (refused_run work output) (answered catalogue tables (nodes_of_plan plan) (cleared work) output) run_none;
       }
 
-module _ (catalogue question : List ℕ) (mode : ℕ) (plan : List ℕ) (ok : catalogue_ok catalogue ≡ true) (accepted : judged_question catalogue question ≡ Accepted) (long : plan_buffer_words ≤ length plan) where
+module _ (catalogue question : List ℕ) (mode : ℕ) (plan : List ℕ) (ok : catalogue_ok catalogue ≡ true) (accepted : judged_question catalogue question ≡ Ok tt) (long : plan_buffer_words ≤ length plan) where
   plan-named : PlanNamed catalogue question mode plan
   plan-named =
       let is = accepted-written catalogue question mode plan ok accepted long in

@@ -8,6 +8,7 @@ use lib.Dec.{ltb}
 use lib.ListN.{length, take}
 use lib.Seq.{sets}
 use borrow.Author.Tests.{ltb-false, ne_eqb}
+use Rattle.std.specs.Prelude.{Ok}
 use Rattle.relations.specs.Nodes.{Node}
 use Rattle.relations.specs.Values.{Rows}
 use Rattle.relations.specs.Plan.{heavy, value_words}
@@ -16,7 +17,6 @@ use Rattle.values.specs.Words.{words_of}
 use Rattle.values.proofs.RowsLaws.{length-words}
 use Rattle.values.proofs.WordLaws.{part-sets}
 use Rattle.judgements.specs.Faults.{judged_question}
-use Rattle.question.specs.declared.judgement.Judgement.TheVariants.{Accepted}
 use Rattle.translation.specs.TranslateCall.{plan_buffer_words, is_short, plan_of, written}
 use Rattle.running.specs.RunCall.{RunOutcome, capacity_of, cleared, Fit, fits, passes_at, fit_within, answer_rows, answer_width, answered, ran_outcome}
 use Rattle.desk.specs.AnswerCall.{AnswerOutcome, plan_ran}
@@ -39,7 +39,7 @@ with_room catalogue tables nodes work output fits not10 not11 = go (ltb (length 
     go true over = absurd (not11 (rw over))
     go false over = record { whole = rw over; inside = ltb-false (length output) (value_words (answer_width catalogue tables nodes) (answer_rows catalogue tables nodes)) over }
 
-module _ (catalogue tables question : List ℕ) (ok : tables_ok catalogue tables ≡ true) (accepted : judged_question catalogue question ≡ Accepted) where
+module _ (catalogue tables question : List ℕ) (ok : tables_ok catalogue tables ≡ true) (accepted : judged_question catalogue question ≡ Ok tt) where
   module _ (mode : ℕ) (lent : Buffers) (long : plan_buffer_words ≤ length lent.plan) (room : HadRoom (answer_with catalogue tables question mode lent)) where
     -- the whole call is the answer of the question's plan
     answered-whole : (answer_with catalogue tables question mode lent ≡ plan_ran (written catalogue question mode lent.plan) (answered catalogue tables (plan_of catalogue question mode) (cleared lent.work) lent.output))

@@ -6,6 +6,7 @@ use mathlib.Core.List.{List, []}
 use native.Mathlib.Omega.{arith}
 use lib.Dec.{eqb}
 use lib.ListN.{length}
+use Rattle.std.specs.Prelude.{Ok}
 use Rattle.relations.specs.Nodes.{Node}
 use Rattle.relations.specs.Values.{Wide}
 use Rattle.relations.specs.Plan.{heavy, widths, width_at}
@@ -18,7 +19,6 @@ use Rattle.catalogue.specs.Judging.{catalogue_words, catalogue_ok, tables_ok}
 use Rattle.judgements.specs.Accepted.{QuestionRight}
 use Rattle.judgements.specs.Faults.{judged_question}
 use Rattle.question.specs.Trees.{question_of}
-use Rattle.question.specs.declared.judgement.Judgement.TheVariants.{Accepted}
 use Rattle.catalogue.specs.Stored.{relations_of, columns_of, stored_tables}
 use Rattle.running.specs.RunCall.{answer_rows, answer_width}
 use Rattle.catalogue.proofs.TableLaws.{tables-wide}
@@ -34,7 +34,7 @@ pub record PlansRight (catalogue tables question : List ℕ) : Type 0 where
 pub catalogue_ok_lem : (catalogue tables : List ℕ) → tables_ok catalogue tables ≡ true → catalogue_ok catalogue ≡ true
 catalogue_ok_lem catalogue tables ok = and_left (catalogue_ok catalogue) (eqb (length tables) (catalogue_words catalogue)) ok
 
-module _ (catalogue tables question : List ℕ) (ok : tables_ok catalogue tables ≡ true) (accepted : judged_question catalogue question ≡ Accepted) where
+module _ (catalogue tables question : List ℕ) (ok : tables_ok catalogue tables ≡ true) (accepted : judged_question catalogue question ≡ Ok tt) where
   right : QuestionRight catalogue question
   right = question-right catalogue question (catalogue_ok_lem catalogue tables ok) accepted
 

@@ -6,9 +6,8 @@ use mathlib.Core.List.{List, [], ◌∷◌}
 use lib.Dec.{eqb}
 use Rattle.relations.specs.Nodes.{Node}
 use Rattle.catalogue.specs.Judging.{tables_ok}
-use Rattle.plan_reading.specs.Judging.{plan_judgement, plan_numbers, nodes_of_plan}
-use Rattle.plan_reading.specs.declared.judging.PlanJudgement.{PlanJudgement}
-use Rattle.plan_reading.specs.declared.judging.PlanJudgement.TheVariants.{Legal, Illegal}
+use Rattle.std.specs.Prelude.{Ok, Err}
+use Rattle.plan_reading.specs.Judging.{PlanJudgement, plan_judgement, plan_numbers, nodes_of_plan}
 use Rattle.running.specs.RunCall.{RunOutcome, capacity_of, cleared, fits, passes_at, fit_within, answered, ran_outcome, judged_outcome, run_outcome}
 use Rattle.demands.specs.Refusals.{outcome_by, no_room, long_answer, running_lines, run_lines}
 use Rattle.demands.specs.Demands.{refused_run, RunDemand}
@@ -34,8 +33,8 @@ module _ (catalogue tables plan work output : List ℕ) where
     where
       go : (judged : PlanJudgement) → judged_outcome catalogue tables plan work output judged
           ≡ cond (eqb (plan_numbers judged).status 9) (refused_run work output 9 (plan_numbers judged).place) (outcome_by (running_lines catalogue tables (nodes_of_plan plan) work output) (refused_run work output) (answered catalogue tables (nodes_of_plan plan) (cleared work) output))
-      go (Legal nodes) = ran_lines catalogue tables (nodes_of_plan plan) work output
-      go (Illegal place) = refl
+      go (Ok nodes) = ran_lines catalogue tables (nodes_of_plan plan) work output
+      go (Err illegal) = refl
 
   pub run_demand : RunDemand catalogue tables plan work output
   run_demand =

@@ -1,6 +1,6 @@
 -- What is claimed of the calls. Demand 1: every outcome is the one that document 01's table of refusals names. Demand 2: plans, their nodes
 -- and bundle text mean what is published. Demand 3: an accepted question's two plans give the rows of the question's own meaning, and the shortened plan is no heavier. Proved in proofs/Demand1, Demand2, Demand3.
-use Rattle.std.specs.Prelude.{ℕ, ◌≤◌, ◌<◌, ◌≡◌, Bool, true, false, cond, List, ◌∷◌, ◌++◌, length, take, leb}
+use Rattle.std.specs.Prelude.{ℕ, ◌≤◌, ◌<◌, ◌≡◌, Bool, true, false, cond, List, ◌∷◌, ◌++◌, length, take, leb, Ok}
 use Rattle.std.proofs.lemmas.List.Edits.{sets}
 use Rattle.relations.specs.Lists.{flat, All}
 use Rattle.relations.specs.Rows.{Row}
@@ -17,7 +17,6 @@ use Rattle.values.specs.Words.{words_of}
 use Rattle.question.specs.Trees.{question_of}
 use Rattle.judgements.specs.Faults.{judged_question}
 use Rattle.judgements.specs.Accepted.{AcceptedExactly}
-use Rattle.question.specs.declared.judgement.Judgement.TheVariants.{Accepted}
 use Rattle.catalogue.specs.Stored.{columns_of, stored_tables}
 use Rattle.plan_reading.specs.Judging.{nodes_of_plan, JudgedExactly}
 use Rattle.relations.specs.Limits.{byte_limit}
@@ -141,7 +140,7 @@ pub record Demand2 : Type 0 where
   -- a value is known by the rows that it has
   pub one_value : (has : Row → Bool) (one other : Rows) → Exactly has one → Exactly has other → one ≡ other
   pub running : (catalogue tables plan work output : List ℕ) → (run_outcome catalogue tables plan work output).numbers.status ≡ 0 → RunExact catalogue tables plan work output
-  pub translating : (catalogue question : List ℕ) (mode : ℕ) (plan : List ℕ) → catalogue_ok catalogue ≡ true → judged_question catalogue question ≡ Accepted
+  pub translating : (catalogue question : List ℕ) (mode : ℕ) (plan : List ℕ) → catalogue_ok catalogue ≡ true → judged_question catalogue question ≡ Ok tt
       → plan_buffer_words ≤ length plan → PlanNamed catalogue question mode plan
   pub answering : (catalogue tables question : List ℕ) (mode : ℕ) (plan work output : List ℕ) → (answer_outcome catalogue tables question mode plan work output).numbers.status ≡ 0
       → AnswerExact catalogue tables question mode plan work output
@@ -185,7 +184,7 @@ pub record SameAnswer (catalogue tables question : List ℕ) (mode : ℕ) (plain
 
 -- an accepted question, plain and short; each call has buffers of its own, of any lengths but for the plan's
 pub record Demand3 (catalogue tables question : List ℕ) : Type 0 where
-  pub same : tables_ok catalogue tables ≡ true → judged_question catalogue question ≡ Accepted
+  pub same : tables_ok catalogue tables ≡ true → judged_question catalogue question ≡ Ok tt
       → (mode : ℕ) → (mode ≡ 0 → ⊥) → (plain short : Buffers) → plan_buffer_words ≤ length plain.plan → plan_buffer_words ≤ length short.plan
       → HadRoom (answer_with catalogue tables question 0 plain) → HadRoom (answer_with catalogue tables question mode short)
       → SameAnswer catalogue tables question mode plain short

@@ -19,15 +19,14 @@ use Rattle.relations.proofs.PlanNarrow.{widths-narrow}
 use Rattle.catalogue.specs.Judging.{tables_ok}
 use Rattle.catalogue.specs.Stored.{relations_of, columns_of}
 use Rattle.catalogue.proofs.TableLaws.{has_column}
-use Rattle.plan_reading.specs.Judging.{plan_judgement, nodes_of_plan}
-use Rattle.plan_reading.specs.declared.judging.PlanJudgement.{PlanJudgement}
-use Rattle.plan_reading.specs.declared.judging.PlanJudgement.TheVariants.{Legal, Illegal}
+use Rattle.std.specs.Prelude.{Result, Ok, Err}
+use Rattle.plan_reading.specs.Judging.{PlanJudgement, plan_judgement, nodes_of_plan}
 use Rattle.plan_reading.proofs.PlanTheorem.{judged_exactly}
 use Rattle.translation.specs.TranslateCall.{TranslateOutcome, translate_outcome}
 use Rattle.running.specs.RunCall.{RunNumbers, RunOutcome, run_outcome, Fit, fits, passes_at, answer_rows, answer_width, last_place, fit_within, capacity_of, cleared, stopped, answered, ran_outcome, refused, judged_outcome}
 use Rattle.desk.specs.AnswerCall.{answer_numbers, AnswerOutcome, plan_in, plan_ran, unanswered, answer_outcome}
-use Rattle.desk.specs.declared.Answered.{Answered}
-use Rattle.desk.specs.declared.Answered.TheVariants.{Done}
+use Rattle.desk.specs.declared.Results.{Results}
+use Rattle.desk.specs.declared.Refusal.{Refusal}
 
 pub record AnswerSize (numbers : RunNumbers) (output : List ℕ) : Type 0 where
   pub some : 1 ≤ numbers.width
@@ -65,8 +64,8 @@ module _ (catalogue tables : List ℕ) (ok : tables_ok catalogue tables ≡ true
 module _ (catalogue tables plan work output : List ℕ) where
   of_plan : tables_ok catalogue tables ≡ true → (judged : PlanJudgement) → plan_judgement catalogue plan ≡ judged
       → (judged_outcome catalogue tables plan work output judged).numbers.status ≡ 0 → AnswerSize (judged_outcome catalogue tables plan work output judged).numbers output
-  of_plan ok (Illegal place) is e = absurd (omega (arith, e))
-  of_plan ok (Legal count) is e =
+  of_plan ok (Err illegal) is e = absurd (omega (arith, e))
+  of_plan ok (Ok count) is e =
       of_fit catalogue tables ok (nodes_of_plan plan) ((judged_exactly catalogue).sound plan count is).0 (cleared work) output (fit_within catalogue tables (nodes_of_plan plan) (capacity_of work)) e
 
   run-size : (run_outcome catalogue tables plan work output).numbers.status ≡ 0 → AnswerSize (run_outcome catalogue tables plan work output).numbers output
@@ -101,12 +100,12 @@ module _ (catalogue tables question : List ℕ) (mode : ℕ) (plan work output :
       go true false is e = absurd (eqb-false translated.numbers.status 0 is e)
 
   -- `answer` answered with its numbers
-  pub answer-size : {after : AnswerOutcome} {answer : Answered} {nodes heavy room width rows : ℕ}
-      → after ≡ answer_outcome catalogue tables question mode plan work output → after.numbers ≡ answer_numbers answer → answer ≡ Done nodes heavy room width rows
-      → (1 ≤ width) × (width * rows ≤ length output)
-  answer-size {after} {answer} {nodes} {heavy} {room} {width} {rows} e f g =
-      let numbers : (answer_outcome catalogue tables question mode plan work output).numbers ≡ answer_numbers (Done nodes heavy room width rows) =
+  pub answer-size : {after : AnswerOutcome} {answered : Result Results Refusal} {answer : Results}
+      → after ≡ answer_outcome catalogue tables question mode plan work output → after.numbers ≡ answer_numbers answered → answered ≡ Ok answer
+      → (1 ≤ answer.width) × (answer.width * answer.rows ≤ length output)
+  answer-size {after} {answered} {answer} e f g =
+      let numbers : (answer_outcome catalogue tables question mode plan work output).numbers ≡ answer_numbers (Ok answer) =
       ap (λ (o : AnswerOutcome). o.numbers) (sym e) ∙ f ∙ ap answer_numbers g
       in
-      let size : AnswerSize (answer_numbers (Done nodes heavy room width rows)) output = rw numbers at (outcome-size (ap (λ (n : RunNumbers). n.status) numbers)) in
+      let size : AnswerSize (answer_numbers (Ok answer)) output = rw numbers at (outcome-size (ap (λ (n : RunNumbers). n.status) numbers)) in
       (size.some, size.fit)

@@ -12,25 +12,24 @@ use Rattle.relations.specs.Limits.{plan_node_words, plan_node_limit}
 use Rattle.relations.specs.Lists.{flat}
 use Rattle.relations.specs.PlanWords.{node_words}
 use Rattle.catalogue.specs.Judging.{catalogue_ok, tables_ok}
-use Rattle.nodes.specs.Nodes.{node_count, node_at}
-use Rattle.question.specs.Judgement.{count_ok, is_alpha, lowest_ill_formed, last_node, lowest_not_once, lowest_unknown}
-use Rattle.judgements.specs.Faults.{lowest_unbound, lowest_unfit, judged_question}
-use Rattle.question.specs.declared.judgement.Judgement.{Judgement}
-use Rattle.question.specs.declared.judgement.Judgement.TheVariants.{Accepted, Refused}
-use Rattle.translation.specs.TranslateCall.{TranslateOutcome, translate_numbers, translate_refusal, plan_buffer_words, plan_of, unwritten, written, judged_outcome, translate_outcome}
-use Rattle.translation.specs.declared.call.Translated.{Translated}
+use Rattle.question.specs.Judgement.{Judgement, status_of, refused_at, count_ok}
+use Rattle.judgements.specs.Faults.{judged_question}
+use Rattle.std.specs.Prelude.{Result, Ok, Err, IsErrAnd}
+use Rattle.question.specs.declared.judgement.Refusal.{Refusal as QuestionRefusal}
+use Rattle.question.specs.declared.judgement.Refusal.TheVariants.{WrongCount, BrokenForm, NotATree, UnknownRelation, Unbound, Unfit}
+use Rattle.translation.specs.TranslateCall.{TranslateOutcome, translate_status, translate_place, translate_refusal, plan_buffer_words, plan_of, unwritten, written, judged_outcome, translate_outcome}
+use Rattle.translation.specs.declared.call.NotTranslated.{NotTranslated}
 use Rattle.running.specs.RunCall.{RunNumbers, run_refusal, run_numbers, RunOutcome, run_outcome}
 use Rattle.running.specs.RunBounds.{Bounded}
-use Rattle.running.specs.declared.Ran.{Ran}
+use Rattle.running.specs.declared.Done.{Done}
+use Rattle.running.specs.declared.RunRefusal.{RunRefusal}
 use Rattle.running.proofs.RunBounds.{run_bounded}
-use Rattle.desk.specs.AnswerCall.{AnswerOutcome, plan_ran, unanswered, answer_outcome}
+use Rattle.desk.specs.declared.Results.{Results}
+use Rattle.desk.specs.declared.Refusal.{Refusal}
+use Rattle.desk.specs.AnswerCall.{answer_numbers, AnswerOutcome, plan_ran, unanswered, answer_outcome}
 use Rattle.desk.proofs.PlansLegal.{nodes-between, plan-legal}
 
--- A fact of either branch, and one that may use what the test says.
-
-either : {A : Type 0} (P : A → Type 0) (test : Bool) {x y : A} → P x → P y → P (cond test x y)
-either P true here there = here
-either P false here there = there
+-- A fact of either branch, which may use what the test says.
 
 tested : {A : Type 0} (P : A → Type 0) (test : Bool) {x y : A} → (test ≡ true → P x) → (test ≡ false → P y) → P (cond test x y)
 tested P true here there = here refl
@@ -38,9 +37,11 @@ tested P false here there = there refl
 
 -- An outcome whose numbers, or whose answer, are told in another way.
 
-pub translated_as : (translated is : Translated) (plan : List ℕ) {outcome : TranslateOutcome} → translated ≡ is
-    → record { numbers = translate_numbers translated; plan = plan } ≡ outcome → record { numbers = translate_numbers is; plan = plan } ≡ outcome
-translated_as translated is plan e told = rw e at told
+-- what a `?` hands on of translation's refusal
+pub handed_on : (refused : NotTranslated) (answer : Result Results Refusal) → IsErrAnd answer (λ told. told ≡ record { status = translate_status refused; place = translate_place refused })
+    → answer_numbers answer ≡ run_refusal (translate_status refused) (translate_place refused)
+handed_on refused (Ok _) h = absurd h
+handed_on refused (Err told) h = ap (λ (r : Refusal). answer_numbers (Err r)) h
 
 pub run_as : (one other : RunNumbers) (work output : List ℕ) {outcome : RunOutcome} → one ≡ other
     → record { numbers = other; work = work; output = output } ≡ outcome → record { numbers = one; work = work; output = output } ≡ outcome
@@ -52,7 +53,7 @@ answered_as one other plan work output e told = rw e told
 
 -- The numbers of a plan that was run are small, whoever wrote it.
 
-pub ran_bounded : (catalogue tables plan work output : List ℕ) (ran : Ran) (workLeft outputLeft : List ℕ)
+pub ran_bounded : (catalogue tables plan work output : List ℕ) (ran : Result Done RunRefusal) (workLeft outputLeft : List ℕ)
     → record { numbers = run_numbers ran; work = workLeft; output = outputLeft } ≡ run_outcome catalogue tables plan work output → Bounded (run_numbers ran)
 ran_bounded catalogue tables plan work output ran workLeft outputLeft e = subst (λ (left : RunOutcome). Bounded left.numbers) (sym e) (run_bounded catalogue tables plan work output)
 
@@ -69,7 +70,7 @@ module _ (catalogue question : List ℕ) (mode : ℕ) (plan : List ℕ) where
   record Wrote (left : TranslateOutcome) : Type 0 where
     is_written : left ≡ written catalogue question mode plan
     catalogue-good : catalogue_ok catalogue ≡ true
-    accepted : judged_question catalogue question ≡ Accepted
+    accepted : judged_question catalogue question ≡ Ok tt
     long : plan_buffer_words ≤ length plan
 
   -- status 0: the plan is written; any other: the buffer is as it was
@@ -81,22 +82,13 @@ module _ (catalogue question : List ℕ) (mode : ℕ) (plan : List ℕ) where
   refusal_leaves status place other = record { wrote = λ zero. absurd (other zero); kept = λ other. refl }
 
   -- no refusal of a question has number 0
-  abbrev Numbered : Judgement → Type 0
-  Numbered Accepted = Unit
-  Numbered (Refused status place) = status ≡ 0 → ⊥
-
-  numbered : Numbered (judged_question catalogue question)
-  unfolding judged_question
-  numbered =
-      either Numbered (count_ok question)
-      (either Numbered (ltb (lowest_ill_formed question) (node_count question)) (λ e. omega (arith, e))
-      (either Numbered (ltb (lowest_not_once question) (last_node question)) (λ e. omega (arith, e))
-      (either Numbered (is_alpha (node_at question (last_node question)).form)
-      (either Numbered (ltb (lowest_unknown catalogue question) (node_count question)) (λ e. omega (arith, e))
-      (either Numbered (ltb (lowest_unbound catalogue question) (node_count question)) (λ e. omega (arith, e))
-      (either Numbered (ltb (lowest_unfit catalogue question) (node_count question)) (λ e. omega (arith, e)) tt)))
-      (λ e. omega (arith, e)))))
-      (λ e. omega (arith, e))
+  numbered : (refusal : QuestionRefusal) → status_of refusal ≡ 0 → ⊥
+  numbered WrongCount e = omega (arith, e)
+  numbered (BrokenForm place) e = omega (arith, e)
+  numbered (NotATree place) e = omega (arith, e)
+  numbered (UnknownRelation place) e = omega (arith, e)
+  numbered (Unbound place) e = omega (arith, e)
+  numbered (Unfit place) e = omega (arith, e)
 
   translate-leaves : Leaves (translate_outcome catalogue question mode plan)
   unfolding translate_outcome
@@ -104,12 +96,12 @@ module _ (catalogue question : List ℕ) (mode : ℕ) (plan : List ℕ) where
       tested Leaves (not (catalogue_ok catalogue)) (λ wrong. refusal_leaves 7 0 (λ e. omega (arith, e)))
       (λ right. tested Leaves (not (count_ok question)) (λ wrong. refusal_leaves 1 0 (λ e. omega (arith, e)))
       (λ counted. tested Leaves (ltb (length plan) plan_buffer_words) (λ wrong. refusal_leaves 8 0 (λ e. omega (arith, e)))
-      (λ long. judged (not-false (catalogue_ok catalogue) right) (ltb-false (length plan) plan_buffer_words long) (judged_question catalogue question) refl numbered)))
+      (λ long. judged (not-false (catalogue_ok catalogue) right) (ltb-false (length plan) plan_buffer_words long) (judged_question catalogue question) refl)))
     where
-      judged : catalogue_ok catalogue ≡ true → plan_buffer_words ≤ length plan → (judgement : Judgement) → judged_question catalogue question ≡ judgement → Numbered judgement
+      judged : catalogue_ok catalogue ≡ true → plan_buffer_words ≤ length plan → (judgement : Judgement) → judged_question catalogue question ≡ judgement
           → Leaves (judged_outcome catalogue question mode plan judgement)
-      judged right long (Refused status place) is other = refusal_leaves status place other
-      judged right long Accepted is other =
+      judged right long (Err refusal) is = refusal_leaves (status_of refusal) (refused_at refusal) (numbered refusal)
+      judged right long (Ok tt) is =
           record { wrote = λ zero. record { is_written = refl; catalogue-good = right; accepted = is; long = long }; kept = λ other. absurd (other refl) }
 
   -- what was written: a legal plan, all of it in the buffer

@@ -1,16 +1,16 @@
 -- Document 01, "Refusal numbers": what a call of `answer` leaves: its numbers, the plan, the work area and the output afterwards. Assumes nothing.
-use Rattle.std.specs.Prelude.{ℕ, ◌*◌, List, cond, not, take, eqb}
+use Rattle.std.specs.Prelude.{ℕ, ◌*◌, List, cond, not, take, eqb, Result, Ok, Err}
 use Rattle.relations.specs.Limits.{plan_node_words}
 use Rattle.catalogue.specs.Judging.{tables_ok}
 use Rattle.translation.specs.TranslateCall.{TranslateOutcome, translate_outcome}
 use Rattle.running.specs.RunCall.{RunNumbers, run_refusal, RunOutcome, run_outcome}
-use Rattle.desk.specs.declared.Answered.{Answered}
-use Rattle.desk.specs.declared.Answered.TheVariants.{Done, Refused}
+use Rattle.desk.specs.declared.Results.{Results}
+use Rattle.desk.specs.declared.Refusal.{Refusal}
 
 -- the numbers of each case of the answer
-abbrev pub answer_numbers : Answered → RunNumbers
-answer_numbers (Done nodes heavies words columns count) = record { status = 0; place = 0; nodes = nodes; heavy = heavies; room = words; width = columns; rows = count }
-answer_numbers (Refused status place) = run_refusal status place
+abbrev pub answer_numbers : Result Results Refusal → RunNumbers
+answer_numbers (Ok answer) = record { status = 0; place = 0; nodes = answer.nodes; heavy = answer.heavy; room = answer.room; width = answer.width; rows = answer.rows }
+answer_numbers (Err refusal) = run_refusal refusal.status refusal.place
 
 pub record AnswerOutcome : Type 0 where
   pub numbers : RunNumbers

@@ -4,13 +4,13 @@ ghost use Rattle.translation.specs.TranslateCall.{translate_outcome};
 ghost use Rattle.running.specs.RunCall.{run_outcome};
 ghost use Rattle.desk.specs.AnswerCall.{answer_numbers, answer_outcome};
 
-use crate::{Answered, answer, answer_of};
+use crate::{Refusal, Results, answer, answer_of};
 use running::run;
-use translation::call::{Translated, translate};
+use translation::call::translate;
 
-// A call's numbers to where they are lent; its status is the answer. A number that the call doesn't have is 0.
+// A call's numbers to where they are lent, as the C interface has them; its status is the answer. A number that the call doesn't have is 0.
 fn report(
-    answered: Answered,
+    answered: Result<Results, Refusal>,
     place: &mut u32,
     nodes: &mut u32,
     heavy: &mut u32,
@@ -27,23 +27,17 @@ fn report(
     *width = 0;
     *rows = 0;
     match answered {
-        Answered::Done {
-            nodes: count,
-            heavy: heavies,
-            room: words,
-            width: columns,
-            rows: listed,
-        } => {
-            *nodes = count;
-            *heavy = heavies;
-            *room = words;
-            *width = columns;
-            *rows = listed;
+        Ok(answer) => {
+            *nodes = answer.nodes;
+            *heavy = answer.heavy;
+            *room = answer.room;
+            *width = answer.width;
+            *rows = answer.rows;
             0
         }
-        Answered::Refused { status, place: at } => {
-            *place = at;
-            status
+        Err(refusal) => {
+            *place = refusal.place;
+            refusal.status
         }
     }
 }
@@ -64,19 +58,14 @@ pub fn desk_translate(
     *nodes = 0;
     *heavy = 0;
     match translated {
-        Translated::Done {
-            nodes: written,
-            heavy: heavy_written,
-        } => {
-            *nodes = written;
-            *heavy = heavy_written;
+        Ok(written) => {
+            *nodes = written.nodes;
+            *heavy = written.heavy;
             0
         }
-        Translated::WrongCatalogue => 7,
-        Translated::ShortPlan => 8,
-        Translated::Refused { status, place: at } => {
-            *place = at;
-            status
+        Err(refusal) => {
+            *place = refusal.place();
+            refusal.status()
         }
     }
 }

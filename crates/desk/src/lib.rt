@@ -2,67 +2,63 @@
 #![tactic(auto)]
 
 ghost use Rattle.std.specs.Prelude.{◌≡◌};
+ghost use Rattle.translation.specs.TranslateCall.{translate_status, translate_place};
 ghost use Rattle.running.specs.RunCall.{run_numbers};
 ghost use Rattle.running.specs.RunBounds.{Bounded};
 ghost use Rattle.desk.specs.AnswerCall.{answer_numbers, answer_outcome};
 
 use catalogue::judging::tables_ok;
 use relations::limits::PLAN_NODE_WORDS;
-use running::{Ran, run};
-use translation::call::{Translated, translate};
+use running::{Done, RunRefusal, run};
+use translation::call::{NotTranslated, translate};
 
 pub mod console;
 
+// The results of an answer, as document 01 lists them: what the plan took, and the size of the answer.
 #[derive(Clone, Copy)]
-pub enum Answered {
-    Done {
-        nodes: u32,
-        heavy: u32,
-        room: u32,
-        width: u32,
-        rows: u32,
-    },
-    Refused {
-        status: u32,
-        place: u32,
-    },
+pub struct Results {
+    pub nodes: u32,
+    pub heavy: u32,
+    pub room: u32,
+    pub width: u32,
+    pub rows: u32,
+}
+
+// A refusal as the desk's callers are told it, whatever it was: its number in document 01, and its place. Numbers, since the C interface hands these out.
+#[derive(Clone, Copy)]
+pub struct Refusal {
+    pub status: u32,
+    pub place: u32,
+}
+
+impl From<NotTranslated> for Refusal {
+    ghost from_gives = { λ refused told. told ≡ record { status = translate_status refused; place = translate_place refused } };
+
+    fn from(refused: NotTranslated) -> Refusal {
+        Refusal {
+            status: refused.status(),
+            place: refused.place(),
+        }
+    }
 }
 
 // What running a plan tells, in the numbers that the desk's callers are told.
-fn answer_of(ran: Ran) -> Answered
+fn answer_of(ran: Result<Done, RunRefusal>) -> Result<Results, Refusal>
     requires { Bounded (run_numbers ran) }
     ensures { answer_numbers result ≡ run_numbers ran }
 {
     match ran {
-        Ran::Done {
-            nodes,
-            heavy,
-            room,
-            width,
-            rows,
-        } => Answered::Done {
-            nodes: nodes as u32,
-            heavy: heavy as u32,
-            room: room as u32,
-            width: width as u32,
-            rows: rows as u32,
-        },
-        Ran::WrongTables => Answered::Refused {
-            status: 7,
-            place: 0,
-        },
-        Ran::IllegalPlan(place) => Answered::Refused {
-            status: 9,
-            place: place as u32,
-        },
-        Ran::NoRoom(place) => Answered::Refused {
-            status: 10,
-            place: place as u32,
-        },
-        Ran::LongAnswer(place) => Answered::Refused {
-            status: 11,
-            place: place as u32,
-        },
+        Ok(done) => Ok(Results {
+            nodes: done.nodes as u32,
+            heavy: done.heavy as u32,
+            room: done.room as u32,
+            width: done.width as u32,
+            rows: done.rows as u32,
+        }),
+        Err(refusal) => Err(Refusal {
+            status: refusal.status(),
+            place: refusal.place() as u32,
+        }),
     }
 }
 
@@ -75,28 +71,13 @@ pub fn answer(
     plan: &mut [u32],
     work: &mut [u32],
     output: &mut [u32],
-) -> Answered
+) -> Result<Results, Refusal>
     ensures { record { numbers = answer_numbers result; plan = plan.new; work = work.new; output = output.new } ≡ answer_outcome catalogue.now tables.now question.now mode plan.old work.old output.old }
 {
     if !tables_ok(catalogue, tables) {
-        return Answered::Refused {
-            status: 7,
-            place: 0,
-        };
+        return answer_of(Err(RunRefusal::WrongTables));
     }
-    match translate(catalogue, question, mode, plan) {
-        Translated::Done { nodes, heavy: _ } => {
-            let words = nodes as usize * PLAN_NODE_WORDS;
-            answer_of(run(catalogue, tables, &plan[..words], work, output))
-        }
-        Translated::WrongCatalogue => Answered::Refused {
-            status: 7,
-            place: 0,
-        },
-        Translated::ShortPlan => Answered::Refused {
-            status: 8,
-            place: 0,
-        },
-        Translated::Refused { status, place } => Answered::Refused { status, place },
-    }
+    let translated = translate(catalogue, question, mode, plan)?;
+    let words = translated.nodes as usize * PLAN_NODE_WORDS;
+    answer_of(run(catalogue, tables, &plan[..words], work, output))
 }

@@ -4,46 +4,34 @@
 
 ghost use Rattle.listing.specs.Listing.{Listable};
 
-use desk::Answered;
+use desk::{Refusal, Results};
 use relations::limits::{CATALOGUE_WORDS, PLAN_WORDS, QUESTION_WORDS, WORDS};
-use standard_input::read_bundle;
+use standard_input::{InputError, read_bundle};
 use std::io::Write;
 
 // What can't be told on standard error is not told.
 fn tell(rt: &HostRuntime, text: &[u8]) {
-    match rt.stderr().write_all(text) {
-        Ok(()) => {}
-        Err(_) => {}
-    }
+    let _ = rt.stderr().write_all(text);
 }
 
 fn print(rt: &HostRuntime, text: &[u8]) {
-    match rt.stdout().write_all(text) {
-        Ok(()) => {}
-        Err(_) => tell(rt, b"desk: the listing could not be written whole\n"),
+    if rt.stdout().write_all(text).is_err() {
+        tell(rt, b"desk: the listing could not be written whole\n");
     }
 }
 
-fn print_refusal(rt: &HostRuntime, status: u32, place: u32) {
+fn print_refusal(rt: &HostRuntime, refusal: Refusal) {
     let mut text = [0u8; 35];
-    let bytes = listing::put_refusal(status, place, &mut text);
+    let bytes = listing::put_refusal(refusal, &mut text);
     print(rt, &text[..bytes]);
 }
 
 // The buffer holds the longest listing: as many rows of one word of ten digits as there may be words.
-fn print_listing(
-    rt: &HostRuntime,
-    nodes: u32,
-    heavy: u32,
-    room: u32,
-    width: u32,
-    rows: u32,
-    words: &[u32],
-)
-    requires { Listable width rows words.now }
+fn print_listing(rt: &HostRuntime, results: Results, words: &[u32])
+    requires { Listable results.width results.rows words.now }
 {
     let mut text = [0u8; 16 * WORDS];
-    let bytes = listing::put_listing(nodes, heavy, room, width, rows, words, &mut text);
+    let bytes = listing::put_listing(results, words, &mut text);
     print(rt, &text[..bytes]);
 }
 
@@ -61,14 +49,8 @@ fn print_answer(rt: &HostRuntime, mode: u32, catalogue: &[u32], tables: &[u32], 
         &mut work,
         &mut output,
     ) {
-        Answered::Done {
-            nodes,
-            heavy,
-            room,
-            width,
-            rows,
-        } => print_listing(rt, nodes, heavy, room, width, rows, &output),
-        Answered::Refused { status, place } => print_refusal(rt, status, place),
+        Ok(results) => print_listing(rt, results, &output),
+        Err(refusal) => print_refusal(rt, refusal),
     }
 }
 
@@ -76,21 +58,21 @@ fn main(rt: HostRuntime) {
     let mut catalogue = [0u32; CATALOGUE_WORDS];
     let mut tables = [0u32; WORDS];
     let mut question = [0u32; QUESTION_WORDS];
-    let input = read_bundle(&mut rt.reader(), &mut catalogue, &mut tables, &mut question);
-    let pairs = input.catalogue;
-    let words = input.tables;
-    let nodes = input.question;
-    if input.failed {
-        tell(&rt, b"desk: the input could not be read\n");
-    } else if input.status != 0 {
-        print_refusal(&rt, input.status, input.place);
-    } else {
-        print_answer(
+    match read_bundle(&mut rt.reader(), &mut catalogue, &mut tables, &mut question) {
+        Ok(input) => print_answer(
             &rt,
             input.mode,
-            &catalogue[..pairs],
-            &tables[..words],
-            &question[..nodes],
-        );
+            &catalogue[..input.catalogue],
+            &tables[..input.tables],
+            &question[..input.question],
+        ),
+        Err(InputError::Refused(refused)) => {
+            let refusal = Refusal {
+                status: refused.status(),
+                place: refused.place() as u32,
+            };
+            print_refusal(&rt, refusal)
+        }
+        Err(InputError::Unreadable) => tell(&rt, b"desk: the input could not be read\n"),
     }
 }

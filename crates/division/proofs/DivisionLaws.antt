@@ -2,13 +2,14 @@
 use mathlib.Core.Path.{◌≡◌, refl, sym, ap, ap₂, ◌∙◌}
 use mathlib.Core.Bool.{Bool, true, false, not, ◌&&◌, cond, So}
 use mathlib.Core.List.{List, [], ◌∷◌, ◌++◌, map, append_assoc}
-use Prim.Native.Nat.{ℕ, zero, suc, ◌+◌, ◌*◌, ◌-◌, ◌≤◌, ◌<◌}
+use Prim.Native.Nat.{ℕ, zero, suc, ◌+◌, ◌*◌, ◌-◌, ◌/◌, ◌≤◌, ◌<◌}
 use native.Mathlib.Omega.{arith}
 use native.Mathlib.Numerals.{add-one}
 use native.Mathlib.Nat.{add-zero}
 use lib.ListN.{length, get_or, set, take, drop, replicate, length-set, length-append, length-replicate, length-map}
-use lib.Seq.{sets, drop-drop, drop-cons, take-suc-set, take-set-lt, take-length, get_or-append_seam}
+use lib.Seq.{length-take-le, sets, take-suc-set, take-set-lt, take-length, get_or-append_seam}
 use lib.Dec.{eqb}
+use Rattle.std.specs.List.{list_all}
 use borrow.Author.Tests.{eq-eqb, ne_eqb}
 use Rattle.relations.specs.Lists.{any, all, filter, All}
 use Rattle.relations.specs.Rows.{Row, same_row}
@@ -22,40 +23,42 @@ use Rattle.relations.proofs.BoolLaws.{and_left, and_right, not_so_false}
 use Rattle.relations.proofs.RowLaws.{same_row_symmetric}
 use Rattle.relations.specs.Legality.{distinct}
 use Rattle.relations.proofs.WidthLaws.{columns_left_lem}
-use Rattle.values.specs.Words.{row_in, rows_at, rows_of, end}
+use Rattle.values.specs.Words.{row_in, rows_of, end}
 use Rattle.values.specs.declared.rows.Value.{Value}
 use Rattle.values.proofs.FillLaws.{Filled, filled_rows}
 use Rattle.values.proofs.RowsLaws.{row_inside}
 use Rattle.values.proofs.WordLaws.{part-sets}
-use Rattle.operations.proofs.RowSteps.{filter_step}
+use Rattle.operations.proofs.RowSteps.{rows_from, filter_next}
 use Rattle.operations.proofs.FillSteps.{filled_row}
 use Rattle.operations.proofs.MadeLaws.{map-append}
 use Rattle.operations.specs.Lists.{first_pair}
-use Rattle.division.specs.Divisions.{columns_left, kept, with_pairs, divides, quotient}
+use Rattle.division.specs.Divisions.{pairs_of, columns_left, kept, with_pairs, divides, quotient}
 
--- a turn of the loop over the columns of two rows
-pub same_step : (columns : List ℕ) (i : ℕ) (a b : Row) → i < length columns
-    → same_row (kept (drop i columns) a) (kept (drop i columns) b) ≡ (eqb (column a (attribute (get_or columns i 0))) (column b (attribute (get_or columns i 0))) && same_row (kept (drop (i + 1) columns) a) (kept (drop (i + 1) columns) b))
-same_step columns i a b h = rw (drop-cons columns i 0 h, add-one)
+-- two rows agree on columns where their words are equal at each
+pub same_kept : (columns : List ℕ) (a b : Row) → list_all (λ number. eqb (column a (attribute number)) (column b (attribute number))) columns ≡ same_row (kept columns a) (kept columns b)
+same_kept [] a b = refl
+same_kept (number ∷ columns) a b = ap (λ same. eqb (column a (attribute number)) (column b (attribute number)) && same) (same_kept columns a b)
 
 -- a turn of the loop that writes the columns that remain
-module _ (numbers : List ℕ) (number left : ℕ) (some_left : 0 < left) where
-  pub column_out : listed number numbers ≡ true → columns_left number left numbers ≡ columns_left (number + 1) (left - 1) numbers
-  column_out = go left some_left
-    where
-      go : (n : ℕ) → 0 < n → listed number numbers ≡ true → columns_left number n numbers ≡ columns_left (number + 1) (n - 1) numbers
-      go zero h e = absurd (omega arith)
-      go (suc n) h e = let k : suc n - 1 ≡ n = omega arith in rw (e, k, add-one)
+columns_turn : (numbers : List ℕ) (column width : ℕ) → column < width
+    → columns_left (column + 1) (width - column) numbers ≡ cond (listed (column + 1) numbers) (columns_left (column + 1 + 1) (width - (column + 1)) numbers) ((column + 1) ∷ columns_left (column + 1 + 1) (width - (column + 1)) numbers)
+columns_turn numbers column width h =
+    let more : width - column ≡ suc (width - (column + 1)) = omega arith in
+    rw (more, add-one (column + 1))
 
-  pub column_in : listed number numbers ≡ false → columns_left number left numbers ≡ number ∷ columns_left (number + 1) (left - 1) numbers
-  column_in = go left some_left
-    where
-      go : (n : ℕ) → 0 < n → listed number numbers ≡ false → columns_left number n numbers ≡ number ∷ columns_left (number + 1) (n - 1) numbers
-      go zero h e = absurd (omega arith)
-      go (suc n) h e = let k : suc n - 1 ≡ n = omega arith in rw (e, k, add-one)
-
-pub column-written : (columns rest : List ℕ) (i x : ℕ) → i < length columns → take i columns ++ (x ∷ rest) ≡ take (i + 1) (set columns i x) ++ rest
+column-written : (columns rest : List ℕ) (i x : ℕ) → i < length columns → take i columns ++ (x ∷ rest) ≡ take (i + 1) (set columns i x) ++ rest
 column-written columns rest i x h = rw (add-one, take-suc-set columns i x h, append_assoc)
+
+module _ (numbers columns : List ℕ) (column width written : ℕ) (more : column < width) where
+  pub column_out : listed (column + 1) numbers ≡ true
+      → take written columns ++ columns_left (column + 1) (width - column) numbers ≡ take written columns ++ columns_left (column + 1 + 1) (width - (column + 1)) numbers
+  column_out e = ap (λ rest. take written columns ++ rest) (columns_turn numbers column width more ∙ rw e)
+
+  pub column_in : listed (column + 1) numbers ≡ false → written < length columns
+      → take written columns ++ columns_left (column + 1) (width - column) numbers ≡ take (written + 1) (set columns written (column + 1)) ++ columns_left (column + 1 + 1) (width - (column + 1)) numbers
+  column_in e room =
+      ap (λ rest. take written columns ++ rest) (columns_turn numbers column width more ∙ rw e)
+      ∙ column-written columns (columns_left (column + 1 + 1) (width - (column + 1)) numbers) written (column + 1) room
 
 -- the remaining columns of a row are those of the numbers left
 remaining_from : (numbers : List ℕ) (front back row : Row) → row ≡ front ++ back → columns_not_listed (suc (length front)) numbers back ≡ kept (columns_left (suc (length front)) (length back) numbers) row
@@ -160,36 +163,49 @@ partnered-member pairs width left t r wide e d h =
     any_cong (λ l. same_row (remaining pairs l) (remaining pairs t) && equal_on pairs l r) (same_row (with_pairs pairs t r)) left
     (all_mono (λ l q. same_with_pairs pairs l t r (e ∙ sym q) d (rw q h) ∙ same_row_symmetric l (with_pairs pairs t r)) left wide)
 
--- a turn of the loop that writes the pairs' columns
-pub with_step : (list : List ℕ) (at more : ℕ) (t r : Row) → 0 < more
-    → with_pairs (read_pairs more (drop at list)) t r ≡ with_pairs (read_pairs (more - 1) (drop (at + 2) list)) (set t ((first_pair (drop at list)).left.number - 1) (column r (first_pair (drop at list)).right)) r
-with_step list at zero t r h = absurd (omega arith)
-with_step list at (suc more) t r h = let e : suc more - 1 ≡ more = omega arith in rw (e, drop-drop 2 at list)
-
-pub numbers_step : (P : ℕ → Type 0) (list : List ℕ) (at more : ℕ) → 0 < more → All P (left_numbers (read_pairs more (drop at list)))
-    → P (first_pair (drop at list)).left.number × All P (left_numbers (read_pairs (more - 1) (drop (at + 2) list)))
-numbers_step P list at zero h k = absurd (omega arith)
-numbers_step P list at (suc more) h k = let e : suc more - 1 ≡ more = omega arith in rw (e, ← drop-drop 2 at list) k
-
 -- t, written from the front, and then each pair's column
 pub row_written : (z t : List ℕ) → length t ≤ length z → take (length t) (sets z 0 (row_in t 0 (length t))) ≡ t
 row_written z t h = ap (λ (row : List ℕ). take (length t) (sets z 0 row)) (row_inside t 0 (length t) (omega arith) ∙ take-length t) ∙ part-sets z 0 t (omega arith)
 
-pub with_turn : (list made : List ℕ) (at more width x : ℕ) (r : Row) (p : Pair) → 0 < more → p ≡ first_pair (drop at list) → (1 ≤ p.left.number) × (p.left.number ≤ width) → x ≡ column r p.right
-    → with_pairs (read_pairs more (drop at list)) (take width made) r ≡ with_pairs (read_pairs (more - 1) (drop (at + 2) list)) (take width (set made (p.left.number - 1) x)) r
-with_turn list made at more width x r p h e k q =
-    let rest : List Pair = read_pairs (more - 1) (drop (at + 2) list) in
-    let number : p.left.number ≡ get_or (drop at list) 0 0 = ap (λ (pair : Pair). pair.left.number) e in
-    let word : x ≡ column r (attribute (get_or (drop at list) 1 0)) = q ∙ ap (λ (pair : Pair). column r pair.right) e in
-    with_step list at more (take width made) r h
-    ∙ ap₂ (λ (i y : ℕ). with_pairs rest (set (take width made) (i - 1) y) r) (sym number) (sym word)
-    ∙ ap (λ (t : Row). with_pairs rest t r) (sym (take-set-lt width made (p.left.number - 1) x (omega (arith, k.0, k.1))))
+-- list words as pairs: those in front, none, and all of them
+pairs_front : (words rest : List ℕ) → length words ≡ 2 → pairs_of (words ++ rest) ≡ first_pair words ∷ pairs_of rest
+pairs_front [] rest h = absurd (omega arith)
+pairs_front (a ∷ []) rest h = absurd (omega arith)
+pairs_front (a ∷ b ∷ []) rest h = let e : suc (suc (length rest)) / 2 ≡ suc (length rest / 2) = omega arith in rw e refl
+pairs_front (a ∷ b ∷ d ∷ words) rest h = absurd (omega arith)
 
-pub first-inside : (list : List ℕ) (at more width : ℕ) (p : Pair) → 0 < more → p ≡ first_pair (drop at list) → All (λ number. (1 ≤ number) × (number ≤ width)) (left_numbers (read_pairs more (drop at list)))
-    → (1 ≤ p.left.number) × (p.left.number ≤ width)
-first-inside list at more width p h e k =
-    let n : p.left.number ≡ get_or (drop at list) 0 0 = ap (λ (pair : Pair). pair.left.number) e in
-    rw n (numbers_step (λ number. (1 ≤ number) × (number ≤ width)) list at more h k).0
+pub pairs_none : (list : List ℕ) → length list < 2 → pairs_of list ≡ []
+pairs_none list h = let e : length list / 2 ≡ 0 = omega arith in rw e
+
+pairs_cut : (count : ℕ) (list : List ℕ) → count * 2 ≤ length list → read_pairs count (take (count * 2) list) ≡ read_pairs count list
+pairs_cut zero list h = refl
+pairs_cut (suc count) [] h = absurd (omega arith)
+pairs_cut (suc count) (a ∷ []) h = absurd (omega arith)
+pairs_cut (suc count) (a ∷ b ∷ list) h =
+    let e : suc count * 2 ≡ suc (suc (count * 2)) = omega arith in
+    rw e (ap (λ (rest : List Pair). first_pair (a ∷ b ∷ list) ∷ rest) (pairs_cut count list (omega arith)))
+
+pub pairs_alone : (count : ℕ) (list : List ℕ) → count * 2 ≤ length list → pairs_of (take (count * 2) list) ≡ read_pairs count list
+pairs_alone count list h = let many : length (take (count * 2) list) / 2 ≡ count = omega (arith, length-take-le (count * 2) list h) in rw many (pairs_cut count list h)
+
+-- a turn of the loop that writes the pairs' columns
+module _ (words rest : List ℕ) (width : ℕ) (p : Pair) (size : length words ≡ 2) (is : p ≡ first_pair words) (inside : All (λ number. (1 ≤ number) × (number ≤ width)) (left_numbers (pairs_of (words ++ rest)))) where
+  both : ((1 ≤ (first_pair words).left.number) × ((first_pair words).left.number ≤ width)) × All (λ number. (1 ≤ number) × (number ≤ width)) (left_numbers (pairs_of rest))
+  both = rw (pairs_front words rest size) at inside
+
+  pub pair-inside : (1 ≤ p.left.number) × (p.left.number ≤ width)
+  pair-inside = rw is both.0
+
+  pub pairs_next : All (λ number. (1 ≤ number) × (number ≤ width)) (left_numbers (pairs_of rest))
+  pairs_next = both.1
+
+  pub with_next : (made : List ℕ) (x : ℕ) (r : Row) → x ≡ column r p.right
+      → with_pairs (pairs_of (words ++ rest)) (take width made) r ≡ with_pairs (pairs_of rest) (take width (set made (p.left.number - 1) x)) r
+  with_next made x r q =
+      ap (λ (pairs : List Pair). with_pairs pairs (take width made) r) (pairs_front words rest size)
+      ∙ ap (λ (pair : Pair). with_pairs (pairs_of rest) (set (take width made) (pair.left.number - 1) (column r pair.right)) r) (sym is)
+      ∙ ap (λ (y : ℕ). with_pairs (pairs_of rest) (set (take width made) (p.left.number - 1) y) r) (sym q)
+      ∙ ap (λ (t : Row). with_pairs (pairs_of rest) t r) (sym (take-set-lt width made (p.left.number - 1) x (omega (arith, pair-inside.0, pair-inside.1))))
 
 -- a row that agrees with another on the columns gives what that one gives
 pub quotient_same : (columns : List ℕ) (pairs : List Pair) (width : ℕ) (left right : Rows) (t u : Row) → columns ≡ columns_left 1 width (left_numbers pairs) → length t ≡ width → length u ≡ width
@@ -213,11 +229,11 @@ pub quotient_no : (columns : List ℕ) (pairs : List Pair) (left right : Rows) (
 quotient_no columns pairs left right t e = ap (λ b. map (kept columns) (cond b (t ∷ []) [])) e
 
 -- a turn of the loop over the left rows
-pub quotient_step : (columns : List ℕ) (pairs : List Pair) (left right : Rows) (width more at : ℕ) (words : List ℕ) → 0 < more → at + more * width ≤ length words
-    → quotient columns pairs left right (rows_at width more at words) ≡ quotient columns pairs left right (row_in words at width ∷ []) ++ quotient columns pairs left right (rows_at width (more - 1) (at + width) words)
-quotient_step columns pairs left right width more at words p h =
-    ap (map (kept columns)) (filter_step width more at words p h (divides pairs left right))
-    ∙ map-append (kept columns) (filter (divides pairs left right) (row_in words at width ∷ [])) (filter (divides pairs left right) (rows_at width (more - 1) (at + width) words))
+pub quotient_next : (columns : List ℕ) (pairs : List Pair) (left right : Rows) (value : Value) (i : ℕ) (words : List ℕ) → i < value.rows → end value ≤ length words
+    → quotient columns pairs left right (rows_from value i words) ≡ quotient columns pairs left right (row_in words (value.base + i * value.width) value.width ∷ []) ++ quotient columns pairs left right (rows_from value (i + 1) words)
+quotient_next columns pairs left right value i words more inside =
+    ap (map (kept columns)) (filter_next value i words more inside (divides pairs left right))
+    ∙ map-append (kept columns) (filter (divides pairs left right) (row_in words (value.base + i * value.width) value.width ∷ [])) (filter (divides pairs left right) (rows_from value (i + 1) words))
 
 -- one left row's part of the quotient, while the value is filled
 pub quotient_now : {w out rows made : ℕ} {all todo : Rows} {before now : List ℕ} → Filled w out rows made all todo before now → (columns : List ℕ) (pairs : List Pair) (left right : Value) (at width : ℕ)

@@ -1,5 +1,5 @@
 -- A division by the columns that remain: `remaining pairs` is `pick` of their numbers (proofs/DivisionLaws, remaining_picked).
-use Rattle.std.specs.Prelude.{◌≡◌, Bool, cond, List, [], ◌∷◌, map, ℕ, zero, suc, ◌*◌, ◌-◌, ◌≤◌, ◌<◌, length, set}
+use Rattle.std.specs.Prelude.{◌≡◌, Bool, cond, List, [], ◌∷◌, map, ℕ, zero, suc, ◌-◌, ◌/◌, ◌≤◌, ◌<◌, length, set}
 use Rattle.std.proofs.Math.Bool.{So}
 use Rattle.relations.specs.Limits.{column_limit}
 use Rattle.relations.specs.Lists.{all, filter, All}
@@ -11,6 +11,10 @@ use Rattle.relations.specs.Values.{Rows, Ascending}
 use Rattle.values.specs.Words.{rows_of, end}
 use Rattle.values.specs.declared.rows.Value.{Value}
 use Rattle.relations.specs.Columns.{Pair, attribute, column, pick, listed, left_numbers}
+
+-- all pairs of list words that have no others
+abbrev pub pairs_of : List ℕ → List Pair
+pairs_of list = read_pairs (length list / 2) list
 
 -- of so many columns from a number on, the numbers that are not listed
 abbrev pub columns_left : (number width : ℕ) → List ℕ → List ℕ
@@ -34,15 +38,13 @@ divides pairs left right t = all (partnered pairs left t) right
 abbrev pub quotient : List ℕ → List Pair → Rows → Rows → Rows → Rows
 quotient columns pairs left right rows = map (kept columns) (filter (divides pairs left right) rows)
 
--- what the pairs ask of a left value of that width: they stand in the list, and their left attributes are different columns of it
-abbrev pub PairsFit : (list : List ℕ) (count width : ℕ) → Type 0
-PairsFit list count width =
-    (count * 2 ≤ length list) × (width ≤ column_limit) × So (distinct (left_numbers (read_pairs count list)))
-    × All (λ number. (1 ≤ number) × (number ≤ width)) (left_numbers (read_pairs count list))
+-- what the pairs ask of a left value of that width: their left attributes are different columns of it
+abbrev pub PairsFit : (pairs : List ℕ) (width : ℕ) → Type 0
+PairsFit pairs width = (width ≤ column_limit) × So (distinct (left_numbers (pairs_of pairs))) × All (λ number. (1 ≤ number) × (number ≤ width)) (left_numbers (pairs_of pairs))
 
 -- what a division asks of its operands: the columns left are those that are no pair's, and there are some; both values stand in front of `out`, and
 -- the left one can be searched
-abbrev pub DivisionFits : (columns list : List ℕ) (count : ℕ) (left right : Value) (out : ℕ) (work : List ℕ) → Type 0
-DivisionFits columns list count left right out work =
-    (0 < length columns) × (length columns ≤ column_limit) × PairsFit list count left.width × (end left ≤ out) × (end right ≤ out) × (out ≤ length work)
-    × (columns ≡ columns_left 1 left.width (left_numbers (read_pairs count list))) × Ascending (rows_of left work)
+abbrev pub DivisionFits : (columns pairs : List ℕ) (left right : Value) (out : ℕ) (work : List ℕ) → Type 0
+DivisionFits columns pairs left right out work =
+    (0 < length columns) × (length columns ≤ column_limit) × PairsFit pairs left.width × (end left ≤ out) × (end right ≤ out) × (out ≤ length work)
+    × (columns ≡ columns_left 1 left.width (left_numbers (pairs_of pairs))) × Ascending (rows_of left work)

@@ -67,10 +67,27 @@ grown-list more none e h =
     let words : sets (padded []) 0 more ≡ padded more = sets-eq more (padded []) 0 (omega arith) ∙ rw (k, zeros, drop_zeros (length more) list_words) in
     e ∙ ap (λ (l : NodeList). grown_by l more) none ∙ ap₂ list_of words k
 
--- a list fits into its words
-pub listed-few : (used : List ℕ) {list : NodeList} → list ≡ node_list used → length list.words ≡ list_words → list.used ≤ list_words
-listed-few used {list} e l =
-    omega (arith, ap (λ (w : NodeList). w.used) e, ap (λ (w : NodeList). length w.words) e, length-append used (replicate (list_words - length used) 0), length-replicate {A = ℕ} (list_words - length used) 0)
+-- A list that a loop grows: there is room for the words that are still to come, and with them it will be the whole.
+pub record Grows (list : NodeList) (more : List ℕ) (whole : NodeList) : Type 0 where
+  pub room : list.used + length more ≤ list_words
+  pub becomes : grown_by list more ≡ whole
+
+pub grows_from : (more : List ℕ) {nothing : NodeList} → nothing ≡ node_list [] → length more ≤ list_words → Grows nothing more (node_list more)
+grows_from more none h = record { room = omega (arith, ap (λ (l : NodeList). l.used) none); becomes = grown-list more none refl h }
+
+module _ {list whole : NodeList} {now : List ℕ} (g : Grows list now whole) where
+  pub grows_on : (xs ys : List ℕ) {longer : NodeList} → now ≡ xs ++ ys → longer ≡ grown_by list xs → Grows longer ys whole
+  grows_on xs ys e grown =
+      record {
+        room = omega (arith, g.room, ap length e, length-append xs ys, grown_used list xs grown);
+        becomes = grown_step list xs ys grown ∙ ap (grown_by list) (sym e) ∙ g.becomes;
+      }
+
+  pub grows_as : (ys : List ℕ) → now ≡ ys → Grows list ys whole
+  grows_as ys e = record { room = omega (arith, g.room, ap length e); becomes = ap (grown_by list) (sym e) ∙ g.becomes }
+
+  pub grown : now ≡ [] → list ≡ whole
+  grown e = sym (grown_none list) ∙ ap (grown_by list) (sym e) ∙ g.becomes
 
 -- attributes listed
 
@@ -83,6 +100,12 @@ columns_step zero column h = absurd (omega arith)
 columns_step (suc left) column h =
     let e : suc left - 1 ≡ left = omega arith in
     rw (add-one, e)
+
+pub columns_none : (left column : ℕ) → left ≡ 0 → numbers_of (columns_from left column) ≡ []
+columns_none left column e = rw e
+
+pub columns-long : (count first : ℕ) → length (numbers_of (columns_from count first)) ≡ count
+columns-long count first = length-map (columns_from count first) (λ (a : Attribute). a.number) ∙ columns_length count first
 
 -- what a list names is what it was made of
 
@@ -113,18 +136,10 @@ module _ {list : NodeList} where
 
 -- the words of nodes with a list
 module _ (list : NodeList) (left right : ℕ) where
-  pub project-words : ListsAttributes list → 2 ∷ left ∷ 0 ∷ list.used ∷ list.words ≡ node_words (project left (attributes_in list))
-  project-words e = rw (ap (λ (l : NodeList). 2 ∷ left ∷ 0 ∷ l.used ∷ l.words) e, length-map (attributes_in list) (λ a. a.number))
-
   pub linked-words : (how : Linking) → ListsFor how list → linking_number how ∷ left ∷ right ∷ list.used / linking_unit how ∷ list.words ≡ node_words (linked how left right list)
   linked-words Semijoin e = ap (λ (l : NodeList). 6 ∷ left ∷ right ∷ l.used / 3 ∷ l.words) e ∙ rw (triples_used (triples_in list))
   linked-words Antijoin e = ap (λ (l : NodeList). 7 ∷ left ∷ right ∷ l.used / 3 ∷ l.words) e ∙ rw (triples_used (triples_in list))
   linked-words Divide e = ap (λ (l : NodeList). 8 ∷ left ∷ right ∷ l.used / 2 ∷ l.words) e ∙ rw (pairs_used (pairs_in list))
-
-pub unit-some : (how : Linking) → 1 ≤ linking_unit how
-unit-some Semijoin = omega arith
-unit-some Antijoin = omega arith
-unit-some Divide = omega arith
 
 -- a full list has no zeros behind it
 pub padded_full : (words : List ℕ) → length words ≡ list_words → padded words ≡ words

@@ -61,8 +61,3 @@ module _ (width : ℕ) (attributes : NodeList) (few : attributes.used ≤ length
 
   pub same_stop : (i : ℕ) → attributes.used ≡ width → i < width → (get_or attributes.words i 0 ≡ i + 1 → ⊥) → same_attributes (drop i listed) (columns_from (width - i) (i + 1)) ≡ false
   same_stop i u h k = same_next i u h ∙ ap (λ b. b && same_attributes (drop (i + 1) listed) (columns_from (width - (i + 1)) (i + 1 + 1))) (ne_eqb _ _ k)
-
-  pub same_end : (i : ℕ) → attributes.used ≡ width → width ≤ i → same_attributes (drop i listed) (columns_from (width - i) (i + 1)) ≡ true
-  same_end i u h =
-      let k : width - i ≡ 0 = omega arith in
-      rw (k, drop_of_length-le listed {i = i} (omega (arith, used_is)))

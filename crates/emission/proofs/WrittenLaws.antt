@@ -55,9 +55,6 @@ room_after {before} {n = n} {xs = xs} rest r w h =
 pub room-less : {plan : List ℕ} {n more : ℕ} (less : ℕ) → Room plan n more → less ≤ more → Room plan n less
 room-less less r h = record { nodes = omega (arith, r.nodes); buffer = r.buffer }
 
-pub written-length : {before after : List ℕ} {n count : ℕ} {xs : List Node} → Written before n xs after count → length after ≡ length before
-written-length {before} {n = n} {xs = xs} w = ap length w.words ∙ length-sets before (n * plan_node_words) (flat node_words xs)
-
 -- the node whose value is asked for is the last one
 
 pub pred_is : (k : ℕ) → pred k ≡ k - 1

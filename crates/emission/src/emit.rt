@@ -1,29 +1,21 @@
 // Plan nodes written at the end of a plan: each function writes node `n` and returns the number of nodes that there are then.
-ghost use Rattle.std.specs.Prelude.{◌≡◌, [], ◌∷◌, ◌+◌, ◌*◌, ◌≤◌, length, get_or};
+// The plan and n stay two parameters: a caller holds the numbers of several values at once, and each answer is the next n.
+ghost use Rattle.std.specs.Prelude.{◌≡◌, [], ◌∷◌, ◌+◌, ◌*◌, ◌≤◌, length};
 ghost use Rattle.std.proofs.lemmas.List.Edits.{sets};
 ghost use Rattle.relations.specs.Limits.{list_words, plan_node_words};
 ghost use Rattle.relations.specs.Nodes as nodes;
 ghost use Rattle.calculus.specs.Scope.{all_columns};
 ghost use Rattle.emission.specs.Joins.{combination_number, paired, linking_number, linking_unit, linked, ListsFor};
 ghost use Rattle.emission.specs.NodeLists.{padded, attributes_in, ListsAttributes};
-ghost use Rattle.emission.specs.Selects.{NamesOperator, selecting};
+ghost use Rattle.emission.specs.Selects.{selecting};
 ghost use Rattle.emission.specs.Written.{Room, Written};
 
-use crate::node_list::{NodeList, no_list, with_columns};
+use crate::node_list::NodeList;
 use nodes::node::Combination;
 use relations::limits::{HEAD_WORDS, LIST_WORDS, PAIR_WORDS, PLAN_NODE_WORDS, TRIPLE_WORDS};
 use terms::attribute::Attribute;
 use terms::constant::Constant;
-
-// A list's word; 0 behind its end.
-fn word_at(list: &[u32], place: usize) -> u32
-    ensures { result ≡ get_or list.now place 0 }
-{
-    if place < list.len() {
-        return list[place];
-    }
-    0
-}
+use terms::operator::Operator;
 
 // The node's list words are those of the list, then zeros.
 fn push(
@@ -43,10 +35,8 @@ fn push(
     plan[at + 1] = left;
     plan[at + 2] = right;
     plan[at + 3] = count;
-    let mut j = 0;
-    while j < LIST_WORDS {
-        plan[at + HEAD_WORDS + j] = word_at(list, j);
-        j += 1;
+    for j in 0..LIST_WORDS {
+        plan[at + HEAD_WORDS + j] = list.get(j).copied().unwrap_or(0);
     }
     n + 1
 }
@@ -55,15 +45,14 @@ pub fn load(plan: &mut [u32], n: u32, relation: u32) -> u32
     requires { Room plan.old n 1 }
     ensures { Written plan.old n (nodes.load relation ∷ []) plan.new result }
 {
-    push(plan, n, 1, relation, 0, 0, &[0u32; 1])
+    push(plan, n, 1, relation, 0, 0, &[0])
 }
 
 pub fn project(plan: &mut [u32], n: u32, left: u32, attributes: NodeList) -> u32
     requires { Room plan.old n 1 × ListsAttributes attributes }
     ensures { Written plan.old n (nodes.project left (attributes_in attributes) ∷ []) plan.new result }
 {
-    let words = attributes.words;
-    push(plan, n, 2, left, 0, attributes.used, &words)
+    push(plan, n, 2, left, 0, attributes.used, &attributes.words)
 }
 
 // A project on the first columns, so many.
@@ -71,7 +60,9 @@ pub fn project_first(plan: &mut [u32], n: u32, left: u32, columns: u32) -> u32
     requires { Room plan.old n 1 × (columns ≤ list_words) }
     ensures { Written plan.old n (nodes.project left (all_columns columns) ∷ []) plan.new result }
 {
-    project(plan, n, left, with_columns(no_list(), 1, columns))
+    let mut first = NodeList::new();
+    first.extend_columns(1, columns);
+    project(plan, n, left, first)
 }
 
 // What a select compares an attribute with (operations 4 and 3).
@@ -86,19 +77,19 @@ pub fn select(
     n: u32,
     left: u32,
     attribute: Attribute,
-    operator: u32,
+    operator: Operator,
     with: Comparand,
 ) -> u32
-    requires { Room plan.old n 1 × NamesOperator operator }
+    requires { Room plan.old n 1 }
     ensures { Written plan.old n (selecting left attribute.0 operator with ∷ []) plan.new result }
 {
     match with {
         Comparand::Attribute(other) => {
-            let list = [attribute.0, operator, other.0];
+            let list = [attribute.0, u32::from(operator), other.0];
             push(plan, n, 4, left, 0, 1, &list)
         }
         Comparand::Constant(constant) => {
-            let list = [attribute.0, operator, constant.0];
+            let list = [attribute.0, u32::from(operator), constant.0];
             push(plan, n, 3, left, 0, 1, &list)
         }
     }
@@ -109,7 +100,7 @@ pub fn product(plan: &mut [u32], n: u32, left: u32, right: u32) -> u32
     requires { Room plan.old n 1 }
     ensures { Written plan.old n (nodes.join left right [] ∷ []) plan.new result }
 {
-    push(plan, n, 5, left, right, 0, &[0u32; 1])
+    push(plan, n, 5, left, right, 0, &[0])
 }
 
 // Operation 13: the left rows that begin at least so many right rows.
@@ -135,7 +126,7 @@ pub fn pair(plan: &mut [u32], n: u32, how: Combination, left: u32, right: u32) -
     requires { Room plan.old n 1 }
     ensures { Written plan.old n (paired how left right ∷ []) plan.new result }
 {
-    push(plan, n, combination_number(how), left, right, 0, &[0u32; 1])
+    push(plan, n, combination_number(how), left, right, 0, &[0])
 }
 
 // The operations on two values with a list of triples, or of pairs.
@@ -161,8 +152,7 @@ fn linking_unit(how: Linking) -> u32
     ensures { result ≡ linking_unit how }
 {
     match how {
-        Linking::Semijoin => TRIPLE_WORDS as u32,
-        Linking::Antijoin => TRIPLE_WORDS as u32,
+        Linking::Semijoin | Linking::Antijoin => TRIPLE_WORDS as u32,
         Linking::Divide => PAIR_WORDS as u32,
     }
 }
@@ -171,7 +161,6 @@ pub fn link(plan: &mut [u32], n: u32, how: Linking, left: u32, right: u32, list:
     requires { Room plan.old n 1 × ListsFor how list }
     ensures { Written plan.old n (linked how left right list ∷ []) plan.new result }
 {
-    let words = list.words;
     push(
         plan,
         n,
@@ -179,6 +168,6 @@ pub fn link(plan: &mut [u32], n: u32, how: Linking, left: u32, right: u32, list:
         left,
         right,
         list.used / linking_unit(how),
-        &words,
+        &list.words,
     )
 }

@@ -10,13 +10,9 @@ pub fn count_heavy(plan: &[u32], nodes: u32) -> u32
     requires { (nodes ≤ plan_node_limit) × (nodes * plan_node_words ≤ length plan.now) }
     ensures { result ≡ heavy_in nodes plan.now }
 {
-    let mut heavy: u32 = 0;
-    let mut at: usize = 0;
-    let mut left = nodes;
-    while 0 < left {
-        heavy += weight(plan[at]);
-        at += PLAN_NODE_WORDS;
-        left -= 1;
+    let mut heavy = 0;
+    for i in 0..nodes {
+        heavy += weight(plan[i as usize * PLAN_NODE_WORDS]);
     }
     heavy
 }

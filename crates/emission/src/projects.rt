@@ -15,12 +15,11 @@ fn short_rule_1_fits(width: u32, attributes: NodeList) -> bool
     if attributes.used != width {
         return false;
     }
-    let mut i: u32 = 0;
-    while i < width {
+    // A loop and not `all` over the range: tried, and the proof didn't close.
+    for i in 0..width {
         if attributes.words[i as usize] != i + 1 {
             return false;
         }
-        i += 1;
     }
     true
 }
@@ -37,8 +36,9 @@ pub fn write_project(
     requires { ListsAttributes attributes × Room plan.old n 1 }
     ensures { Written plan.old n (project_nodes short width p (attributes_in attributes)) plan.new result }
 {
-    if short & short_rule_1_fits(width, attributes) {
-        return n;
+    if short && short_rule_1_fits(width, attributes) {
+        n
+    } else {
+        project(plan, n, p, attributes)
     }
-    project(plan, n, p, attributes)
 }

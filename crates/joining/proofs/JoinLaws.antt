@@ -15,13 +15,14 @@ use Rattle.relations.proofs.BoolLaws.{not_so, true-and-false}
 use Rattle.relations.proofs.RowLaws.{same_row-itself, same_row-equal, row_before-left, row_before_prefix, row_before_asymmetric, Trichotomy, before as stands-before, same as stands_at, after as stands-behind, trichotomy}
 use Rattle.relations.proofs.StoreLaws.{sets-append}
 use Rattle.relations.specs.Columns.{Triple, meets}
+use Rattle.relations.specs.Operations.{join_candidates}
 use Rattle.values.specs.Words.{part, row_in, rows_at, rows_of, end}
 use Rattle.values.specs.Places.{rows_before}
 use Rattle.values.specs.Orders.{order_of}
 use Rattle.values.specs.Building.{Builds}
-use Rattle.values.specs.declared.rows.Order.{Order}
-use Rattle.values.specs.declared.rows.Order.TheVariants.{Less, Equal, Greater}
-use Rattle.values.specs.declared.placing.Placed.TheVariants.{Rows as Made, Full}
+use Rattle.std.specs.declared.cmp.Ordering.{Ordering}
+use Rattle.std.specs.declared.cmp.Ordering.TheVariants.{Less, Equal, Greater}
+use Rattle.std.specs.Prelude.{Some, None}
 use Rattle.values.proofs.WordLaws.{part_add, part-before}
 use Rattle.values.proofs.RowsLaws.{row_inside, length_row, times_step, rows_at_none}
 use Rattle.values.proofs.OrderLaws.{told_before, told_same}
@@ -29,16 +30,30 @@ use Rattle.values.proofs.PlaceLaws.{before_in_words, most_in_words, none_in_word
 use Rattle.values.proofs.PutLaws.{put_new, put_full}
 use Rattle.values.specs.declared.rows.Value.{Value}
 use Rattle.values.proofs.FillLaws.{Filled, filled_rows}
+use Rattle.partners.proofs.RestLaws.{times_rest}
+use Rattle.values.proofs.BoundLaws.{ascending_from}
 use Rattle.joining.specs.Joins.{joined}
-use Rattle.operations.proofs.RowSteps.{filter_step}
+use Rattle.operations.proofs.RowSteps.{rows_from, rows_from_next, filter_next}
 use Rattle.operations.proofs.FillSteps.{filled_row}
 use Rattle.operations.proofs.MadeLaws.{map-append}
 
-pub joined_step : (test : Row → Bool) (t : Row) (width left at : ℕ) (words : List ℕ) → 0 < left → at + left * width ≤ length words
-    → joined test t (rows_at width left at words) ≡ joined test t (row_in words at width ∷ []) ++ joined test t (rows_at width (left - 1) (at + width) words)
-joined_step test t width left at words p h =
-    ap (map (λ s. t ++ s)) (filter_step width left at words p h test)
-    ∙ map-append (λ s. t ++ s) (filter test (row_in words at width ∷ [])) (filter test (rows_at width (left - 1) (at + width) words))
+pub joined_next : (test : Row → Bool) (t : Row) (right : Value) (i : ℕ) (words : List ℕ) → i < right.rows → end right ≤ length words
+    → joined test t (rows_from right i words) ≡ joined test t (row_in words (right.base + i * right.width) right.width ∷ []) ++ joined test t (rows_from right (i + 1) words)
+joined_next test t right i words more inside =
+    ap (map (λ s. t ++ s)) (filter_next right i words more inside test)
+    ∙ map-append (λ s. t ++ s) (filter test (row_in words (right.base + i * right.width) right.width ∷ [])) (filter test (rows_from right (i + 1) words))
+
+-- the right rows from one on ascend, and stand in front of a value
+pub rest-inside : (right : Value) (i : ℕ) → i ≤ right.rows → right.base + i * right.width + (right.rows - i) * right.width ≡ end right
+rest-inside right i h = omega (arith, times_rest i right.rows right.width h)
+
+pub rest-ascending : (right : Value) (i : ℕ) (words : List ℕ) → i ≤ right.rows → end right ≤ length words → Ascending (rows_of right words) → Ascending (rows_from right i words)
+rest-ascending right i words h k a = ascending_from right.width right.rows right.base words k i h a
+
+pub join_next : (triples : List Triple) (right : Rows) (left : Value) (i : ℕ) (words : List ℕ) → i < left.rows → end left ≤ length words
+    → join_candidates triples (rows_from left i words) right
+    ≡ joined (meets triples (row_in words (left.base + i * left.width) left.width)) (row_in words (left.base + i * left.width) left.width) right ++ join_candidates triples (rows_from left (i + 1) words) right
+join_next triples right left i words more inside = ap (λ rows. join_candidates triples rows right) (rows_from_next left i words more inside)
 
 module _ {w out rows made : ℕ} {all todo : Rows} {before now : List ℕ} (f : Filled w out rows made all todo before now) (a width : ℕ) (ahead : a + width ≤ out) where
   pub pair_now : (test : Row → Bool) (b more : ℕ) → b + more ≤ out → joined test (row_in now a width) (row_in now b more ∷ []) ≡ joined test (row_in before a width) (row_in before b more ∷ [])
@@ -102,13 +117,13 @@ module _ (base rows width : ℕ) (row : Row) (l : List ℕ) (wide : length row �
   not_there : member row (rows_at width rows base l) ≡ false
   not_there = none_in_words row width rows base l fits (omega (arith, behind))
 
-  pub put_last : base + rows * width + width ≤ length l → (after : List ℕ) → after ≡ sets l (base + rows * width) row → Builds width base rows (row ∷ []) l after (Made (rows + 1))
+  pub put_last : base + rows * width + width ≤ length l → (after : List ℕ) → after ≡ sets l (base + rows * width) row → Builds width base rows (row ∷ []) l after (Some (rows + 1))
   put_last room after stored =
       let z : base + rows * width - (base + rows * width) ≡ 0 = omega arith in
       put_new base rows width row l wide fits ascending rows (sym behind) not_there room after
       (stored ∙ sym (ap (λ (n : ℕ). sets (sets l (base + rows * width + width) (part (base + rows * width) n l)) (base + rows * width) row) z))
 
-  pub full_last : length l < base + rows * width + width → Builds width base rows (row ∷ []) l l Full
+  pub full_last : length l < base + rows * width + width → Builds width base rows (row ∷ []) l l None
   full_last h = put_full base rows width row l wide fits ascending not_there h
 
 -- two rows written one behind the other
@@ -130,7 +145,7 @@ pub behind_none : (row : Row) (w made out : ℕ) (words : List ℕ) → made ≡
 behind_none row w made out words e = rw (e, rows_at_none w out words)
 
 -- what a comparison of rows that were read says of the rows
-module _ (f g : Row) {f' g' : Row} {x : Order} (compared : x ≡ order_of f g) (first : f ≡ f') (second : g ≡ g') where
+module _ (f g : Row) {f' g' : Row} {x : Ordering} (compared : x ≡ order_of f g) (first : f ≡ f') (second : g ≡ g') where
   pub told_less : x ≡ Less → row_before f' g' ≡ true
   told_less e = ap₂ row_before (sym first) (sym second) ∙ sym (told_before f g compared e)
 

@@ -18,28 +18,28 @@ use Rattle.question.specs.Judgement.{count_ok, is_alpha, is_unknown, lowest_ill_
 use Rattle.node_judging.specs.Steps.{no_widths}
 use Rattle.question.specs.Walk.{faults_found, judge_tree, judge_nodes, judged_by_walk}
 use Rattle.judgements.specs.Accepted.{HasColumns, QuestionRight, TableRight, AcceptedExactly}
-use Rattle.question.specs.declared.judgement.Judgement.{Judgement}
-use Rattle.question.specs.declared.judgement.Judgement.TheVariants.{Accepted, Refused}
+use Rattle.std.specs.Prelude.{Ok, Err}
+use Rattle.nodes.specs.declared.node.Form.{Form}
+use Rattle.nodes.specs.declared.node.Form.TheVariants.{Table, Alpha, Target, Binds, Combines, Compares, Connects, IllFormed}
+use Rattle.question.specs.Judgement.{Judgement}
+use Rattle.question.specs.declared.judgement.Refusal.{Refusal}
+use Rattle.question.specs.declared.judgement.Refusal.TheVariants.{WrongCount, BrokenForm, NotATree, UnknownRelation, Unbound, Unfit}
 use Rattle.question.proofs.Counts.{counted}
+use Rattle.question.proofs.Searches.{all_below_lem}
 use Rattle.question.proofs.Judgements.{all_accepted, tree_judged}
-use Rattle.question.proofs.WalkLaws.{is_alpha_form}
 use Rattle.judgements.proofs.SortedTrees.{RangeTree, TreeOf, sort_of, sorted}
 use Rattle.judgements.proofs.TreeSizes.{whole-table, range-nodes}
 use Rattle.judgements.proofs.GoodForm.{Clean, range-good}
 use Rattle.judgements.proofs.CleanForm.{range_clean}
 
--- no refusal is an acceptance
-never : {C : Type 0} {status place : ℕ} → Refused status place ≡ Accepted → C
-never e = let z : ◌≡◌ {A = ℕ} 0 1 = cc in absurd (omega arith)
-
 -- accepted behind a test that refuses
-passed : (b : Bool) (status place : ℕ) (rest : Judgement) → cond b (Refused status place) rest ≡ Accepted → (b ≡ false) × (rest ≡ Accepted)
-passed true status place rest h = never h
-passed false status place rest h = (refl, h)
+passed : (b : Bool) (refusal : Refusal) (rest : Judgement) → cond b (Err refusal) rest ≡ Ok tt → (b ≡ false) × (rest ≡ Ok tt)
+passed true refusal rest h = cc
+passed false refusal rest h = (refl, h)
 
-pub passed_first : (b : Bool) (status place : ℕ) (rest : Judgement) → cond b rest (Refused status place) ≡ Accepted → (b ≡ true) × (rest ≡ Accepted)
-passed_first true status place rest h = (refl, h)
-passed_first false status place rest h = never h
+pub passed_first : (b : Bool) (refusal : Refusal) (rest : Judgement) → cond b rest (Err refusal) ≡ Ok tt → (b ≡ true) × (rest ≡ Ok tt)
+passed_first true refusal rest h = (refl, h)
+passed_first false refusal rest h = cc
 
 -- a search that found nothing
 none_found : (test : ℕ → Bool) (k j : ℕ) → j + k ≤ first_from test k j → (i : ℕ) → j ≤ i → i < j + k → test i ≡ false
@@ -61,15 +61,6 @@ none_found test (suc k) j h i a b = go (true_or_false (test j)) (λ g c. none_fo
 pub none_below : (test : ℕ → Bool) (n : ℕ) → n ≤ lowest test n → (i : ℕ) → i < n → test i ≡ false
 none_below test n h i l = let e : 0 + n ≡ n = omega arith in none_found test n 0 (rw e h) i (omega arith) (omega arith)
 
--- and one whose test holds nowhere finds nothing
-none_holds : (test : ℕ → Bool) (k j : ℕ) → ((i : ℕ) → j ≤ i → i < j + k → test i ≡ false) → j + k ≤ first_from test k j
-unfolding first_from
-none_holds test zero j h = omega arith
-none_holds test (suc k) j h = rw (h j (omega arith) (omega arith)) (let g : suc j + k ≤ first_from test k (suc j) = none_holds test k (suc j) (λ i a b. h i (omega arith) (omega arith)) in omega arith)
-
-pub all_below_lem : (test : ℕ → Bool) (n : ℕ) → ((i : ℕ) → i < n → test i ≡ false) → n ≤ lowest test n
-all_below_lem test n h = let g : 0 + n ≤ lowest test n = none_holds test n 0 (λ i a b. h i (omega arith)) in omega arith
-
 -- what acceptance says of the table
 pub record Passed (catalogue words : List ℕ) : Type 0 where
   pub count : count_ok words ≡ true
@@ -79,16 +70,16 @@ pub record Passed (catalogue words : List ℕ) : Type 0 where
   pub known : node_count words ≤ lowest_unknown catalogue words
   pub clean : Clean (faults_found catalogue words)
 
-pub accepted-passed : (catalogue words : List ℕ) → judged_by_walk catalogue words ≡ Accepted → Passed catalogue words
+pub accepted-passed : (catalogue words : List ℕ) → judged_by_walk catalogue words ≡ Ok tt → Passed catalogue words
 unfolding judged_by_walk judge_nodes judge_tree
 accepted-passed catalogue words h =
-    let a = passed_first (count_ok words) 1 0 (judge_nodes catalogue words) h in
-    let b = passed (ltb (lowest_ill_formed words) (node_count words)) 2 (lowest_ill_formed words) _ a.1 in
-    let c = passed (ltb (lowest_not_once words) (last_node words)) 3 (lowest_not_once words) _ b.1 in
-    let d = passed_first (is_alpha (node_at words (last_node words)).form) 3 (last_node words) (judge_tree catalogue words) c.1 in
-    let e = passed (ltb (lowest_unknown catalogue words) (node_count words)) 4 (lowest_unknown catalogue words) _ d.1 in
-    let f = passed (ltb (faults_found catalogue words).unbound question_node_limit) 5 (faults_found catalogue words).unbound _ e.1 in
-    let g = passed (ltb (faults_found catalogue words).unfit question_node_limit) 6 (faults_found catalogue words).unfit _ f.1 in
+    let a = passed_first (count_ok words) WrongCount (judge_nodes catalogue words) h in
+    let b = passed (ltb (lowest_ill_formed words) (node_count words)) (BrokenForm (lowest_ill_formed words)) _ a.1 in
+    let c = passed (ltb (lowest_not_once words) (last_node words)) (NotATree (lowest_not_once words)) _ b.1 in
+    let d = passed_first (is_alpha (node_at words (last_node words)).form) (NotATree (last_node words)) (judge_tree catalogue words) c.1 in
+    let e = passed (ltb (lowest_unknown catalogue words) (node_count words)) (UnknownRelation (lowest_unknown catalogue words)) _ d.1 in
+    let f = passed (ltb (faults_found catalogue words).unbound question_node_limit) (Unbound (faults_found catalogue words).unbound) _ e.1 in
+    let g = passed (ltb (faults_found catalogue words).unfit question_node_limit) (Unfit (faults_found catalogue words).unfit) _ f.1 in
     record {
       count = a.0;
       formed = ltb-false (lowest_ill_formed words) (node_count words) b.0;
@@ -99,11 +90,11 @@ accepted-passed catalogue words h =
     }
 
 -- and a table of which this holds is accepted
-pub passed-accepted : (catalogue words : List ℕ) → Passed catalogue words → judged_by_walk catalogue words ≡ Accepted
+pub passed-accepted : (catalogue words : List ℕ) → Passed catalogue words → judged_by_walk catalogue words ≡ Ok tt
 unfolding judged_by_walk
 passed-accepted catalogue words p =
     rw p.count
-    (sym (all_accepted catalogue words refl refl refl p.known p.clean.bound p.clean.fit ∙ tree_judged catalogue words refl refl p.formed p.once p.alpha))
+    (sym (all_accepted catalogue words p.known (refl, refl) p.clean.bound p.clean.fit ∙ tree_judged catalogue words p.formed refl p.once p.alpha))
 
 -- what meets the contract of `judge` is one judgement only
 pub one_judgement : (catalogue words : List ℕ) {a b : Judgement} → a ≡ judged_by_walk catalogue words → b ≡ judged_by_walk catalogue words → a ≡ b
@@ -137,6 +128,16 @@ right-passed catalogue words t clean =
       clean = clean;
     }
 
+is_alpha_form : (form : Form) → is_alpha form ≡ true → form ≡ Alpha
+is_alpha_form (Table relation) h = cc
+is_alpha_form Alpha h = refl
+is_alpha_form (Target variable attribute) h = cc
+is_alpha_form (Binds variable binder) h = cc
+is_alpha_form (Combines combination) h = cc
+is_alpha_form (Compares atom) h = cc
+is_alpha_form (Connects connective) h = cc
+is_alpha_form IllFormed h = cc
+
 -- the tree of such a table
 pub right_tree : (catalogue words : List ℕ) → TableRight catalogue words → RangeTree (relations_of catalogue) (tree_of words (node_count words))
 right_tree catalogue words t =
@@ -146,7 +147,7 @@ right_tree catalogue words t =
     let tree : TreeOf (relations_of catalogue) (sort_of (node_at words last).form) (tree_of words (suc last)) = sorted words (relations_of catalogue) (node_count words) c.few t.formed t.known last (omega arith) in
     rw e (rw (is_alpha_form (node_at words last).form t.alpha) at tree)
 
-pub accepted-right : (catalogue words : List ℕ) → HasColumns catalogue → judged_by_walk catalogue words ≡ Accepted → QuestionRight catalogue words
+pub accepted-right : (catalogue words : List ℕ) → HasColumns catalogue → judged_by_walk catalogue words ≡ Ok tt → QuestionRight catalogue words
 accepted-right catalogue words has h =
     let p = accepted-passed catalogue words h in
     let t = passed-right catalogue words p in

@@ -8,7 +8,8 @@ use lib.Dec.{ltb, leb, eqb}
 use borrow.Author.Tests.{ltb-true, le-ltb, ne_eqb, eq-eqb}
 use Rattle.relations.specs.Limits.{column_limit, question_node_limit, variable_count}
 use Rattle.relations.specs.Lists.{All}
-use Rattle.relations.specs.Comparison.{Operator, operator_named}
+use Rattle.relations.specs.Comparison.{Operator}
+use Rattle.terms.specs.Terms.{operator_in}
 use Rattle.relations.specs.Columns.{attribute}
 use Rattle.calculus.specs.Question as calculus
 use Rattle.calculus.specs.Scope as scopes
@@ -16,6 +17,7 @@ use Rattle.calculus.specs.Scope.{entry, extend, columns_in}
 use Rattle.calculus.specs.Form.{NotInScope, Known, GoodAtom, GoodTarget, width_of_range, scope_of_bindings, GoodRange, GoodBindings, GoodMaybe, GoodCondition}
 use Rattle.calculus.specs.Form as form
 use Rattle.question.specs.Trees.{Tree, nothing, branch, operand_of, target_of, atom_of, alpha_of, reading}
+use Rattle.node_judging.specs.declared.scope.Scope.{Scope as Kept}
 use Rattle.node_judging.specs.Steps.{width_kept, columns_kept, no_widths, add_widths, bind, operand_unbound_at, operand_unfit_at, Found, Step, step_of}
 use Rattle.question.specs.Walk.{lowest_of, walk}
 use Rattle.nodes.specs.declared.node.Operand.{Operand}
@@ -37,7 +39,7 @@ none_lower true i a b c h p q r = absurd (true≢false h)
 none_lower false i a b c h p q r = omega arith
 
 -- no fault at a node, and none below it
-clean_at : (columns : ℕ → ℕ) (i : ℕ) (form : Form) (x y z : Tree) (scope : List ℕ)
+clean_at : (columns : ℕ → ℕ) (i : ℕ) (form : Form) (x y z : Tree) (scope : Kept)
     → (step_of scope form).unbound ≡ false
     → (step_of scope form).unfit (found_beside columns form scope y x).width (found_at_b columns form scope y).width ≡ false
     → Clean (found_beside columns form scope y x) → Clean (found_at_b columns form scope y) → Clean (found_beside columns form scope y z)
@@ -53,7 +55,7 @@ clean_at columns i form x y z scope bound fit p q r =
       fit = none_lower (step.unfit a.width b.width) i a.unfit b.unfit c.unfit fit p.fit q.fit r.fit;
     }
 
-clean_none : (columns : ℕ → ℕ) (scope : List ℕ) → Clean (walk columns nothing scope)
+clean_none : (columns : ℕ → ℕ) (scope : Kept) → Clean (walk columns nothing scope)
 unfolding walk
 clean_none columns scope = record { bound = omega arith; fit = omega arith }
 
@@ -66,7 +68,7 @@ both_clear : (a b : Bool) → a ≡ false → b ≡ false → (a || b) ≡ false
 both_clear true b h k = h
 both_clear false b h k = k
 
-module _ {scope : List ℕ} {s : scopes.Scope} (shows : Shows scope s) where
+module _ {scope : Kept} {s : scopes.Scope} (shows : Shows scope s) where
   not_bound : (v : ℕ) → v < variable_count → NotInScope v s → ltb 0 (width_kept scope v) ≡ false
   not_bound v small new = le-ltb 0 (width_kept scope v) (omega (arith, shows.shown v small, absent v s new))
 
@@ -95,7 +97,7 @@ module _ {scope : List ℕ} {s : scopes.Scope} (shows : Shows scope s) where
   clean_atom : (atom : Atom) → atom_fits atom ≡ true → GoodAtom s (atom_of atom) → AtomClean atom
   clean_atom atom fits good =
       let small : atom.variable < variable_count = (variables_fit (Compares atom) fits).0 in
-      let o = clean_operand atom.variable atom.attribute.0 (operator_named atom.operator) atom.operand (atom_sides atom fits).1 good in
+      let o = clean_operand atom.variable atom.attribute.0 (operator_in atom.operator) atom.operand (atom_sides atom fits).1 good in
       record {
         atom-bound = both_clear (eqb (width_kept scope atom.variable) 0) (operand_unbound_at scope atom.operand) (in_scope_lem atom.variable small (omega (arith, o.known.0, o.known.1))) o.operand-bound;
         atom-fit = both_clear (ltb (width_kept scope atom.variable) atom.attribute.0) (operand_unfit_at scope atom.operand) (has_attribute atom.variable atom.attribute.0 small o.known.1) o.operand_fit;
@@ -133,12 +135,12 @@ module _ (columns : ℕ → ℕ) (relations : ℕ) where
     same_widths {v = v} {w = w} r t h = rw (eq-eqb v w (sym r.wide ∙ h ∙ t.wide))
 
     -- a binder, whose range is clean
-    record BinderClean (v : ℕ) (y : Tree) (scope : List ℕ) (s : scopes.Scope) : Type 0 where
+    record BinderClean (v : ℕ) (y : Tree) (scope : Kept) (s : scopes.Scope) : Type 0 where
       binder_bound : ltb 0 (width_kept scope v) ≡ false
       binder_fit : ltb column_limit (add_widths (columns_kept scope) (walk columns y scope).width) ≡ false
       next-shown : Shows (bind scope v (walk columns y scope).width) (extend s v (width_of_range columns (reading y).range))
 
-    binder_clean : {v : ℕ} {y : Tree} {scope : List ℕ} {s : scopes.Scope} → v < variable_count → RangeTree relations y → Shows scope s → Clean (walk columns y scope) → NotInScope v s
+    binder_clean : {v : ℕ} {y : Tree} {scope : Kept} {s : scopes.Scope} → v < variable_count → RangeTree relations y → Shows scope s → Clean (walk columns y scope) → NotInScope v s
         → columns_in s + width_of_range columns (reading y).range ≤ column_limit → BinderClean v y scope s
     binder_clean {v} {y} {scope} inside r shows clean new few =
         let R = range-good columns relations has-columns r scope clean in
@@ -149,10 +151,10 @@ module _ (columns : ℕ → ℕ) (relations : ℕ) where
     mutual
       unfolding GoodRange width_of_range reading walk
 
-      pub range_clean : {tree : Tree} → RangeTree relations tree → (scope : List ℕ) → GoodRange columns relations (reading tree).range → Clean (walk columns tree scope)
+      pub range_clean : {tree : Tree} → RangeTree relations tree → (scope : Kept) → GoodRange columns relations (reading tree).range → Clean (walk columns tree scope)
       range_clean (table_tree {i = i} {relation = relation} h) scope good = clean_at columns i (Table relation) nothing nothing nothing scope refl refl (clean_none columns scope) (clean_none columns scope) (clean_none columns scope)
       range_clean (alpha_tree {i = i} {x = x} {y = y} {z = z} small ts bs f) scope good =
-          let bound : List ℕ = (walk columns y no_widths).scope in
+          let bound : Kept = (walk columns y no_widths).scope in
           let P = alpha_parts bs (reading x).targets (reading z).restriction good in
           let s : scopes.Scope = scope_of_bindings columns (reading y).bindings [] in
           let cy = binding_clean bs no_widths [] shows_empty P.good-bindings in
@@ -167,27 +169,27 @@ module _ (columns : ℕ → ℕ) (relations : ℕ) where
           let cy = range_clean t scope G.1 in
           clean_at columns i (Combines k) x y nothing scope refl (same_widths (range-good columns relations has-columns r scope cx) (range-good columns relations has-columns t scope cy) G.2) cx cy (clean_none columns scope)
 
-      target_clean : {tree : Tree} → TargetTree relations tree → (scope : List ℕ) (s : scopes.Scope) → Shows scope s → All (GoodTarget s) (reading tree).targets → Clean (walk columns tree scope)
+      target_clean : {tree : Tree} → TargetTree relations tree → (scope : Kept) (s : scopes.Scope) → Shows scope s → All (GoodTarget s) (reading tree).targets → Clean (walk columns tree scope)
       target_clean (target_tree {i = i} {v = v} {a = a} {z = z} small inside limit ts) scope s shows good =
           let t = clean_target shows v a.0 inside good.0 in
           clean_at columns i (Target v a) nothing nothing z scope t.target_bound t.target_fit (clean_none columns scope) (clean_none columns scope) (targets_clean ts scope s shows good.1)
 
-      targets_clean : {tree : Tree} → TargetsIfAny relations tree → (scope : List ℕ) (s : scopes.Scope) → Shows scope s → All (GoodTarget s) (reading tree).targets → Clean (walk columns tree scope)
+      targets_clean : {tree : Tree} → TargetsIfAny relations tree → (scope : Kept) (s : scopes.Scope) → Shows scope s → All (GoodTarget s) (reading tree).targets → Clean (walk columns tree scope)
       targets_clean no_target scope s shows good = clean_none columns scope
       targets_clean (more_targets ts) scope s shows good = target_clean ts scope s shows good
 
-      binding_clean : {tree : Tree} → BindingTree relations tree → (scope : List ℕ) (s : scopes.Scope) → Shows scope s → GoodBindings columns relations (reading tree).bindings s → Clean (walk columns tree scope)
+      binding_clean : {tree : Tree} → BindingTree relations tree → (scope : Kept) (s : scopes.Scope) → Shows scope s → GoodBindings columns relations (reading tree).bindings s → Clean (walk columns tree scope)
       binding_clean (binding_tree {i = i} {v = v} {y = y} {z = z} small inside r bs) scope s shows good =
           let cy = range_clean r scope good.1 in
           let B = binder_clean inside r shows cy good.0 good.3 in
           clean_at columns i (Binds v Binding) nothing y z scope B.binder_bound B.binder_fit (clean_none columns (bind scope v (walk columns y scope).width)) cy
           (bindings_clean bs (bind scope v (walk columns y scope).width) (extend s v (width_of_range columns (reading y).range)) B.next-shown good.2)
 
-      bindings_clean : {tree : Tree} → BindingsIfAny relations tree → (scope : List ℕ) (s : scopes.Scope) → Shows scope s → GoodBindings columns relations (reading tree).bindings s → Clean (walk columns tree scope)
+      bindings_clean : {tree : Tree} → BindingsIfAny relations tree → (scope : Kept) (s : scopes.Scope) → Shows scope s → GoodBindings columns relations (reading tree).bindings s → Clean (walk columns tree scope)
       bindings_clean no_binding scope s shows good = clean_none columns scope
       bindings_clean (more_bindings b) scope s shows good = binding_clean b scope s shows good
 
-      condition_clean : {tree : Tree} → ConditionTree relations tree → (scope : List ℕ) (s : scopes.Scope) → Shows scope s → GoodCondition columns relations (reading tree).condition s → Clean (walk columns tree scope)
+      condition_clean : {tree : Tree} → ConditionTree relations tree → (scope : Kept) (s : scopes.Scope) → Shows scope s → GoodCondition columns relations (reading tree).condition s → Clean (walk columns tree scope)
       condition_clean (atom_tree {i = i} {atom = atom} small fit) scope s shows good =
           let t = clean_atom shows atom fit good in
           clean_at columns i (Compares atom) nothing nothing nothing scope t.atom-bound t.atom-fit (clean_none columns scope) (clean_none columns scope) (clean_none columns scope)
@@ -204,6 +206,6 @@ module _ (columns : ℕ → ℕ) (relations : ℕ) where
           clean_at columns i (Binds v (Quantifies q)) nothing y z scope B.binder_bound B.binder_fit (clean_none columns (bind scope v (walk columns y scope).width)) cy
           (condition_clean f (bind scope v (walk columns y scope).width) next B.next-shown G.2)
 
-      maybe_clean : {tree : Tree} → ConditionIfAny relations tree → (scope : List ℕ) (s : scopes.Scope) → Shows scope s → GoodMaybe columns relations (reading tree).restriction s → Clean (walk columns tree scope)
+      maybe_clean : {tree : Tree} → ConditionIfAny relations tree → (scope : Kept) (s : scopes.Scope) → Shows scope s → GoodMaybe columns relations (reading tree).restriction s → Clean (walk columns tree scope)
       maybe_clean without_condition scope s shows good = clean_none columns scope
       maybe_clean (with_condition f) scope s shows good = condition_clean f scope s shows (rw (restriction_is f) at good)

@@ -9,7 +9,8 @@ use lib.ListN.{length}
 use borrow.Author.Tests.{ltb-true, ltb-false, leb-true, eqb-true, eqb-false, ne_eqb, not-false}
 use Rattle.relations.specs.Limits.{column_limit, question_node_limit, variable_count}
 use Rattle.relations.specs.Lists.{All}
-use Rattle.relations.specs.Comparison.{Operator, operator_named}
+use Rattle.relations.specs.Comparison.{Operator}
+use Rattle.terms.specs.Terms.{operator_in}
 use Rattle.relations.specs.Columns.{attribute}
 use Rattle.calculus.specs.Question as calculus
 use Rattle.calculus.specs.Scope as scopes
@@ -19,6 +20,7 @@ use Rattle.calculus.specs.Form as form
 use Rattle.calculus.proofs.ScopeLaws.{targets-width}
 use Rattle.calculus.proofs.LegalColumns.{targets_columns}
 use Rattle.question.specs.Trees.{Tree, nothing, branch, operand_of, target_of, atom_of, alpha_of, reading}
+use Rattle.node_judging.specs.declared.scope.Scope.{Scope as Kept}
 use Rattle.node_judging.specs.Steps.{width_kept, columns_kept, no_widths, add_widths, bind, operand_unfit_at, target_width_kept, Found, Step, step_of}
 use Rattle.question.specs.Walk.{lowest_of, walk}
 use Rattle.nodes.specs.declared.node.Operand.{Operand}
@@ -50,7 +52,7 @@ no_fault true i a b c h k = absurd (omega arith)
 no_fault false i a b c h k = record { clear = refl; none_a = omega arith; none_b = omega arith; none_c = omega arith }
 
 -- what the walk finds at a node's b, and at its a or c, which see what b gave
-module _ (columns : ℕ → ℕ) (form : Form) (scope : List ℕ) where
+module _ (columns : ℕ → ℕ) (form : Form) (scope : Kept) where
   abbrev pub found_at_b : (b : Tree) → Found
   found_at_b b = walk columns b (step_of scope form).opening
 
@@ -65,7 +67,7 @@ record CleanNode (step : Step) (a b c : Found) : Type 0 where
   clean_b : Clean b
   clean_c : Clean c
 
-clean_branch : (columns : ℕ → ℕ) {i : ℕ} (form : Form) (x y z : Tree) (scope : List ℕ) → i < question_node_limit → Clean (walk columns (branch i form x y z) scope)
+clean_branch : (columns : ℕ → ℕ) {i : ℕ} (form : Form) (x y z : Tree) (scope : Kept) → i < question_node_limit → Clean (walk columns (branch i form x y z) scope)
     → CleanNode (step_of scope form) (found_beside columns form scope y x) (found_at_b columns form scope y) (found_beside columns form scope y z)
 unfolding walk
 clean_branch columns {i} form x y z scope small clean =
@@ -88,7 +90,7 @@ or_clear true b h = absurd (true≢false h)
 or_clear false b h = (refl, h)
 
 -- a variable that is in scope, with the attribute that is asked for
-module _ {scope : List ℕ} {s : scopes.Scope} (shows : Shows scope s) where
+module _ {scope : Kept} {s : scopes.Scope} (shows : Shows scope s) where
   in_scope_lem : (v : ℕ) → v < variable_count → eqb (width_kept scope v) 0 ≡ false → 1 ≤ scopes.width_in s v
   in_scope_lem v small h = let n : width_kept scope v ≡ 0 → ⊥ = eqb-false (width_kept scope v) 0 h in omega (arith, shows.shown v small)
 
@@ -113,7 +115,7 @@ module _ {scope : List ℕ} {s : scopes.Scope} (shows : Shows scope s) where
       let b : Bool = leb atom.attribute.0 column_limit in
       let sides = atom_sides atom fit in
       let split = or_clear (ltb (width_kept scope atom.variable) atom.attribute.0) (operand_unfit_at scope atom.operand) unfit in
-      good-operand atom.variable atom.attribute.0 (operator_named atom.operator) atom.operand
+      good-operand atom.variable atom.attribute.0 (operator_in atom.operator) atom.operand
       (leb-true 1 atom.attribute.0 (second_of v a b sides.0), has_attribute atom.variable atom.attribute.0 (ltb-true atom.variable variable_count (first_of v a b sides.0)) split.0)
       sides.1 split.1
 
@@ -163,7 +165,7 @@ module _ (columns : ℕ → ℕ) (relations : ℕ) where
     pub wide : width_of_range columns range ≡ width
     pub some : 1 ≤ width
 
-  pub record BindingsGood (bindings : calculus.Bindings) (s : scopes.Scope) (after : List ℕ) : Type 0 where
+  pub record BindingsGood (bindings : calculus.Bindings) (s : scopes.Scope) (after : Kept) : Type 0 where
     pub good : GoodBindings columns relations bindings s
     pub shows_after : Shows after (scope_of_bindings columns bindings s)
 
@@ -172,12 +174,12 @@ module _ (columns : ℕ → ℕ) (relations : ℕ) where
     pub wide : width ≡ min (suc column_limit) (form.targets_width s targets)
 
   -- a binder: the variable is new, its columns fit, and what follows is shown
-  pub record BinderGood (v : ℕ) (range : calculus.Range) (scope : List ℕ) (s : scopes.Scope) (width : ℕ) : Type 0 where
+  pub record BinderGood (v : ℕ) (range : calculus.Range) (scope : Kept) (s : scopes.Scope) (width : ℕ) : Type 0 where
     pub is_new : NotInScope v s
     pub fits : columns_in s + width_of_range columns range ≤ column_limit
     pub shows_next : Shows (bind scope v width) (extend s v (width_of_range columns range))
 
-  pub binder : {scope : List ℕ} {s : scopes.Scope} {range : calculus.Range} {width : ℕ} (v : ℕ) → v < variable_count → Shows scope s → RangeGood range width
+  pub binder : {scope : Kept} {s : scopes.Scope} {range : calculus.Range} {width : ℕ} (v : ℕ) → v < variable_count → Shows scope s → RangeGood range width
       → ltb 0 (width_kept scope v) ≡ false → ltb column_limit (add_widths (columns_kept scope) width) ≡ false → BinderGood v range scope s width
   binder {scope} {s} {range} {width} v small shows r new fit =
       let narrow : add_widths (columns_kept scope) width ≤ column_limit = ltb-false column_limit (add_widths (columns_kept scope) width) fit in
@@ -195,10 +197,10 @@ module _ (columns : ℕ → ℕ) (relations : ℕ) where
     mutual
       unfolding GoodRange width_of_range reading walk
 
-      pub range-good : {tree : Tree} → RangeTree relations tree → (scope : List ℕ) → Clean (walk columns tree scope) → RangeGood (reading tree).range (walk columns tree scope).width
+      pub range-good : {tree : Tree} → RangeTree relations tree → (scope : Kept) → Clean (walk columns tree scope) → RangeGood (reading tree).range (walk columns tree scope).width
       range-good (table_tree {relation = relation} h) scope clean = record { good = h; wide = refl; some = has-columns relation h }
       range-good (alpha_tree {x = x} {y = y} {z = z} small ts bs f) scope clean =
-          let bound : List ℕ = (walk columns y no_widths).scope in
+          let bound : Kept = (walk columns y no_widths).scope in
           let s : scopes.Scope = scope_of_bindings columns (reading y).bindings [] in
           let n = clean_branch columns Alpha x y z scope small clean in
           let B = binding_good bs no_widths [] shows_empty n.clean_b in
@@ -213,7 +215,7 @@ module _ (columns : ℕ → ℕ) (relations : ℕ) where
           let S = range-good t scope n.clean_b in
           record { good = rw (combined-good columns relations k (reading x).range (reading y).range) (R.good, S.good, same_widths R S n.fit_here); wide = combined-width columns k (reading x).range (reading y).range ∙ R.wide; some = R.some }
 
-      pub target_good : {tree : Tree} → TargetTree relations tree → (scope : List ℕ) (s : scopes.Scope) → Shows scope s → Clean (walk columns tree scope) → TargetsGood (reading tree).targets s (walk columns tree scope).width
+      pub target_good : {tree : Tree} → TargetTree relations tree → (scope : Kept) (s : scopes.Scope) → Shows scope s → Clean (walk columns tree scope) → TargetsGood (reading tree).targets s (walk columns tree scope).width
       target_good (target_tree {v = v} {a = a} {z = z} small inside limit ts) scope s shows clean =
           let n = clean_branch columns (Target v a) nothing nothing z scope small clean in
           let T = targets-good ts scope s shows n.clean_c in
@@ -222,11 +224,11 @@ module _ (columns : ℕ → ℕ) (relations : ℕ) where
             wide = counts (target_width_kept scope v a.0) (walk columns z scope).width (form.target_width s (target_of v a.0)) (form.targets_width s (reading z).targets) (target_columns_lem shows v a.0 inside) T.wide;
           }
 
-      targets-good : {tree : Tree} → TargetsIfAny relations tree → (scope : List ℕ) (s : scopes.Scope) → Shows scope s → Clean (walk columns tree scope) → TargetsGood (reading tree).targets s (walk columns tree scope).width
+      targets-good : {tree : Tree} → TargetsIfAny relations tree → (scope : Kept) (s : scopes.Scope) → Shows scope s → Clean (walk columns tree scope) → TargetsGood (reading tree).targets s (walk columns tree scope).width
       targets-good no_target scope s shows clean = record { good = tt; wide = refl }
       targets-good (more_targets ts) scope s shows clean = target_good ts scope s shows clean
 
-      pub binding_good : {tree : Tree} → BindingTree relations tree → (scope : List ℕ) (s : scopes.Scope) → Shows scope s → Clean (walk columns tree scope) → BindingsGood (reading tree).bindings s (walk columns tree scope).scope
+      pub binding_good : {tree : Tree} → BindingTree relations tree → (scope : Kept) (s : scopes.Scope) → Shows scope s → Clean (walk columns tree scope) → BindingsGood (reading tree).bindings s (walk columns tree scope).scope
       binding_good (binding_tree {v = v} {y = y} {z = z} small inside r bs) scope s shows clean =
           let n = clean_branch columns (Binds v Binding) nothing y z scope small clean in
           let R = range-good r scope n.clean_b in
@@ -234,11 +236,11 @@ module _ (columns : ℕ → ℕ) (relations : ℕ) where
           let B = bindings-good bs (bind scope v (walk columns y scope).width) (extend s v (width_of_range columns (reading y).range)) K.shows_next n.clean_c in
           record { good = (K.is_new, R.good, B.good, K.fits); shows_after = B.shows_after }
 
-      bindings-good : {tree : Tree} → BindingsIfAny relations tree → (scope : List ℕ) (s : scopes.Scope) → Shows scope s → Clean (walk columns tree scope) → BindingsGood (reading tree).bindings s (walk columns tree scope).scope
+      bindings-good : {tree : Tree} → BindingsIfAny relations tree → (scope : Kept) (s : scopes.Scope) → Shows scope s → Clean (walk columns tree scope) → BindingsGood (reading tree).bindings s (walk columns tree scope).scope
       bindings-good no_binding scope s shows clean = record { good = tt; shows_after = shows }
       bindings-good (more_bindings b) scope s shows clean = binding_good b scope s shows clean
 
-      condition-good : {tree : Tree} → ConditionTree relations tree → (scope : List ℕ) (s : scopes.Scope) → Shows scope s → Clean (walk columns tree scope) → GoodCondition columns relations (reading tree).condition s
+      condition-good : {tree : Tree} → ConditionTree relations tree → (scope : Kept) (s : scopes.Scope) → Shows scope s → Clean (walk columns tree scope) → GoodCondition columns relations (reading tree).condition s
       condition-good (atom_tree {atom = atom} small fit) scope s shows clean =
           let n = clean_branch columns (Compares atom) nothing nothing nothing scope small clean in
           good-atom shows atom fit n.fit_here
@@ -255,6 +257,6 @@ module _ (columns : ℕ → ℕ) (relations : ℕ) where
           let next = condition-good f (bind scope v (walk columns y scope).width) (extend s v (width_of_range columns (reading y).range)) K.shows_next n.clean_c in
           quantified-good columns relations q v (reading y).range (reading z).condition s fits (omega (arith, R.some, R.wide)) (K.is_new, R.good, next, K.fits)
 
-      maybe_good : {tree : Tree} → ConditionIfAny relations tree → (scope : List ℕ) (s : scopes.Scope) → Shows scope s → Clean (walk columns tree scope) → GoodMaybe columns relations (reading tree).restriction s
+      maybe_good : {tree : Tree} → ConditionIfAny relations tree → (scope : Kept) (s : scopes.Scope) → Shows scope s → Clean (walk columns tree scope) → GoodMaybe columns relations (reading tree).restriction s
       maybe_good without_condition scope s shows clean = tt
       maybe_good (with_condition f) scope s shows clean = rw (restriction_is f) (condition-good f scope s shows clean)

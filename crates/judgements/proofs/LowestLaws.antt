@@ -8,6 +8,7 @@ use lib.Dec.{ltb, eqb}
 use borrow.Author.Tests.{eqb-true, eqb-false, ltb-true, ltb-false, lt-ltb}
 use Rattle.relations.specs.Limits.{question_node_limit}
 use Rattle.relations.proofs.BoolLaws.{true_or_false}
+use Rattle.std.proofs.Math.Bool.{and-false}
 use Rattle.nodes.specs.References.{first_from, lowest}
 use Rattle.question.specs.Walk.{lowest_of}
 
@@ -62,13 +63,9 @@ from_one i (suc k) j a b = go (true_or_false (eqb i j)) (λ c. from_one i k (suc
         apart : (i ≡ j → ⊥) → suc j ≤ i
         apart d = omega arith
 
-and_false : (b : Bool) → (b && false) ≡ false
-and_false true = refl
-and_false false = refl
-
 own : (fault : Bool) (i n : ℕ) → (fault ≡ true → i < n) → lowest (λ j. eqb i j && fault) n ≡ cond fault i n
 own true i n h = from_one i n 0 (omega arith) (let l : i < n = h refl in omega arith)
-own false i n h = from_same (λ j. eqb i j && false) (λ j. false) (λ j. and_false (eqb i j)) n 0 ∙ lowest_none n
+own false i n h = from_same (λ j. eqb i j && false) (λ j. false) (λ j. and-false (eqb i j)) n 0 ∙ lowest_none n
 
 -- a node's own fault, and those of its three parts
 lowest_step : (fault : Bool) (i : ℕ) (f g h : ℕ → Bool) → (fault ≡ true → i < question_node_limit)

@@ -83,9 +83,7 @@ module _ (relations : ℕ) where
 pub atom_sides : (atom : Atom) → atom_fits atom ≡ true → (operand_fits (Of atom.variable atom.attribute) ≡ true) × (operand_fits atom.operand ≡ true)
 atom_sides atom fits =
     let left : Bool = operand_fits (Of atom.variable atom.attribute) in
-    let p : Bool = leb 1 atom.operator in
-    let q : Bool = leb atom.operator operator_count in
-    (first_of left p q (and_left (left && p && q) (operand_fits atom.operand) fits), and_right (left && p && q) (operand_fits atom.operand) fits)
+    (and_left left (operand_fits atom.operand) fits, and_right left (operand_fits atom.operand) fits)
 
 -- the sort of a form; an ill-formed one is of none
 abbrev pub sort_of : Form → Sort

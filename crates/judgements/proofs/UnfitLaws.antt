@@ -21,6 +21,7 @@ use Rattle.calculus.specs.Form as form
 use Rattle.calculus.proofs.ScopeLaws.{columns_extend}
 use Rattle.nodes.specs.References.{lowest}
 use Rattle.question.specs.Trees.{Tree, nothing, branch, target_of, alpha_of, combined, reading}
+use Rattle.node_judging.specs.declared.scope.Scope.{Scope as Kept}
 use Rattle.node_judging.specs.Steps.{width_kept, columns_kept, no_widths, add_widths, bound_width, bind, operand_unfit_at, target_width_kept, Found, Step, step_of}
 use Rattle.question.specs.Walk.{lowest_of, walk}
 use Rattle.judgements.specs.Faults.{bound_sees, others_see, operand_unfit, width_of, bound_by, fault_at, unfit}
@@ -34,7 +35,7 @@ use Rattle.nodes.specs.declared.node.Form.TheVariants.{Table, Alpha, Target, Bin
 use Rattle.nodes.proofs.Forms.{operand_fits, atom_fits, first_of, third_of}
 use Rattle.judgements.proofs.SortedTrees.{RangeTree, table_tree, alpha_tree, combined_tree, TargetTree, target_tree, TargetsIfAny, no_target, more_targets, BindingTree, binding_tree, BindingsIfAny, no_binding, more_bindings, ConditionTree, atom_tree, joined_tree, not_tree, quantifier_tree, ConditionIfAny, without_condition, with_condition, atom_sides}
 use Rattle.judgements.proofs.KindsAlike.{combined-width}
-use Rattle.judgements.proofs.ScopesShown.{HasWidth, fresh, width-extend, bind-length, kept-bound, kept_other, columns_bound}
+use Rattle.judgements.proofs.ScopesShown.{HasWidth, fresh, width-extend, bind-length, kept-bound, kept_other}
 use Rattle.judgements.proofs.GoodForm.{no_fault, found_at_b, found_beside}
 use Rattle.judgements.proofs.LowestLaws.{lowest_none, node_lowest, same_ltb}
 use Rattle.judgements.proofs.Ordered.{Ordered}
@@ -44,17 +45,17 @@ abbrev Alike : ℕ → ℕ → Type 0
 Alike a b = min (suc column_limit) a ≡ min (suc column_limit) b
 
 -- the walk's scope has the widths of the scope, as far as they are counted
-record Wide (scope : List ℕ) (s : scopes.Scope) : Type 0 where
+record Wide (scope : Kept) (s : scopes.Scope) : Type 0 where
   shown : (v : ℕ) → v < variable_count → Alike (width_kept scope v) (scopes.width_in s v)
-  room : length scope ≡ suc variable_count
+  room : length scope.widths ≡ variable_count
   all_columns_lem : Alike (columns_kept scope) (columns_in s)
   have_widths : All HasWidth s
 
 wide_empty : Wide no_widths []
 wide_empty =
     record {
-      shown = λ v h. ap (λ (n : ℕ). min (suc column_limit) n) (let z : width_kept no_widths v ≡ 0 = get_or-replicate (suc variable_count) v 0 0 (omega arith) in z);
-      room = length-replicate {A = ℕ} (suc variable_count) 0;
+      shown = λ v h. ap (λ (n : ℕ). min (suc column_limit) n) (let z : width_kept no_widths v ≡ 0 = get_or-replicate variable_count v 0 0 (omega arith) in z);
+      room = length-replicate {A = ℕ} variable_count 0;
       all_columns_lem = refl;
       have_widths = tt;
     }
@@ -63,7 +64,7 @@ same_over : (a b : ℕ) → Alike a b → ltb column_limit a ≡ ltb column_limi
 same_over a b e = same_ltb column_limit a column_limit b (λ h. omega (arith, h, e)) (λ h. omega (arith, h, e))
 
 -- a binder's variable was new: no fault by 5
-new_variable : {scope : List ℕ} {s : scopes.Scope} → Wide scope s → (v : ℕ) → v < variable_count → ltb 0 (width_kept scope v) ≡ false → NotInScope v s
+new_variable : {scope : Kept} {s : scopes.Scope} → Wide scope s → (v : ℕ) → v < variable_count → ltb 0 (width_kept scope v) ≡ false → NotInScope v s
 new_variable {scope} {s} wide v small h = fresh v s wide.have_widths (omega (arith, wide.shown v small, ltb-false 0 (width_kept scope v) h))
 
 counted : (a w : ℕ) → Alike (add_widths a w) (a + w)
@@ -85,12 +86,12 @@ bound_alike w k some alike = omega arith
 some_alike : (w k : ℕ) → 1 ≤ w → Alike w k → 1 ≤ k
 some_alike w k some alike = omega arith
 
-wide-bind : {scope : List ℕ} {s : scopes.Scope} (v w k : ℕ) → Wide scope s → v < variable_count → NotInScope v s → 1 ≤ w → Alike w k → Wide (bind scope v w) (extend s v k)
+wide-bind : {scope : Kept} {s : scopes.Scope} (v w k : ℕ) → Wide scope s → v < variable_count → NotInScope v s → 1 ≤ w → Alike w k → Wide (bind scope v w) (extend s v k)
 wide-bind {scope} {s} v w k wide small new some alike =
     record {
       shown = λ u h. go u h (true_or_false (eqb u v));
       room = bind-length scope v w ∙ wide.room;
-      all_columns_lem = rw (columns_extend s v k, columns_bound scope v w wide.room) (add_alike (columns_kept scope) (columns_in s) w k wide.all_columns_lem alike);
+      all_columns_lem = rw (columns_extend s v k) (add_alike (columns_kept scope) (columns_in s) w k wide.all_columns_lem alike);
       have_widths = all_append HasWidth s (entry v k ∷ []) wide.have_widths (some_alike w k some alike, tt);
     }
   where
@@ -100,11 +101,11 @@ wide-bind {scope} {s} v w k wide small new some alike =
         let b : scopes.width_in (extend s v k) u ≡ k = width-extend s v k u new ∙ rw e in
         rw (a, b) (bound_alike w k some alike)
     go u h (inr e) =
-        let a : width_kept (bind scope v w) u ≡ width_kept scope u = kept_other scope v w u h (eqb-false u v e) in
+        let a : width_kept (bind scope v w) u ≡ width_kept scope u = kept_other scope v w u (eqb-false u v e) in
         let b : scopes.width_in (extend s v k) u ≡ scopes.width_in s u = width-extend s v k u new ∙ rw e in
         rw (a, b) (wide.shown u h)
 
-module _ {scope : List ℕ} {s : scopes.Scope} (wide : Wide scope s) where
+module _ {scope : Kept} {s : scopes.Scope} (wide : Wide scope s) where
   attribute_same : (v a : ℕ) → v < variable_count → a ≤ column_limit → ltb (width_kept scope v) a ≡ ltb (scopes.width_in s v) a
   attribute_same v a small few = same_ltb (width_kept scope v) a (scopes.width_in s v) a (λ h. omega (arith, h, wide.shown v small)) (λ h. omega (arith, h, wide.shown v small))
 
@@ -129,7 +130,7 @@ module _ {scope : List ℕ} {s : scopes.Scope} (wide : Wide scope s) where
   columns_same w k alike = same_over (add_widths (columns_kept scope) w) (columns_in s + k) (add_alike (columns_kept scope) (columns_in s) w k wide.all_columns_lem alike)
 
 -- a target takes some column
-taken_some : (scope : List ℕ) (v a : ℕ) → eqb (width_kept scope v) 0 ≡ false → 1 ≤ target_width_kept scope v a
+taken_some : (scope : Kept) (v a : ℕ) → eqb (width_kept scope v) 0 ≡ false → 1 ≤ target_width_kept scope v a
 taken_some scope v zero bound = let n : width_kept scope v ≡ 0 → ⊥ = eqb-false (width_kept scope v) 0 bound in omega arith
 taken_some scope v (suc n) bound = rw (ne_eqb (suc n) 0 (λ e. omega arith)) (omega arith)
 
@@ -173,19 +174,19 @@ module _ (columns : ℕ → ℕ) (relations : ℕ) where
     bound_b : Bound b
     bound_c : Bound c
 
-  bound_node : (i : ℕ) (form : Form) (x y z : Tree) (scope : List ℕ) → i < question_node_limit → Bound (walk columns (branch i form x y z) scope)
+  bound_node : (i : ℕ) (form : Form) (x y z : Tree) (scope : Kept) → i < question_node_limit → Bound (walk columns (branch i form x y z) scope)
       → BoundNode (step_of scope form) (found_beside columns form scope y x) (found_at_b columns form scope y) (found_beside columns form scope y z)
   unfolding walk
   bound_node i form x y z scope small bound =
       let n = no_fault (step_of scope form).unbound i (found_beside columns form scope y x).unbound (found_at_b columns form scope y).unbound (found_beside columns form scope y z).unbound small bound in
       record { here = n.clear; bound_a = n.none_a; bound_b = n.none_b; bound_c = n.none_c }
 
-  none_in : (scope : List ℕ) (s : scopes.Scope) → (walk columns nothing scope).unfit ≡ lowest_in nothing s
+  none_in : (scope : Kept) (s : scopes.Scope) → (walk columns nothing scope).unfit ≡ lowest_in nothing s
   unfolding walk fault_at
   none_in scope s = sym (lowest_none question_node_limit)
 
   -- a node, from its own fault and its parts
-  node_in_lem : (i : ℕ) (form : Form) (x y z : Tree) (scope : List ℕ) (s : scopes.Scope) → (unfit columns form x y s ≡ true → i < question_node_limit)
+  node_in_lem : (i : ℕ) (form : Form) (x y z : Tree) (scope : Kept) (s : scopes.Scope) → (unfit columns form x y s ≡ true → i < question_node_limit)
       → ((step_of scope form).unfit (found_beside columns form scope y x).width (found_at_b columns form scope y).width ≡ unfit columns form x y s)
       ⊎ ((i < question_node_limit) × (((found_beside columns form scope y x).unfit < i) ⊎ ((found_at_b columns form scope y).unfit < i)))
       → (found_beside columns form scope y x).unfit ≡ lowest_in x (others_see columns form y s)
@@ -250,7 +251,7 @@ module _ (columns : ℕ → ℕ) (relations : ℕ) where
     mutual
       unfolding width_of_range reading walk
 
-      pub range_in : {tree : Tree} → RangeTree relations tree → (bound : ℕ) → Ordered bound tree → (scope : List ℕ) (s : scopes.Scope) → Bound (walk columns tree scope) → RangeIn bound tree (walk columns tree scope) s
+      pub range_in : {tree : Tree} → RangeTree relations tree → (bound : ℕ) → Ordered bound tree → (scope : Kept) (s : scopes.Scope) → Bound (walk columns tree scope) → RangeIn bound tree (walk columns tree scope) s
       range_in (table_tree {i = i} {relation = relation} h) bound o scope s free =
           record { unfit_is = node_in_lem i (Table relation) nothing nothing nothing scope s (λ e. absurd (false≢true e)) (inl refl) (none_in scope s) (none_in scope s) (none_in scope s); alike = refl; some = has-columns relation h; exact = inl refl }
       range_in (alpha_tree {i = i} {x = x} {y = y} {z = z} small ts bs f) bound o scope s free =
@@ -284,12 +285,12 @@ module _ (columns : ℕ → ℕ) (relations : ℕ) where
             exact = rw w (side_exact fault (walk columns y scope).unfit (walk columns nothing scope).unfit o.0 R.exact);
           }
 
-      target_wide : {tree : Tree} → TargetTree relations tree → (scope : List ℕ) → Bound (walk columns tree scope) → 1 ≤ (walk columns tree scope).width
+      target_wide : {tree : Tree} → TargetTree relations tree → (scope : Kept) → Bound (walk columns tree scope) → 1 ≤ (walk columns tree scope).width
       target_wide (target_tree {i = i} {v = v} {a = a} {z = z} small inside limit ts) scope free =
           let n = bound_node i (Target v a) nothing nothing z scope small free in
           some_more (target_width_kept scope v a.0) (walk columns z scope).width (taken_some scope v a.0 n.here)
 
-      target_in : {tree : Tree} → TargetTree relations tree → (bound : ℕ) → Ordered bound tree → (scope : List ℕ) (s : scopes.Scope) → Wide scope s → Bound (walk columns tree scope) → TargetsIn tree (walk columns tree scope) s
+      target_in : {tree : Tree} → TargetTree relations tree → (bound : ℕ) → Ordered bound tree → (scope : Kept) (s : scopes.Scope) → Wide scope s → Bound (walk columns tree scope) → TargetsIn tree (walk columns tree scope) s
       target_in (target_tree {i = i} {v = v} {a = a} {z = z} small inside limit ts) bound o scope s wide free =
           let n = bound_node i (Target v a) nothing nothing z scope small free in
           let T = targets_in ts i o.3 scope s wide n.bound_c in
@@ -298,11 +299,11 @@ module _ (columns : ℕ → ℕ) (relations : ℕ) where
             wide = counts (target_width_kept scope v a.0) (walk columns z scope).width (form.target_width s (target_of v a.0)) (form.targets_width s (reading z).targets) (target_columns_lem wide v a.0 inside) T.wide;
           }
 
-      targets_in : {tree : Tree} → TargetsIfAny relations tree → (bound : ℕ) → Ordered bound tree → (scope : List ℕ) (s : scopes.Scope) → Wide scope s → Bound (walk columns tree scope) → TargetsIn tree (walk columns tree scope) s
+      targets_in : {tree : Tree} → TargetsIfAny relations tree → (bound : ℕ) → Ordered bound tree → (scope : Kept) (s : scopes.Scope) → Wide scope s → Bound (walk columns tree scope) → TargetsIn tree (walk columns tree scope) s
       targets_in no_target bound o scope s wide free = record { unfit_is = none_in scope s; wide = refl }
       targets_in (more_targets ts) bound o scope s wide free = target_in ts bound o scope s wide free
 
-      binding_in : {tree : Tree} → BindingTree relations tree → (bound : ℕ) → Ordered bound tree → (scope : List ℕ) (s : scopes.Scope) → Wide scope s → Bound (walk columns tree scope) → BindingsIn tree (walk columns tree scope) s
+      binding_in : {tree : Tree} → BindingTree relations tree → (bound : ℕ) → Ordered bound tree → (scope : Kept) (s : scopes.Scope) → Wide scope s → Bound (walk columns tree scope) → BindingsIn tree (walk columns tree scope) s
       binding_in (binding_tree {i = i} {v = v} {y = y} {z = z} small inside r bs) bound o scope s wide free =
           let w : ℕ = (walk columns y scope).width in
           let next : scopes.Scope = extend s v (width_of columns y) in
@@ -311,11 +312,11 @@ module _ (columns : ℕ → ℕ) (relations : ℕ) where
           let B = bindings_in bs i o.3 (bind scope v w) next (wide-bind v w (width_of columns y) wide inside (new_variable wide v inside n.here) R.some R.alike) n.bound_c in
           record { unfit_is = node_in_lem i (Binds v Binding) nothing y z scope s (λ e. small) (inl (columns_same wide w (width_of columns y) R.alike)) (none_in (bind scope v w) _) R.unfit_is B.unfit_is; wide_after = B.wide_after }
 
-      bindings_in : {tree : Tree} → BindingsIfAny relations tree → (bound : ℕ) → Ordered bound tree → (scope : List ℕ) (s : scopes.Scope) → Wide scope s → Bound (walk columns tree scope) → BindingsIn tree (walk columns tree scope) s
+      bindings_in : {tree : Tree} → BindingsIfAny relations tree → (bound : ℕ) → Ordered bound tree → (scope : Kept) (s : scopes.Scope) → Wide scope s → Bound (walk columns tree scope) → BindingsIn tree (walk columns tree scope) s
       bindings_in no_binding bound o scope s wide free = record { unfit_is = none_in scope s; wide_after = wide }
       bindings_in (more_bindings b) bound o scope s wide free = binding_in b bound o scope s wide free
 
-      condition_in : {tree : Tree} → ConditionTree relations tree → (bound : ℕ) → Ordered bound tree → (scope : List ℕ) (s : scopes.Scope) → Wide scope s → Bound (walk columns tree scope) → (walk columns tree scope).unfit ≡ lowest_in tree s
+      condition_in : {tree : Tree} → ConditionTree relations tree → (bound : ℕ) → Ordered bound tree → (scope : Kept) (s : scopes.Scope) → Wide scope s → Bound (walk columns tree scope) → (walk columns tree scope).unfit ≡ lowest_in tree s
       condition_in (atom_tree {i = i} {atom = atom} small fits) bound o scope s wide free =
           node_in_lem i (Compares atom) nothing nothing nothing scope s (λ e. small) (inl (atom_same wide columns atom fits)) (none_in scope s) (none_in scope s) (none_in scope s)
       condition_in (joined_tree {i = i} {k = k} {x = x} {y = y} small joins f g) bound o scope s wide free =
@@ -332,6 +333,6 @@ module _ (columns : ℕ → ℕ) (relations : ℕ) where
           let F = condition_in f i o.3 (bind scope v w) next (wide-bind v w (width_of columns y) wide inside (new_variable wide v inside n.here) R.some R.alike) n.bound_c in
           node_in_lem i (Binds v (Quantifies q)) nothing y z scope s (λ e. small) (inl (columns_same wide w (width_of columns y) R.alike)) (none_in (bind scope v w) _) R.unfit_is F
 
-      maybe_in : {tree : Tree} → ConditionIfAny relations tree → (bound : ℕ) → Ordered bound tree → (scope : List ℕ) (s : scopes.Scope) → Wide scope s → Bound (walk columns tree scope) → (walk columns tree scope).unfit ≡ lowest_in tree s
+      maybe_in : {tree : Tree} → ConditionIfAny relations tree → (bound : ℕ) → Ordered bound tree → (scope : Kept) (s : scopes.Scope) → Wide scope s → Bound (walk columns tree scope) → (walk columns tree scope).unfit ≡ lowest_in tree s
       maybe_in without_condition bound o scope s wide free = none_in scope s
       maybe_in (with_condition f) bound o scope s wide free = condition_in f bound o scope s wide free

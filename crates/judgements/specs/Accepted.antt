@@ -11,8 +11,8 @@ use Rattle.question.specs.Trees.{question_of}
 use Rattle.question.specs.Judgement.{count_ok, is_alpha, is_unknown, last_node}
 use Rattle.judgements.specs.Faults.{judged_question}
 use Rattle.question.specs.Walk.{judged_by_walk}
-use Rattle.question.specs.declared.judgement.Judgement.{Judgement}
-use Rattle.question.specs.declared.judgement.Judgement.TheVariants.{Accepted}
+use Rattle.std.specs.Prelude.{Ok}
+use Rattle.question.specs.Judgement.{Judgement}
 
 -- what refusal 7 leaves of a catalogue: no relation is without columns
 abbrev pub HasColumns : List ℕ → Type 0
@@ -38,9 +38,9 @@ pub record TableRight (catalogue words : List ℕ) : Type 0 where
 -- A judgement accepts a table exactly when lines 1 to 4 are not given and the tree is in good form: 5 and 6 refuse all else, and nothing more. Proved in
 -- proofs/FaultsDecide.antt of the judgement by faults, and in proofs/Accepted.antt of the walk's.
 pub record AcceptedExactly (judgement : Judgement) (catalogue words : List ℕ) : Type 0 where
-  pub table-right : judgement ≡ Accepted → TableRight catalogue words
-  pub good_form : judgement ≡ Accepted → GoodRange (columns_of catalogue) (relations_of catalogue) (question_of words)
-  pub accepted : TableRight catalogue words → GoodRange (columns_of catalogue) (relations_of catalogue) (question_of words) → judgement ≡ Accepted
+  pub table-right : judgement ≡ Ok tt → TableRight catalogue words
+  pub good_form : judgement ≡ Ok tt → GoodRange (columns_of catalogue) (relations_of catalogue) (question_of words)
+  pub accepted : TableRight catalogue words → GoodRange (columns_of catalogue) (relations_of catalogue) (question_of words) → judgement ≡ Ok tt
 
 -- What the code's walk gives is the judgement by faults, where no relation of the catalogue is without columns. Proved in proofs/FaultsDecide.antt.
 abbrev pub FaultsDecide : (catalogue words : List ℕ) → Type 0

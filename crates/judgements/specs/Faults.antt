@@ -13,8 +13,9 @@ use Rattle.nodes.specs.declared.node.Form.TheVariants.{Table, Alpha, Target, Bin
 use Rattle.question.specs.Judgement.{count_ok, is_alpha, lowest_ill_formed, last_node, lowest_not_once, lowest_unknown}
 use Rattle.nodes.specs.declared.node.Operand.{Operand}
 use Rattle.nodes.specs.declared.node.Operand.TheVariants.{Of, Fixed}
-use Rattle.question.specs.declared.judgement.Judgement.{Judgement}
-use Rattle.question.specs.declared.judgement.Judgement.TheVariants.{Accepted, Refused}
+use Rattle.std.specs.Prelude.{Ok, Err}
+use Rattle.question.specs.Judgement.{Judgement}
+use Rattle.question.specs.declared.judgement.Refusal.TheVariants.{WrongCount, BrokenForm, NotATree, UnknownRelation, Unbound, Unfit}
 
 abbrev pub in_scope : Scope → ℕ → Bool
 in_scope [] variable = false
@@ -101,12 +102,12 @@ module _ (catalogue words : List ℕ) where
   unfoldable pub judged_question : Judgement
   judged_question =
       cond (count_ok words)
-      (cond (ltb (lowest_ill_formed words) (node_count words)) (Refused 2 (lowest_ill_formed words))
-      (cond (ltb (lowest_not_once words) (last_node words)) (Refused 3 (lowest_not_once words))
+      (cond (ltb (lowest_ill_formed words) (node_count words)) (Err (BrokenForm (lowest_ill_formed words)))
+      (cond (ltb (lowest_not_once words) (last_node words)) (Err (NotATree (lowest_not_once words)))
       (cond (is_alpha (node_at words (last_node words)).form)
-      (cond (ltb (lowest_unknown catalogue words) (node_count words)) (Refused 4 (lowest_unknown catalogue words))
-      (cond (ltb lowest_unbound (node_count words)) (Refused 5 lowest_unbound)
-      (cond (ltb lowest_unfit (node_count words)) (Refused 6 lowest_unfit)
-      Accepted)))
-      (Refused 3 (last_node words)))))
-      (Refused 1 0)
+      (cond (ltb (lowest_unknown catalogue words) (node_count words)) (Err (UnknownRelation (lowest_unknown catalogue words)))
+      (cond (ltb lowest_unbound (node_count words)) (Err (Unbound lowest_unbound))
+      (cond (ltb lowest_unfit (node_count words)) (Err (Unfit lowest_unfit))
+      (Ok tt))))
+      (Err (NotATree (last_node words))))))
+      (Err WrongCount)

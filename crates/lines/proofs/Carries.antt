@@ -8,11 +8,11 @@ use native.Mathlib.Numerals.{add-one}
 use lib.ListN.{length, drop, set, length-append}
 use lib.Seq.{sets}
 use Rattle.lines.specs.Reading.{Read, Next, goes_on, wrong_at, nothing, value, or_wrong, and_then, words_then}
-use Rattle.lines.specs.Answers.{Placed, standing, PlacedStep, LinesRead}
+use Rattle.lines.specs.Answers.{standing, LinesRead}
 use Rattle.relations.proofs.StoreLaws.{sets-append}
-use Rattle.lines.specs.declared.reading.Cursor.{Cursor}
-use Rattle.lines.specs.declared.reading.Step.{Step}
-use Rattle.lines.specs.declared.reading.Step.TheVariants.{Next as Onward, Wrong as Stop}
+use Rattle.lines.specs.declared.reader.Reader.{Reader}
+use Rattle.lines.specs.declared.reader.WrongLine.{WrongLine}
+use Rattle.std.specs.Prelude.{Result, Ok, Err}
 use Rattle.lines.specs.Reading as reads
 
 pub record Carries (whole rest : Read) (to place : ℕ) (before now : List ℕ) : Type 0 where
@@ -27,15 +27,14 @@ module _ {whole rest : Read} {to place : ℕ} {before now : List ℕ} (carried :
   pub carries_by : {other : Read} → rest ≡ other → Carries whole other to place before now
   carries_by e = rw e at carried
 
-  -- the reading ends here, at a cursor or at a wrong line
-  pub carries_done : {text : List ℕ} (cursor : Cursor) → rest ≡ nothing (goes_on cursor.line (drop cursor.at text)) → Placed text cursor
-      → LinesRead text whole to before now (Onward cursor)
-  carries_done {text} cursor e p =
-      record { means = carried.ends ∙ ap (λ (r : Read). r.next) e; placed = p; words = sym (carried.leaves ∙ ap (λ (r : Read). sets now place r.words) e) }
+  -- the reading ends here, behind what was read or at a wrong line
+  pub carries_done : {T : Type 0} {value : T} {start : Reader} (stop : Reader) → rest ≡ nothing (goes_on stop.line (drop stop.at stop.text.now)) → stop.text.now ≡ start.text.now → LinesRead start whole to before now stop (Ok value)
+  carries_done stop e t =
+      record { means = carried.ends ∙ ap (λ (r : Read). r.next) e; text = t; words = sym (carried.leaves ∙ ap (λ (r : Read). sets now place r.words) e) }
 
-  pub carries_wrong : {text : List ℕ} {line : ℕ} → rest ≡ nothing (wrong_at line) → LinesRead text whole to before now (Stop line)
-  carries_wrong {text} {line} e =
-      record { means = carried.ends ∙ ap (λ (r : Read). r.next) e; placed = tt; words = sym (carried.leaves ∙ ap (λ (r : Read). sets now place r.words) e) }
+  pub carries_wrong : {T : Type 0} {start stop : Reader} {line : WrongLine} → rest ≡ nothing (wrong_at line.0) → stop.text.now ≡ start.text.now → LinesRead {T = T} start whole to before now stop (Err line)
+  carries_wrong e t =
+      record { means = carried.ends ∙ ap (λ (r : Read). r.next) e; text = t; words = sym (carried.leaves ∙ ap (λ (r : Read). sets now place r.words) e) }
 
   -- a number was read and kept
   pub carries_number : {n : ℕ} {bytes after : List ℕ} {found : reads.Number} (line : ℕ) (more : ℕ → List ℕ → Read) → rest ≡ or_wrong line found more → found ≡ value n bytes → after ≡ set now place n
@@ -49,32 +48,28 @@ module _ {whole rest : Read} {to place : ℕ} {before now : List ℕ} (carried :
       }
 
   -- lines were read, and their words kept
-  pub carries_lines : {text after : List ℕ} {first : Read} {answer : Step} {cursor : Cursor} (width : ℕ) (more : ℕ → List ℕ → Read)
-      → rest ≡ and_then first more → LinesRead text first place now after answer → answer ≡ Onward cursor → length first.words ≡ width
-      → Carries whole (more cursor.line (drop cursor.at text)) to (place + width) before after
-  carries_lines {text} {after} {first} {answer} {cursor} width more e read a w =
-      let n : first.next ≡ goes_on cursor.line (drop cursor.at text) = read.means ∙ ap (standing text) a in
-      let r : rest ≡ words_then first.words (goes_on cursor.line (drop cursor.at text)) more = e ∙ ap (λ (x : Next). words_then first.words x more) n in
+  pub carries_lines : {here stop : Reader} {after : List ℕ} {first : Read} {answer : Result Unit WrongLine} (width : ℕ) (more : ℕ → List ℕ → Read)
+      → rest ≡ and_then first more → LinesRead here first place now after stop answer → answer ≡ Ok tt → length first.words ≡ width
+      → Carries whole (more stop.line (drop stop.at stop.text.now)) to (place + width) before after
+  carries_lines {stop = stop} {after} {first} width more e read a w =
+      let n : first.next ≡ goes_on stop.line (drop stop.at stop.text.now) = read.means ∙ ap (standing stop) a in
+      let r : rest ≡ words_then first.words (goes_on stop.line (drop stop.at stop.text.now)) more = e ∙ ap (λ (x : Next). words_then first.words x more) n in
       record {
         ends = carried.ends ∙ ap (λ (x : Read). x.next) r;
         leaves = carried.leaves ∙ ap (λ (x : Read). sets now place x.words) r
-            ∙ sets-append now place first.words (more cursor.line (drop cursor.at text)).words ∙ rw (w, read.words);
-        counts = omega (arith, carried.counts, ap (λ (x : Read). length x.words) r, length-append first.words (more cursor.line (drop cursor.at text)).words);
+            ∙ sets-append now place first.words (more stop.line (drop stop.at stop.text.now)).words ∙ rw (w, read.words);
+        counts = omega (arith, carried.counts, ap (λ (x : Read). length x.words) r, length-append first.words (more stop.line (drop stop.at stop.text.now)).words);
       }
 
   -- or a line of them is wrong
-  pub carries_off : {text after : List ℕ} {first : Read} {answer : Step} {line : ℕ} (more : ℕ → List ℕ → Read)
-      → rest ≡ and_then first more → LinesRead text first place now after answer → answer ≡ Stop line
-      → LinesRead text whole to before after (Stop line)
-  carries_off {text} {after} {first} {answer} {line} more e read a =
-      let n : first.next ≡ wrong_at line = read.means ∙ ap (standing text) a in
-      let r : rest ≡ words_then first.words (wrong_at line) more = e ∙ ap (λ (x : Next). words_then first.words x more) n in
+  pub carries_off : {T : Type 0} {start here stop : Reader} {after : List ℕ} {first : Read} {answer : Result Unit WrongLine} {line : WrongLine} (more : ℕ → List ℕ → Read)
+      → rest ≡ and_then first more → LinesRead here first place now after stop answer → answer ≡ Err line → here.text.now ≡ start.text.now
+      → LinesRead {T = T} start whole to before after stop (Err line)
+  carries_off {stop = stop} {first = first} {line = line} more e read a t =
+      let n : first.next ≡ wrong_at line.0 = read.means ∙ ap (standing stop) a in
+      let r : rest ≡ words_then first.words (wrong_at line.0) more = e ∙ ap (λ (x : Next). words_then first.words x more) n in
       record {
         means = carried.ends ∙ ap (λ (x : Read). x.next) r;
-        placed = tt;
+        text = read.text ∙ t;
         words = sym (carried.leaves ∙ ap (λ (x : Read). sets now place x.words) r ∙ sym read.words);
       }
-
--- where a cursor came out, its place is known
-pub placed_at : {text before after : List ℕ} {found : Read} {to : ℕ} {answer : Step} {cursor : Cursor} → LinesRead text found to before after answer → answer ≡ Onward cursor → Placed text cursor
-placed_at {text} {cursor = cursor} read e = let p : PlacedStep text (Onward cursor) = rw e at read.placed in p

@@ -2,34 +2,29 @@
 use mathlib.Core.Path.{◌≡◌, refl, ◌∙◌}
 use Prim.Native.Nat.{ℕ, suc, zero, ◌+◌, ◌-◌, ◌*◌, ◌<◌, ◌≤◌}
 use mathlib.Core.List.{List, [], ◌∷◌}
-use mathlib.Core.Bool.{true, false, cond, ◌&&◌, false≢true}
+use mathlib.Core.Bool.{true, false, cond, false≢true}
 use native.Mathlib.Omega.{arith}
 use native.Mathlib.Numerals.{add-one}
 use lib.Dec.{leb, eqb}
 use lib.ListN.{length, get_or, drop, drop_of_length-le}
 use lib.Seq.{drop-cons, drop-drop}
-use borrow.Author.Tests.{leb-true}
+use Rattle.std.specs.List.{starts_with}
+use Rattle.relations.proofs.ComparisonLaws.{eqb_symmetric}
 use Rattle.relations.specs.Limits.{greatest_number}
 use Rattle.lines.specs.Marks.{zero_digit, digit, separator}
-use Rattle.relations.proofs.BoolLaws.{and_left, and_right}
-use Rattle.lines.specs.Reading.{value, no_number, more_digits, number, ended_by, number_then, begins, nothing, goes_on, wrong_at, or_wrong, numbers, and_then, keyed_line, keyed_lines}
+use Rattle.relations.proofs.BoolLaws.{and_right}
+use Rattle.lines.specs.Reading.{value, no_number, more_digits, number, number_then, begins, nothing, goes_on, wrong_at, or_wrong, numbers, and_then, keyed_line, keyed_lines}
 
 -- the byte at a position, and the bytes behind it
 pub at_byte : (text : List ℕ) (i : ℕ) → i < length text → drop i text ≡ get_or text i 0 ∷ drop (i + 1) text
 at_byte text i h = drop-cons text i 0 h ∙ rw add-one
 
-pub begins_step : (key text : List ℕ) (i j : ℕ) → i < length key → j < length text
-    → begins (drop i key) (drop j text) ≡ (eqb (get_or text j 0) (get_or key i 0) && begins (drop (i + 1) key) (drop (j + 1) text))
+-- whether a key begins there, as the library's `starts_with` tests it
+pub begins_is : (key bytes : List ℕ) → begins key bytes ≡ starts_with eqb bytes key
 unfolding begins
-begins_step key text i j h k = rw (at_byte key i h, at_byte text j k)
-
-pub begins-ended : (key text : List ℕ) (i j : ℕ) → i < length key → length text ≤ j → begins (drop i key) (drop j text) ≡ false
-unfolding begins
-begins-ended key text i j h k = rw (at_byte key i h, drop_of_length-le text k)
-
-pub begins-done : (key bytes : List ℕ) (i : ℕ) → length key ≤ i → begins (drop i key) bytes ≡ true
-unfolding begins
-begins-done key bytes i h = rw (drop_of_length-le key h)
+begins_is [] bytes = refl
+begins_is (k ∷ key) [] = refl
+begins_is (k ∷ key) (byte ∷ bytes) = rw (eqb_symmetric byte k, begins_is key bytes)
 
 pub digits_step : (n : ℕ) (text : List ℕ) (i : ℕ) → i < length text
     → more_digits n (drop i text) ≡ cond (digit (get_or text i 0))
@@ -42,25 +37,14 @@ pub digits-done : (n : ℕ) (text : List ℕ) (i : ℕ) → length text ≤ i �
 unfolding more_digits
 digits-done n text i h = rw (drop_of_length-le text h)
 
-pub number_step : (text : List ℕ) (i : ℕ) → i < length text
-    → number (drop i text) ≡ cond (eqb (get_or text i 0) zero_digit) (value 0 (drop (i + 1) text))
-    (cond (digit (get_or text i 0)) (more_digits (get_or text i 0 - zero_digit) (drop (i + 1) text)) no_number)
+pub number_step : (text : List ℕ) (i : ℕ) {byte : ℕ} → i < length text → byte ≡ get_or text i 0
+    → number (drop i text) ≡ cond (eqb byte zero_digit) (value 0 (drop (i + 1) text)) (cond (digit byte) (more_digits (byte - zero_digit) (drop (i + 1) text)) no_number)
 unfolding number
-number_step text i h = rw (at_byte text i h)
+number_step text i h is = rw (at_byte text i h, is)
 
 pub number-done : (text : List ℕ) (i : ℕ) → length text ≤ i → number (drop i text) ≡ no_number
 unfolding number
 number-done text i h = rw (drop_of_length-le text h)
-
-pub digit_bounds : (b : ℕ) → digit b ≡ true → (zero_digit ≤ b) × (b ≤ 57)
-digit_bounds b e = (leb-true 48 b (and_left (leb 48 b) (leb b 57) e), leb-true b 57 (and_right (leb 48 b) (leb b 57) e))
-
-pub ended_step : (end n : ℕ) (text : List ℕ) (i : ℕ) → i < length text
-    → ended_by end (value n (drop i text)) ≡ cond (eqb (get_or text i 0) end) (value n (drop (i + 1) text)) no_number
-ended_step end n text i h = rw (at_byte text i h)
-
-pub ended-done : (end n : ℕ) (text : List ℕ) (i : ℕ) → length text ≤ i → ended_by end (value n (drop i text)) ≡ no_number
-ended-done end n text i h = rw (drop_of_length-le text h)
 
 pub numbers_step : (left line : ℕ) (bytes : List ℕ) → 0 < left
     → numbers left line bytes ≡ or_wrong line (number_then (separator (left - 1)) bytes) (λ n rest. numbers (left - 1) line rest)

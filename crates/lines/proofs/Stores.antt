@@ -1,9 +1,8 @@
 -- Runs of stores, one behind another: what a writer has still to put when a part of its bytes stands. Assumes nothing.
-use Prim.Native.Nat.{ℕ, zero, suc, ◌+◌, ◌-◌, ◌*◌, ◌<◌, ◌≤◌}
+use Prim.Native.Nat.{ℕ, ◌+◌, ◌≤◌}
 use mathlib.Core.Path.{◌≡◌, refl, sym, ap, ◌∙◌}
 use mathlib.Core.List.{List, [], ◌∷◌, ◌++◌}
 use native.Mathlib.Omega.{arith}
-use native.Mathlib.Nat.{mul-suc}
 use native.Mathlib.Numerals.{add-one}
 use lib.ListN.{length, set, length-append}
 use lib.Seq.{sets}
@@ -55,10 +54,3 @@ put_then {at} {first = first} {second = second} {before = before} p q = record {
   end_at = omega (arith, p.end_at, q.end_at, length-append first second);
   stored = q.stored ∙ rw (p.stored, p.end_at) (sym (sets-append before at first second));
 }
-
--- lines of one width: the words of those that are left
-pub times_step : (width left : ℕ) → 0 < left → width * left ≡ width * (left - 1) + width
-times_step width zero h = absurd (omega arith)
-times_step width (suc more) h =
-    let one : suc more - 1 ≡ more = omega arith in
-    rw one (mul-suc width more)

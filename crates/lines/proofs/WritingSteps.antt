@@ -8,7 +8,7 @@ use native.Mathlib.Nat.{mul-suc}
 use native.Mathlib.Numerals.{add-one}
 use lib.Dec.{ltb}
 use lib.ListN.{length, get_or, take, drop, length-append, length-take, length-drop}
-use lib.Seq.{drop-cons, drop-drop, length-take-le}
+use lib.Seq.{drop-cons, drop-drop}
 use Rattle.lines.specs.Marks.{zero_digit, separator}
 use Rattle.lines.specs.Writing.{digits, decimal, numbers_text, lines_text}
 use Rattle.lines.proofs.Numbers.{decimal_step}
@@ -18,23 +18,25 @@ decimal_last n ten h =
     let whole : n / 10 * 10 + n % 10 ≡ n = omega arith in
     rw whole at (decimal_step (n / 10) (n % 10) (omega arith) (omega arith) (omega arith))
 
--- One number, one line and one table more.
-pub numbers_step : (words : List ℕ) (place left : ℕ) → 0 < left → place + left ≤ length words
-    → numbers_text (take left (drop place words)) ≡ decimal (get_or words place 0) ++ (separator (left - 1) ∷ numbers_text (take (left - 1) (drop (place + 1) words)))
-unfolding numbers_text
-numbers_step words place zero h fits = absurd (omega arith)
-numbers_step words place (suc more) h fits =
-    let one : suc more - 1 ≡ more = omega arith in
-    let long : length (take more (drop (suc place) words)) ≡ more = length-take-le more (drop (suc place) words) (rw length-drop (omega arith)) in
-    ap (λ (l : List ℕ). numbers_text (take (suc more) l)) (drop-cons words place 0 (omega arith)) ∙ rw (one, add-one, long)
+pub length-decimal_last : (n : ℕ) → 10 ≤ n → n < 4294967296 → length (decimal n) ≡ length (decimal (n / 10)) + 1
+length-decimal_last n ten h = ap length (decimal_last n ten h) ∙ length-append (decimal (n / 10)) ((zero_digit + n % 10) ∷ [])
 
-pub lines_step : (key : List ℕ) (width : ℕ) (words : List ℕ) (place left : ℕ) → 0 < left
-    → lines_text key width left (drop place words) ≡ key ++ (numbers_text (take width (drop place words)) ++ lines_text key width (left - 1) (drop (place + width) words))
+-- One number and one line more.
+pub numbers_step : (words : List ℕ) (i : ℕ) → i < length words
+    → numbers_text (drop i words) ≡ decimal (get_or words i 0) ++ (separator (length words - 1 - i) ∷ numbers_text (drop (i + 1) words))
+unfolding numbers_text
+numbers_step words i h =
+    let behind : length (drop (suc i) words) ≡ length words - 1 - i = omega (arith, length-drop (suc i) words) in
+    rw (drop-cons words i 0 h, add-one, behind)
+
+pub lines_step : (key : List ℕ) (width : ℕ) (words : List ℕ) (count line : ℕ) → line < count
+    → lines_text key width (count - line) (drop (width * line) words)
+    ≡ key ++ (numbers_text (take width (drop (width * line) words)) ++ lines_text key width (count - (line + 1)) (drop (width * (line + 1)) words))
 unfolding lines_text
-lines_step key width words place zero h = absurd (omega arith)
-lines_step key width words place (suc more) h =
-    let one : suc more - 1 ≡ more = omega arith in
-    rw (one, drop-drop width place words) (append_assoc key _ _)
+lines_step key width words count line h =
+    let left : count - line ≡ suc (count - (line + 1)) = omega arith in
+    let next : width * line + width ≡ width * (line + 1) = rw (add-one, mul-suc width line) in
+    rw (left, drop-drop width (width * line) words, next) (append_assoc key _ _)
 
 -- How long a text can be.
 length_digits : (more n : ℕ) → length (digits more n) ≤ suc more

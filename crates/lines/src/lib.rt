@@ -1,5 +1,6 @@
 // The rules for numbers and lines, read and written.
 #![tactic(auto)]
 
+pub mod reader;
 pub mod reading;
 pub mod writing;

@@ -1,102 +1,51 @@
 // The rules for numbers and lines, read: what every text of the desk is made of.
-ghost use Rattle.std.specs.Prelude.{◌≡◌, ◌+◌, ◌≤◌, ◌<◌, length, drop, set};
+ghost use Rattle.std.specs.Prelude.{◌≡◌, ◌+◌, ◌≤◌, length, drop, set};
 ghost use Rattle.relations.specs.Limits.{greatest_number};
 ghost use Rattle.lines.specs.Marks.{digit, separator};
-ghost use Rattle.lines.specs.Reading.{number, more_digits, number_then, begins, numbers, keyed_line};
-ghost use Rattle.lines.specs.Put.{furthest};
-ghost use Rattle.lines.specs.Answers.{NumberRead, Placed, LinesRead};
+ghost use Rattle.lines.specs.Reading.{number, more_digits, number_then, begins};
+ghost use Rattle.lines.specs.Answers.{NumberRead};
 
-use relations::limits::GREATEST_WORD;
-
-// Where a reader stands, as a plain value: the position of the byte that comes next, and the number of its line, from 1.
-// A step hands it back, since no enum can hold a reader; a loop carries it to the next line.
-#[derive(Clone, Copy)]
-pub struct Cursor {
-    pub at: usize,
-    pub line: usize,
-}
-
-// A number and the position behind it.
-#[derive(Clone, Copy)]
-pub enum Number {
-    Value(u32, usize),
-    Wrong,
-}
-
-// Lines were read up to the cursor, or the line of that number is wrong.
-#[derive(Clone, Copy)]
-pub enum Step {
-    Next(Cursor),
-    Wrong(usize),
-}
-
-fn is_digit(byte: u8) -> bool
-    ensures { result ≡ digit byte }
-{
-    (48 <= byte) & (byte <= 57)
-}
-
-fn wide(byte: u8) -> u64
-    ensures { result ≡ byte }
-{
-    byte as u64
-}
-
-// The digits that go on from `at`, behind those that make up `first`.
-fn more_digits(text: &[u8], at: usize, first: u64) -> Number
-    requires { (at ≤ length text.now) × (first ≤ greatest_number) }
+// The digits that go on from `at`, behind those that make up `first`: the number, and the position behind it.
+fn more_digits(text: &[u8], at: usize, first: u32) -> Option<(u32, usize)>
+    requires { at ≤ length text.now }
     ensures { NumberRead text.now at (more_digits first (drop at text.now)) result }
 {
     let mut value = first;
-    let mut i = at;
-    while i < text.len() {
-        let byte = text[i];
-        if is_digit(byte) {
-            let more = value * 10 + (wide(byte) - 48);
-            if GREATEST_WORD < more {
-                return Number::Wrong;
-            }
-            value = more;
-            i += 1;
-        } else {
-            return Number::Value(value as u32, i);
+    for i in at..text.len() {
+        if !text[i].is_ascii_digit() {
+            return Some((value, i));
         }
+        value = value
+            .checked_mul(10)?
+            .checked_add(u32::from(text[i] - b'0'))?;
     }
-    Number::Value(value as u32, i)
+    Some((value, text.len()))
 }
 
-// The number that stands at `at`.
-pub fn read_number(text: &[u8], at: usize) -> Number
+// The number that stands at `at`, and the position behind it.
+pub fn read_number(text: &[u8], at: usize) -> Option<(u32, usize)>
     ensures { NumberRead text.now (at + 1) (number (drop at text.now)) result }
 {
-    if text.len() <= at {
-        return Number::Wrong;
+    // A `match` with these arms isn't proved: its `_` arm knows no more than that the byte is not among the numbers before it.
+    let byte = *text.get(at)?;
+    if byte == b'0' {
+        Some((0, at + 1))
+    } else if byte.is_ascii_digit() {
+        more_digits(text, at + 1, u32::from(byte - b'0'))
+    } else {
+        None
     }
-    let byte = text[at];
-    if byte == 48 {
-        return Number::Value(0, at + 1);
-    }
-    if is_digit(byte) {
-        return more_digits(text, at + 1, wide(byte) - 48);
-    }
-    Number::Wrong
 }
 
-// The number that stands at `at` with the byte `end` behind it.
-pub fn number_then(text: &[u8], at: usize, end: u8) -> Number
+// The number that stands at `at` with the byte `end` behind it, and the position behind that.
+pub fn number_then(text: &[u8], at: usize, end: u8) -> Option<(u32, usize)>
     ensures { NumberRead text.now (at + 2) (number_then end (drop at text.now)) result }
 {
-    match read_number(text, at) {
-        Number::Value(value, next) => {
-            if text.len() <= next {
-                return Number::Wrong;
-            }
-            if text[next] == end {
-                return Number::Value(value, next + 1);
-            }
-            Number::Wrong
-        }
-        Number::Wrong => Number::Wrong,
+    let (value, next) = read_number(text, at)?;
+    if *text.get(next)? == end {
+        Some((value, next + 1))
+    } else {
+        None
     }
 }
 
@@ -104,28 +53,16 @@ pub fn number_then(text: &[u8], at: usize, end: u8) -> Number
 pub fn begins_with(text: &[u8], at: usize, key: &[u8]) -> bool
     ensures { result ≡ begins key.now (drop at text.now) }
 {
-    let mut i = 0;
-    let mut j = at;
-    while i < key.len() {
-        if text.len() <= j {
-            return false;
-        }
-        if text[j] == key[i] {
-            i += 1;
-            j += 1;
-        } else {
-            return false;
-        }
-    }
-    true
+    text[at.min(text.len())..].starts_with(key)
 }
 
-// A word is kept where there is room for it: a reader that is lent less only judges.
-pub fn keep(words: &mut [u32], at: usize, word: u32)
-    ensures { words.new ≡ set words.old at word }
+// A value is kept where there is room for it: a reader that is lent less room only judges, and a writer only counts.
+// An `if let` over `get_mut` isn't proved: no clause of std says what a slice that lent an element so is afterwards.
+pub fn keep<T: Copy>(values: &mut [T], at: usize, value: T)
+    ensures { values.new ≡ set values.old at value }
 {
-    if at < words.len() {
-        words[at] = word;
+    if at < values.len() {
+        values[at] = value;
     }
 }
 
@@ -134,51 +71,4 @@ pub fn separator_behind(more: usize) -> u8
     ensures { result ≡ separator more }
 {
     if more == 0 { b'\n' } else { b' ' }
-}
-
-// The rest of a line: `count` numbers, kept from `to` on, and its end.
-pub fn read_numbers(text: &[u8], start: Cursor, count: usize, words: &mut [u32], to: usize) -> Step
-    requires { (0 < count) × (to + count ≤ furthest) × Placed text.now start }
-    ensures { LinesRead text.now (numbers count start.line (drop start.at text.now)) to words.old words.new result }
-{
-    let line = start.line;
-    let mut at = start.at;
-    let mut left = count;
-    let mut place = to;
-    while 0 < left {
-        left -= 1;
-        match number_then(text, at, separator_behind(left)) {
-            Number::Value(value, next) => {
-                keep(words, place, value);
-                at = next;
-            }
-            Number::Wrong => {
-                return Step::Wrong(line);
-            }
-        }
-        place += 1;
-    }
-    Step::Next(Cursor { at, line: line + 1 })
-}
-
-// A line: `key`, and `count` numbers, kept from `to` on.
-pub fn keyed_line(
-    text: &[u8],
-    start: Cursor,
-    key: &[u8],
-    count: usize,
-    words: &mut [u32],
-    to: usize,
-) -> Step
-    requires { (0 < count) × (to + count ≤ furthest) × Placed text.now start }
-    ensures { LinesRead text.now (keyed_line key.now count start.line (drop start.at text.now)) to words.old words.new result }
-{
-    let at = start.at;
-    let line = start.line;
-    if begins_with(text, at, key) {
-        let next = at + key.len();
-        read_numbers(text, Cursor { at: next, line }, count, words, to)
-    } else {
-        Step::Wrong(line)
-    }
 }

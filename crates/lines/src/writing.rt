@@ -1,67 +1,50 @@
 // Numbers and lines, written: what every text of the desk is made of.
-ghost use Rattle.std.specs.Prelude.{◌≡◌, ◌+◌, ◌*◌, ◌≤◌, length, set, take, drop};
+ghost use Rattle.std.specs.Prelude.{◌+◌, ◌*◌, ◌≤◌, length};
 ghost use Rattle.lines.specs.Writing.{decimal, numbers_text, lines_text};
 ghost use Rattle.lines.specs.Put.{Put, furthest};
 
-use crate::reading::separator_behind;
+use crate::reading::{keep, separator_behind};
 
-// A byte is put where there is room for it: a writer that is lent less only counts.
-pub fn put(text: &mut [u8], at: usize, byte: u8)
-    ensures { text.new ≡ set text.old at byte }
-{
-    if at < text.len() {
-        text[at] = byte;
-    }
-}
-
-// All others put the bytes that their contract names from `at` on, and answer the position behind the last.
+// Each function puts the bytes that its contract names from `at` on, and answers the position behind the last.
 pub fn put_bytes(text: &mut [u8], at: usize, bytes: &[u8]) -> usize
     requires { at + length bytes.now ≤ furthest }
     ensures { Put at bytes.now text.old text.new result }
 {
-    let mut end = at;
-    let mut i = 0;
-    while i < bytes.len() {
-        put(text, end, bytes[i]);
-        end += 1;
-        i += 1;
+    for (i, byte) in bytes.iter().enumerate() {
+        keep(text, at + i, *byte);
     }
-    end
+    at + bytes.len()
 }
 
-// A number in decimal.
+// A number in decimal. No Display: there is no heap, and a buffer that is lent less only counts (`Put`).
 pub fn put_number(text: &mut [u8], at: usize, n: u32) -> usize
     requires { at + length (decimal n) ≤ furthest }
     ensures { Put at (decimal n) text.old text.new result }
 {
     if n < 10 {
-        put(text, at, 48 + n as u8);
+        keep(text, at, b'0' + n as u8);
         return at + 1;
     }
     let end = put_number(text, at, n / 10);
-    put(text, end, 48 + (n % 10) as u8);
+    keep(text, end, b'0' + (n % 10) as u8);
     end + 1
 }
 
 // Numbers with one space between, and the line's end.
-pub fn put_numbers(text: &mut [u8], at: usize, words: &[u32], from: usize, count: usize) -> usize
-    requires { (from + count ≤ length words.now) × (at + length (numbers_text (take count (drop from words.now))) ≤ furthest) }
-    ensures { Put at (numbers_text (take count (drop from words.now))) text.old text.new result }
+pub fn put_numbers(text: &mut [u8], at: usize, words: &[u32]) -> usize
+    requires { at + length (numbers_text words.now) ≤ furthest }
+    ensures { Put at (numbers_text words.now) text.old text.new result }
 {
     let mut end = at;
-    let mut left = count;
-    let mut place = from;
-    while 0 < left {
-        left -= 1;
-        let behind = put_number(text, end, words[place]);
-        put(text, behind, separator_behind(left));
+    for (i, word) in words.iter().enumerate() {
+        let behind = put_number(text, end, *word);
+        keep(text, behind, separator_behind(words.len() - 1 - i));
         end = behind + 1;
-        place += 1;
     }
     end
 }
 
-// Lines of `width` numbers each.
+// Lines of `width` numbers each, which stand in `words` one line after another.
 pub fn put_lines(
     text: &mut [u8],
     at: usize,
@@ -69,19 +52,16 @@ pub fn put_lines(
     width: usize,
     count: usize,
     words: &[u32],
-    from: usize,
 ) -> usize
-    requires { (from + width * count ≤ length words.now) × (at + length (lines_text key.now width count (drop from words.now)) ≤ furthest) }
-    ensures { Put at (lines_text key.now width count (drop from words.now)) text.old text.new result }
+    requires { (width * count ≤ length words.now) × (at + length (lines_text key.now width count words.now) ≤ furthest) }
+    ensures { Put at (lines_text key.now width count words.now) text.old text.new result }
 {
     let mut end = at;
-    let mut left = count;
-    let mut place = from;
-    while 0 < left {
+    // No `chunks_exact(width)`: what `put_lines` asks lets `width` be 0, and lines of no numbers are still `count` lines.
+    for line in 0..count {
+        let from = width * line;
         let behind = put_bytes(text, end, key);
-        end = put_numbers(text, behind, words, place, width);
-        place += width;
-        left -= 1;
+        end = put_numbers(text, behind, &words[from..from + width]);
     }
     end
 }

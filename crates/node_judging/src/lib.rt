@@ -2,4 +2,5 @@
 #![tactic(auto)]
 
 pub mod judging;
+pub mod lowest;
 pub mod scope;

@@ -1,5 +1,5 @@
--- The values made so far: three tables list them, by their widths, their numbers of rows and their places in the work area.
-use Rattle.std.specs.Prelude.{◌≡◌, List, [], ◌∷◌, map, ℕ, ◌≤◌, ◌<◌, length, get_or}
+-- The values made so far: a list of them, each with its width, its number of rows and its place in the work area.
+use Rattle.std.specs.Prelude.{List, map, ℕ, ◌≤◌, ◌<◌, length, get_or}
 use Rattle.relations.specs.Limits.{column_limit}
 use Rattle.relations.specs.Lists.{All}
 use Rattle.relations.specs.Values.{Rows, Ascending}
@@ -7,18 +7,15 @@ use Rattle.values.specs.Words.{rows_of, end}
 use Rattle.values.specs.Building.{Blank}
 use Rattle.values.specs.declared.rows.Value.{Value}
 
-unfoldable pub values_in : (widths rows bases : List ℕ) → List Value
-values_in [] rows bases = []
-values_in (width ∷ widths) [] bases = []
-values_in (width ∷ widths) (count ∷ rows) [] = []
-values_in (width ∷ widths) (count ∷ rows) (base ∷ bases) = record { base = base; rows = count; width = width } ∷ values_in widths rows bases
-
 -- a value without rows
 abbrev pub no_value : Value
 no_value = record { base = 0; rows = 0; width = 0 }
 
 abbrev pub value_named : List Value → ℕ → Value
 value_named made place = get_or made place no_value
+
+abbrev pub widths_of : List Value → List ℕ
+widths_of made = map (λ value. value.width) made
 
 -- the rows of each
 abbrev pub standing : List Value → List ℕ → List Rows
@@ -28,10 +25,8 @@ standing made work = map (λ value. rows_of value work) made
 abbrev pub StandsBefore : (out : ℕ) (work : List ℕ) → Value → Type 0
 StandsBefore out work value = (0 < value.width) × (value.width ≤ column_limit) × (end value ≤ out) × Ascending (rows_of value work)
 
--- so does every value that the tables list, and behind `out` stands nothing
-pub record Stand (widths rows bases : List ℕ) (out : ℕ) (work : List ℕ) : Type 0 where
-  pub rows_many : length rows ≡ length widths
-  pub bases_many : length bases ≡ length widths
-  pub each : All (StandsBefore out work) (values_in widths rows bases)
+-- so does every value of the list, and behind `out` stands nothing
+pub record Stand (values : List Value) (out : ℕ) (work : List ℕ) : Type 0 where
+  pub each : All (StandsBefore out work) values
   pub inside : out ≤ length work
   pub blank : Blank out work

@@ -1,6 +1,5 @@
 // One node of a judged plan: its value is worked out and put behind the values of the nodes before it.
 ghost use Rattle.std.specs.Prelude.{◌≡◌, true, ◌≤◌, ◌<◌, length, get_or};
-ghost use Rattle.std.proofs.Math.Option.{some};
 ghost use Rattle.relations.specs.Limits.{plan_node_words};
 ghost use Rattle.relations.specs.Columns as meaning;
 ghost use Rattle.relations.specs.Operations.{load_candidates, select_constant_candidates, select_attribute_candidates};
@@ -11,12 +10,10 @@ ghost use Rattle.values.specs.Building.{Builds, Blank, Makes};
 ghost use Rattle.terms.specs.Terms.{attribute_in, constant_in};
 ghost use Rattle.relations.specs.Comparison.{operator_named};
 ghost use Rattle.catalogue.specs.Stored.{relations_of, columns_of, stored_tables};
-ghost use Rattle.plan_reading.specs.Decoding.{plan_head, head_read};
 ghost use Rattle.plan_reading.specs.Judging.{legal_read};
-ghost use Rattle.node_values.specs.Standing.{values_in, value_named, standing, Stand};
-ghost use Rattle.node_values.specs.NodeRun.{width_read, candidates_read, NodeRun};
+ghost use Rattle.node_values.specs.Standing.{no_value, value_named, widths_of, standing, Stand};
+ghost use Rattle.node_values.specs.NodeRun.{width_read, candidates_read, Runs, NodeRun};
 
-use catalogue::judging::wide;
 use catalogue::stored::{columns_of, rows_of, start_of};
 use division::divide::divide;
 use joining::join::join;
@@ -24,48 +21,36 @@ use operations::columns::triple_at;
 use operations::copy::unite;
 use operations::keep::{intersect, select_attribute, select_constant, subtract};
 use ordering::sorted::{load, project};
-use plan_reading::legal::width_of;
-use plan_reading::nodes::{Decoded, Operation, PlanNode, decode_node};
+use plan_reading::legal::width_between;
+use plan_reading::nodes::{Operation, PlanNode, decode_node};
 use relations::heavy::weight;
 use relations::limits::HEAD_WORDS;
 use semijoins::keyed::{antijoin, semijoin};
 use tallying::tally;
 use terms::attribute::Attribute;
 use terms::constant::Constant;
-use terms::operator::operator_of;
+use terms::operator::Operator;
 use values::clearing::finish;
-use values::placing::Placed;
 use values::rows::Value;
 
-// What a node's value has, and 1 where its operation is heavy, else 0; or that there is no room for it.
+// A node's value, and 1 where its operation is heavy, else 0.
 #[derive(Clone, Copy)]
-pub enum Made {
-    Value {
-        width: usize,
-        rows: usize,
-        heavy: usize,
-    },
-    NoRoom,
+pub struct Made {
+    pub value: Value,
+    pub heavy: usize,
 }
 
+pub const NO_VALUE: Value = Value {
+    base: 0,
+    rows: 0,
+    width: 0,
+};
+
 // The value of an earlier node; of any other number one without rows.
-fn value_at(widths: &[usize], rows: &[usize], bases: &[usize], place: usize) -> Value
-    requires { (length rows.now ≡ length widths.now) × (length bases.now ≡ length widths.now) }
-    ensures { result ≡ value_named (values_in widths.now rows.now bases.now) place }
+fn value_at(values: &[Value], place: usize) -> Value
+    ensures { result ≡ value_named values.now place }
 {
-    if place < widths.len() {
-        Value {
-            base: bases[place],
-            rows: rows[place],
-            width: widths[place],
-        }
-    } else {
-        Value {
-            base: 0,
-            rows: 0,
-            width: 0,
-        }
-    }
+    values.get(place).copied().unwrap_or(NO_VALUE)
 }
 
 // Operation 1, by the relation's number.
@@ -75,13 +60,13 @@ fn load_relation(
     relation: usize,
     work: &mut [u32],
     out: usize,
-) -> Placed
+) -> Option<usize>
     requires { (tables_ok catalogue.now tables.now ≡ true) × (relation < relations_of catalogue.now) × (out ≤ length work.old) × Blank out work.old }
     ensures { Makes (columns_of catalogue.now relation) out (load_candidates (stored_tables catalogue.now tables.now relation)) work.old work.new result }
 {
     let base = start_of(catalogue, relation);
-    let rows = wide(rows_of(catalogue, relation));
-    let width = wide(columns_of(catalogue, relation));
+    let rows = rows_of(catalogue, relation) as usize;
+    let width = columns_of(catalogue, relation) as usize;
     load(tables, work, Value { base, rows, width }, out)
 }
 
@@ -101,19 +86,19 @@ fn constant_at(list: &[u32], place: usize) -> Constant
 }
 
 // Operation 3, by the words of its list.
-fn select_by_constant(list: &[u32], work: &mut [u32], left: Value, out: usize) -> Placed
+fn select_by_constant(list: &[u32], work: &mut [u32], left: Value, out: usize) -> Option<usize>
     requires { (3 ≤ length list.now) × (0 < left.width) × (end left ≤ out) × (out ≤ length work.old) }
     ensures { Builds left.width out 0 (select_constant_candidates (meaning.attribute (get_or list.now 0 0)) (operator_named (get_or list.now 1 0)) (meaning.constant (get_or list.now 2 0)) (rows_of left work.old)) work.old work.new result }
 {
     let attribute = attribute_at(list, 0);
     let code = list[1];
-    let operator = operator_of(code);
+    let operator = Operator::from(code);
     let constant = constant_at(list, 2);
     select_constant(work, left, attribute, operator, constant, out)
 }
 
 // Operation 4, by the words of its list.
-fn select_by_attribute(list: &[u32], work: &mut [u32], left: Value, out: usize) -> Placed
+fn select_by_attribute(list: &[u32], work: &mut [u32], left: Value, out: usize) -> Option<usize>
     requires { (3 ≤ length list.now) × (0 < left.width) × (end left ≤ out) × (out ≤ length work.old) }
     ensures { Builds left.width out 0 (select_attribute_candidates (meaning.attribute (get_or list.now 0 0)) (operator_named (get_or list.now 1 0)) (meaning.attribute (get_or list.now 2 0)) (rows_of left work.old)) work.old work.new result }
 {
@@ -129,20 +114,17 @@ fn make_value(
     node: PlanNode,
     words: &[u32],
     work: &mut [u32],
-    widths: &[usize],
-    rows: &[usize],
-    bases: &[usize],
+    values: &[Value],
     out: usize,
-) -> Placed
-    requires { (length words.now ≡ plan_node_words) × (head_read (read_node words.now) ≡ some (plan_head node)) × (tables_ok catalogue.now tables.now ≡ true) × (legal_read (relations_of catalogue.now) widths.now (read_node words.now) ≡ true) × Stand widths.now rows.now bases.now out work.old }
-    ensures { Makes (width_read (columns_of catalogue.now) widths.now (read_node words.now)) out (candidates_read (stored_tables catalogue.now tables.now) (standing (values_in widths.now rows.now bases.now) work.old) (read_node words.now)) work.old work.new result }
+) -> Option<usize>
+    requires { Runs catalogue.now tables.now words.now node values.now out work.old }
+    ensures { Makes (width_read (columns_of catalogue.now) (widths_of values.now) (read_node words.now)) out (candidates_read (stored_tables catalogue.now tables.now) (standing values.now work.old) (read_node words.now)) work.old work.new result }
 {
-    let operation = node.operation;
     let count = node.count;
     let list = &words[HEAD_WORDS..];
-    let left = value_at(widths, rows, bases, node.left);
-    let right = value_at(widths, rows, bases, node.right);
-    match operation {
+    let left = value_at(values, node.left);
+    let right = value_at(values, node.right);
+    match node.operation {
         Operation::Load => load_relation(catalogue, tables, node.left, work, out),
         Operation::Project => project(list, count, work, left, out),
         Operation::SelectConstant => finish(select_by_constant(list, work, left, out), work, out),
@@ -154,35 +136,32 @@ fn make_value(
         Operation::Unite => unite(work, left, right, out),
         Operation::Intersect => finish(intersect(work, left, right, out), work, out),
         Operation::Subtract => finish(subtract(work, left, right, out), work, out),
-        Operation::Tally => finish(tally(work, wide(list[0]), left, right, out), work, out),
+        Operation::Tally => finish(tally(work, list[0] as usize, left, right, out), work, out),
     }
 }
 
-// A legal node, by its words. Words that are no node do not come up: the plan was judged.
+// A legal node, by its words; none where its value has no room. Words that are no node do not come up: the plan was judged.
 pub fn run_node(
     catalogue: &[u32],
     tables: &[u32],
     words: &[u32],
     work: &mut [u32],
-    widths: &[usize],
-    rows: &[usize],
-    bases: &[usize],
+    values: &[Value],
     out: usize,
-) -> Made
-    requires { (length words.now ≡ plan_node_words) × (tables_ok catalogue.now tables.now ≡ true) × (legal_read (relations_of catalogue.now) widths.now (read_node words.now) ≡ true) × Stand widths.now rows.now bases.now out work.old }
-    ensures { NodeRun catalogue.now tables.now (read_node words.now) widths.now (standing (values_in widths.now rows.now bases.now) work.old) out work.old work.new result }
+) -> Option<Made>
+    requires { (length words.now ≡ plan_node_words) × (tables_ok catalogue.now tables.now ≡ true) × (legal_read (relations_of catalogue.now) (widths_of values.now) (read_node words.now) ≡ true) × Stand values.now out work.old }
+    ensures { NodeRun catalogue.now tables.now (read_node words.now) (widths_of values.now) (standing values.now work.old) out work.old work.new result }
 {
-    match decode_node(words) {
-        Decoded::Node(node) => {
-            let heavy = wide(weight(words[0]));
-            let width = width_of(catalogue, widths, node);
-            match make_value(
-                catalogue, tables, node, words, work, widths, rows, bases, out,
-            ) {
-                Placed::Rows(rows) => Made::Value { width, rows, heavy },
-                Placed::Full => Made::NoRoom,
-            }
-        }
-        Decoded::Illegal => Made::NoRoom,
-    }
+    let node = decode_node(words)?;
+    let heavy = weight(words[0]) as usize;
+    let left = value_at(values, node.left).width;
+    let beside = value_at(values, node.right).width;
+    let width = width_between(catalogue, node, left, beside);
+    let rows = make_value(catalogue, tables, node, words, work, values, out)?;
+    let value = Value {
+        base: out,
+        rows,
+        width,
+    };
+    Some(Made { value, heavy })
 }

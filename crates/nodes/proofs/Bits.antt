@@ -1,86 +1,31 @@
 -- Digits of masks, and the lowest set digit. Assumes nothing.
-use Prim.Native.Nat.{ℕ, suc, zero, ◌+◌, ◌*◌, ◌-◌, ◌/◌, ◌%◌, ◌^◌, ◌<◌, ◌≤◌, zero-le, suc-le-suc, min, max}
+use Prim.Native.Nat.{ℕ, suc, zero, ◌+◌, ◌*◌, ◌-◌, ◌/◌, ◌%◌, ◌^◌, ◌<◌, ◌≤◌, min, max}
 use mathlib.Core.Path.{◌≡◌, refl, sym, subst, ap, ◌∙◌}
 use mathlib.Core.List.{List, [], ◌∷◌, ◌++◌, append_assoc}
 use mathlib.Core.Bool.{Bool, true, false, cond, not}
-use mathlib.Core.Logic.{◌⊎◌, inl, inr, ⊎_elim}
+use mathlib.Core.Logic.{◌⊎◌, inl, inr}
 use native.Mathlib.Omega.{arith}
-use native.Mathlib.Nat.{mod-lt, mod-eq_of_lt, div-eq_of_lt, div_self, div-one, eq-or-lt_of_le, add-zero, one-mul}
+use native.Mathlib.Nat.{mod-eq_of_lt, div-one, add-zero, one-mul}
 use native.Mathlib.Numerals.{add-one}
-use lib.Arith.{digits_mod, dbl_pred}
-use lib.Pow.{pow_pos, pow-lt, pow-add, shl-shr, shr-shr, ones_split, ones_lt, high}
-use lib.Bits.{bit_and, bit_or, bit_xor, differ, and_shr, or_shr, xor_shr, and_step, or_step, xor_step, xor_add_and, and_mask, shifted_even}
+use lib.Pow.{pow-lt, shr-shr}
+use lib.Bits.{bit_and, bit_or, bit_xor}
 use lib.Count.{count_trailing_zeros, under}
 use lib.Dec.{eqb}
-use borrow.Author.Tests.{eq-eqb, ne_eqb}
+use mir.Syntax.{w64}
+use borrow.Author.Tests.{eqb-true, eqb-false, ne_eqb}
+use Rattle.std.specs.Int.{bit_at}
+use Rattle.std.proofs.lemmas.Nat.Bits.{bit_at-lt, bit_at-zero, bit_at_or, bit_at_and, bit_at_xor, bit_at_not, bit_at-pow_same, bit_at-pow_other, same_from_bits}
+use Rattle.relations.proofs.BoolLaws.{true_or_false}
 use Rattle.nodes.specs.References.{hit, seen, first_from, lowest, not_once, references_to}
 use Rattle.nodes.specs.Nodes.{node_at}
-use Rattle.nodes.specs.Marks.{bit, Stepped, Marks}
+use Rattle.nodes.specs.Marks.{Stepped, Marks}
 
-bit_lt : (x j : ℕ) → bit x j < 2
-bit_lt x j = mod-lt (x / 2 ^ j) (omega arith)
-
-differ_lt : (x y : ℕ) → x < 2 → y < 2 → differ x y < 2
-differ_lt zero y h k = k
-differ_lt (suc x) zero h k = h
-differ_lt (suc x) (suc y) h k = differ_lt x y (omega arith) (omega arith)
-
-pub bit_or_lem : (a b j : ℕ) → bit (bit_or a b) j ≡ max (bit a j) (bit b j)
-bit_or_lem a b j =
-    ap (λ (x : ℕ). x % 2) (or_shr a b j ∙ or_step (a / 2 ^ j) (b / 2 ^ j))
-    ∙ digits_mod _ (omega (arith, bit_lt a j, bit_lt b j))
-
-pub bit_and_lem : (a b j : ℕ) → bit (bit_and a b) j ≡ min (bit a j) (bit b j)
-bit_and_lem a b j =
-    ap (λ (x : ℕ). x % 2) (and_shr a b j ∙ and_step (a / 2 ^ j) (b / 2 ^ j))
-    ∙ digits_mod _ (omega (arith, bit_lt a j, bit_lt b j))
-
-pub bit_xor_lem : (a b j : ℕ) → bit (bit_xor a b) j ≡ differ (bit a j) (bit b j)
-bit_xor_lem a b j =
-    ap (λ (x : ℕ). x % 2) (xor_shr a b j ∙ xor_step (a / 2 ^ j) (b / 2 ^ j))
-    ∙ digits_mod _ (differ_lt (bit a j) (bit b j) (bit_lt a j) (bit_lt b j))
-
--- digit j of 2 ^ k
-pow_above : (d j : ℕ) → bit (2 ^ (suc d + j)) j ≡ 0
-pow_above d j =
-    ap (λ (x : ℕ). x / 2 ^ j % 2) (pow-add 2 (suc d) j) ∙ ap (λ (x : ℕ). x % 2) (shl-shr (2 ^ suc d) j)
-    ∙ ap (λ (x : ℕ). x % 2) (sym (one-mul (2 ^ suc d))) ∙ shifted_even 1 d
-
-pow_is : (j : ℕ) → bit (2 ^ j) j ≡ 1
-pow_is j = ap (λ (x : ℕ). x % 2) (div_self (pow_pos j))
-
-pow_below : (k j : ℕ) → k < j → bit (2 ^ k) j ≡ 0
-pow_below k j h = ap (λ (x : ℕ). x % 2) (div-eq_of_lt (pow-lt h))
-
-le_or_lt : (a b : ℕ) → (a ≤ b) ⊎ (b < a)
-le_or_lt zero b = inl zero-le
-le_or_lt (suc a) zero = inr (omega arith)
-le_or_lt (suc a) (suc b) = ⊎_elim (λ p. inl (suc-le-suc p)) (λ q. inr (suc-le-suc q)) (le_or_lt a b)
-
-pub bit_pow : (k j : ℕ) → bit (2 ^ k) j ≡ hit (suc k) j
-bit_pow k j =
-    ⊎_elim
-    (⊎_elim
-    (λ (e : k ≡ j). rw e (pow_is j ∙ sym (simp (eq-eqb (suc j) (suc j) refl))))
-    (λ (l : k < j). pow_below k j l ∙ sym (simp (ne_eqb (suc k) (suc j) (λ e. omega arith)))))
-    (λ (g : j < k). let e : k ≡ suc (k - suc j) + j = omega arith in
-    ap (λ (x : ℕ). bit (2 ^ x) j) e ∙ pow_above (k - suc j) j ∙ sym (simp (ne_eqb (suc k) (suc j) (λ e. omega arith))))
-    (⊎_elim (λ p. inl (eq-or-lt_of_le p)) inr (le_or_lt k j))
-
--- digit j of a word of ones, and of what is left of it
-ones_bit : (i j : ℕ) → bit (2 ^ (suc i + j) - 1) j ≡ 1
-ones_bit i j =
-    ap (λ (x : ℕ). x / 2 ^ j % 2) (ones_split (suc i) j) ∙ ap (λ (x : ℕ). x % 2) (high (2 ^ suc i - 1) j (ones_lt j))
-    ∙ ap (λ (x : ℕ). (x - 1) % 2) (ap (λ (y : ℕ). 2 ^ y) (sym (add-one i)) ∙ pow-add 2 i 1) ∙ ap (λ (x : ℕ). x % 2) (dbl_pred (pow_pos i)) ∙ digits_mod (2 ^ i - 1) (omega arith)
-
-not_is_xor : (k x : ℕ) → x < 2 ^ k → 2 ^ k - 1 - x ≡ bit_xor x (2 ^ k - 1)
-not_is_xor k x h = omega (arith, xor_add_and x (2 ^ k - 1), and_mask x k, mod-eq_of_lt h)
-
-pub bit_not : (k x j : ℕ) → x < 2 ^ k → j < k → bit (2 ^ k - 1 - x) j ≡ differ (bit x j) 1
-bit_not k x j h l =
-    let e : k ≡ suc (k - suc j) + j = omega arith in
-    ap (λ (y : ℕ). bit y j) (not_is_xor k x h) ∙ bit_xor_lem x (2 ^ k - 1) j
-    ∙ ap (differ (bit x j)) (ap (λ (y : ℕ). bit (2 ^ y - 1) j) e ∙ ones_bit (k - suc j) j)
+bit_pow : (k j : ℕ) → bit_at (2 ^ k) j ≡ hit (suc k) j
+bit_pow k j = go (true_or_false (eqb (suc k) (suc j)))
+  where
+    go : (eqb (suc k) (suc j) ≡ true) ⊎ (eqb (suc k) (suc j) ≡ false) → bit_at (2 ^ k) j ≡ hit (suc k) j
+    go (inl e) = let same : j ≡ k = omega (arith, eqb-true (suc k) (suc j) e) in rw (e, same) (bit_at-pow_same k)
+    go (inr e) = rw e (bit_at-pow_other k j (λ same. eqb-false (suc k) (suc j) e (omega arith)))
 
 -- the lowest set digit, as a search
 step : (b x r j : ℕ) → b < 2 → x + suc j ≡ r → under b x + j ≡ cond (eqb b 1) j r
@@ -88,11 +33,11 @@ step zero x r j h e = omega arith
 step (suc zero) x r j h e = omega arith
 step (suc (suc b)) x r j h e = absurd (omega arith)
 
-pub trailing : (k n j : ℕ) → count_trailing_zeros k (n / 2 ^ j) + j ≡ first_from (λ i. eqb (bit n i) 1) k j
+pub trailing : (k n j : ℕ) → count_trailing_zeros k (n / 2 ^ j) + j ≡ first_from (λ i. eqb (bit_at n i) 1) k j
 unfolding count_trailing_zeros first_from
 trailing zero n j = omega arith
 trailing (suc k) n j =
-    step (bit n j) _ _ j (bit_lt n j)
+    step (bit_at n j) _ _ j (bit_at-lt n j)
     (ap (λ (m : ℕ). count_trailing_zeros k m + suc j) (shr-shr n j 1 ∙ ap (λ (i : ℕ). n / 2 ^ i) (add-one j)) ∙ trailing k n (suc j))
 
 pub first_same : (p q : ℕ → Bool) (k j : ℕ) → ((i : ℕ) → i < j + k → p i ≡ q i) → first_from p k j ≡ first_from q k j
@@ -108,16 +53,13 @@ seen-append [] ys j = omega arith
 seen-append (x ∷ xs) ys j = omega (arith, seen-append xs ys j)
 
 -- a node is named exactly once where the two masks differ
-pub exactly : (s : ℕ) → eqb (differ (differ (min 1 s) (min 1 (s - 1))) 1) 1 ≡ not (eqb s 1)
+exactly : (s : ℕ) → eqb (1 - (min 1 s + min 1 (s - 1)) % 2) 1 ≡ not (eqb s 1)
 exactly zero = refl
 exactly (suc zero) = refl
 exactly (suc (suc s)) =
     let a : min 1 (suc (suc s)) ≡ 1 = omega arith in
     let b : min 1 (suc (suc s) - 1) ≡ 1 = omega arith in
     rw (a, b, ne_eqb (suc (suc s)) 1 (λ e. omega arith))
-
-zero_bit : (j : ℕ) → bit 0 j ≡ 0
-zero_bit j = ap (λ (x : ℕ). x % 2) (div-eq_of_lt (pow_pos j))
 
 hit_le : (w j : ℕ) → hit w j ≤ 1
 hit_le w j = elim (eqb w (suc j)) as (λ b. cond b 1 0 ≤ 1) [ true ↦ omega arith | false ↦ omega arith ]
@@ -131,10 +73,10 @@ skipped o t w e =
 pub stepped : (o t w b : ℕ) → 0 < w → b ≡ 2 ^ (w - 1) → Stepped o t w (bit_or o b) (bit_or t (bit_and o b))
 stepped o t w b p e =
     let q : suc (w - 1) ≡ w = omega arith in
-    let h : (j : ℕ) → bit b j ≡ hit w j = λ j. ap (λ (x : ℕ). bit x j) e ∙ bit_pow (w - 1) j ∙ ap (λ (x : ℕ). hit x j) q in
+    let h : (j : ℕ) → bit_at b j ≡ hit w j = λ j. ap (λ (x : ℕ). bit_at x j) e ∙ bit_pow (w - 1) j ∙ ap (λ (x : ℕ). hit x j) q in
     record {
-      once = λ j. bit_or_lem o b j ∙ ap (max (bit o j)) (h j);
-      twice = λ j. bit_or_lem t (bit_and o b) j ∙ ap (max (bit t j)) (bit_and_lem o b j ∙ ap (min (bit o j)) (h j));
+      once = λ j. bit_at_or o b j ∙ ap (max (bit_at o j)) (h j);
+      twice = λ j. bit_at_or t (bit_and o b) j ∙ ap (max (bit_at t j)) (bit_at_and o b j ∙ ap (min (bit_at o j)) (h j));
     }
 
 one_top : (h : ℕ) → max 1 (min 1 h) ≡ 1
@@ -177,7 +119,7 @@ marked_node {o''' = o'''} {t''' = t'''} words i m a b c =
 
 pub none_marked : Marks 0 0 []
 unfolding seen
-none_marked = record { once = λ j. zero_bit j; twice = λ j. zero_bit j }
+none_marked = record { once = λ j. bit_at-zero j; twice = λ j. bit_at-zero j }
 
 -- the place
 pub placed : (ws : List ℕ) (o t : ℕ) → bit_xor o t < 2 ^ 64 → Marks o t ws → count_trailing_zeros 64 (2 ^ 64 - 1 - bit_xor o t) ≡ lowest (not_once ws) 64
@@ -187,28 +129,16 @@ placed ws o t h m =
     a ∙ trailing 64 x 0
     ∙ first_same _ _ 64 0
     (λ i l. ap (λ (b : ℕ). eqb b 1)
-    (bit_not 64 (bit_xor o t) i h (omega arith)
-    ∙ ap (λ (d : ℕ). differ d 1) (bit_xor_lem o t i ∙ ap (λ (d : ℕ). differ d (bit t i)) (m.once i) ∙ ap (differ (min 1 (seen ws i))) (m.twice i)))
+    (bit_at_not w64 (bit_xor o t) i h (omega arith)
+    ∙ ap (λ (d : ℕ). 1 - d) (bit_at_xor o t i ∙ rw (m.once i, m.twice i)))
     ∙ exactly (seen ws i))
 
 pub one_shifted : (w : ℕ) → w ≤ 64 → 0 < w → 1 * 2 ^ (w - 1) % 18446744073709551616 ≡ 2 ^ (w - 1)
 one_shifted w h p = ap (λ (x : ℕ). x % 18446744073709551616) (one-mul (2 ^ (w - 1))) ∙ mod-eq_of_lt (pow-lt {i = w - 1} {j = 64} (omega arith))
 
--- Digits name a number: `see` and `see_all` promise one pair of masks.
-halved : (x j : ℕ) → bit (x / 2) j ≡ bit x (suc j)
-halved x j = let next : 1 + j ≡ suc j = omega arith in ap (λ (y : ℕ). y % 2) (shr-shr x 1 j ∙ ap (λ (i : ℕ). x / 2 ^ i) next)
-
-same_bits : (most a b : ℕ) → a ≤ most → b ≤ most → ((j : ℕ) → bit a j ≡ bit b j) → a ≡ b
-same_bits zero a b h k same = omega arith
-same_bits (suc most) a b h k same =
-    let halves : a / 2 ≡ b / 2 = same_bits most (a / 2) (b / 2) (omega arith) (omega arith) (λ j. halved a j ∙ same (suc j) ∙ sym (halved b j)) in
-    let last : a % 2 ≡ b % 2 = ap (λ (x : ℕ). x % 2) (sym (div-one a)) ∙ same 0 ∙ ap (λ (x : ℕ). x % 2) (div-one b) in
-    omega arith
-
+-- Digits name a number: `Seen::and` and `see_all` promise one pair of masks.
 pub one_stepped : (o t reference : ℕ) {o' t' o'' t'' : ℕ} → Stepped o t reference o' t' → Stepped o t reference o'' t'' → (o' ≡ o'') × (t' ≡ t'')
-one_stepped o t reference {o'} {t'} {o''} {t''} one other =
-    (same_bits (o' + o'') o' o'' (omega arith) (omega arith) (λ j. one.once j ∙ sym (other.once j)), same_bits (t' + t'') t' t'' (omega arith) (omega arith) (λ j. one.twice j ∙ sym (other.twice j)))
+one_stepped o t reference {o'} {t'} {o''} {t''} one other = (same_from_bits o' o'' (λ j. one.once j ∙ sym (other.once j)), same_from_bits t' t'' (λ j. one.twice j ∙ sym (other.twice j)))
 
 pub one_marks : (references : List ℕ) {o t o' t' : ℕ} → Marks o t references → Marks o' t' references → (o ≡ o') × (t ≡ t')
-one_marks references {o} {t} {o'} {t'} one other =
-    (same_bits (o + o') o o' (omega arith) (omega arith) (λ j. one.once j ∙ sym (other.once j)), same_bits (t + t') t t' (omega arith) (omega arith) (λ j. one.twice j ∙ sym (other.twice j)))
+one_marks references {o} {t} {o'} {t'} one other = (same_from_bits o o' (λ j. one.once j ∙ sym (other.once j)), same_from_bits t t' (λ j. one.twice j ∙ sym (other.twice j)))

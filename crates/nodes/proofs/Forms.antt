@@ -7,12 +7,11 @@ use Prim.Native.Nat.{ℕ, ◌*◌, ◌≤◌}
 use native.Mathlib.Omega.{arith}
 use lib.Dec.{ltb, leb, eqb}
 use lib.ListN.{get_or}
-use borrow.Author.Tests.{ltb-true, eqb-true}
+use borrow.Author.Tests.{ltb-true, leb-true, eqb-true}
 use Rattle.relations.specs.Limits.{column_limit, question_node_words, variable_count, operator_count}
 use Rattle.relations.proofs.BoolLaws.{and_left, and_right, and_both, or_cases, true_or_false}
 use Rattle.nodes.specs.Kinds.{is_of, fields_of, field_fits, words_fit, reference_in}
 use Rattle.nodes.specs.Nodes.{kind_named, form_of, node_at, word_of, OperandVariableFits, VariablesFit}
-use Rattle.nodes.proofs.Tests.{named_below}
 use Rattle.nodes.specs.declared.kinds.Sort.{Sort}
 use Rattle.nodes.specs.declared.kinds.Sort.TheVariants as sort
 use Rattle.nodes.specs.declared.kinds.Field.{Field}
@@ -81,7 +80,7 @@ operand_fits (Fixed constant) = true
 
 abbrev pub atom_fits : Atom → Bool
 atom_fits atom =
-    ltb atom.variable variable_count && leb 1 atom.attribute.0 && leb atom.attribute.0 column_limit && leb 1 atom.operator && leb atom.operator operator_count && operand_fits atom.operand
+    ltb atom.variable variable_count && leb 1 atom.attribute.0 && leb atom.attribute.0 column_limit && operand_fits atom.operand
 
 abbrev pub quantifier_fits : Quantifier → Bool
 quantifier_fits quantifier.Some = true
@@ -125,16 +124,12 @@ module _ (kind : ℕ → ℕ) where
   part-fits (Reference sort) word h = h
   part-fits (Optional sort) word h = h
 
--- the five tests of an atom, in the order of its words
-atom_tests : (v a b p q o : Bool) → (v && (a && b) && (p && q) && o) ≡ true → (v && a && b && p && q && o) ≡ true
+-- the tests of an atom, in the order of its words, but for those of its operator's number
+atom_tests : (v a b p q o : Bool) → (v && (a && b) && (p && q) && o) ≡ true → (v && a && b && o) ≡ true
 atom_tests v a b p q o h =
-    let left : (v && (a && b) && (p && q)) ≡ true = and_left (v && (a && b) && (p && q)) o h in
-    let x : (v && (a && b)) ≡ true = and_left (v && (a && b)) (p && q) left in
-    let y : (p && q) ≡ true = and_right (v && (a && b)) (p && q) left in
+    let x : (v && (a && b)) ≡ true = and_left (v && (a && b)) (p && q) (and_left (v && (a && b) && (p && q)) o h) in
     let z : (a && b) ≡ true = and_right v (a && b) x in
-    and_both (v && a && b && p && q) o
-    (and_both (v && a && b && p) q (and_both (v && a && b) p (and_both (v && a) b (and_both v a (and_left v (a && b) x) (and_left a b z)) (and_right a b z)) (and_left p q y)) (and_right p q y))
-    (and_right (v && (a && b) && (p && q)) o h)
+    and_both (v && a && b) o (and_both (v && a) b (and_both v a (and_left v (a && b) x) (and_left a b z)) (and_right a b z)) (and_right (v && (a && b) && (p && q)) o h)
 
 operand_tests : (l v a b : Bool) → (l && v && (a && b)) ≡ true → (l && (v && a && b)) ≡ true
 operand_tests l v a b h =
@@ -217,7 +212,7 @@ node_fits words i =
 pub lower : (words : List ℕ) (i reference : ℕ) (sort : ℕ → Bool) → sort 0 ≡ false → sort (kind_named words i reference) ≡ true → (1 ≤ reference) × (reference ≤ i)
 unfolding kind_named
 lower words i reference sort absent h =
-    ⊎_elim (λ e. named_below reference i e)
+    ⊎_elim (λ e. (leb-true 1 reference (and_left (leb 1 reference) (leb reference i) e), leb-true reference i (and_right (leb 1 reference) (leb reference i) e)))
     (λ e. absurd (true≢false (sym h ∙ rw e absent)))
     (true_or_false (leb 1 reference && leb reference i))
 
@@ -248,11 +243,9 @@ variables_fit (Combines combination) h = tt
 variables_fit (Compares atom) h =
     let v : Bool = ltb atom.variable variable_count in
     let a : Bool = leb 1 atom.attribute.0 in
-    let b : Bool = leb atom.attribute.0 column_limit in
-    let p : Bool = leb 1 atom.operator in
-    let q : Bool = leb atom.operator operator_count in (
-      ltb-true atom.variable variable_count (first_of v a b (first_of (v && a && b) p q (and_left (v && a && b && p && q) (operand_fits atom.operand) h))),
-      operand-variable atom.operand (and_right (v && a && b && p && q) (operand_fits atom.operand) h),
+    let b : Bool = leb atom.attribute.0 column_limit in (
+      ltb-true atom.variable variable_count (first_of v a b (and_left (v && a && b) (operand_fits atom.operand) h)),
+      operand-variable atom.operand (and_right (v && a && b) (operand_fits atom.operand) h),
     )
 variables_fit (Connects connective) h = tt
 variables_fit IllFormed h = tt

@@ -1,6 +1,9 @@
 -- Document 01, "The question": the node that six words spell, and its form (refusal 2). Assumes nothing.
 use Rattle.std.specs.Prelude.{ℕ, ◌+◌, ◌*◌, ◌-◌, ◌/◌, ◌<◌, List, Bool, true, false, cond, ◌&&◌, get_or, length, leb, eqb}
+use Rattle.relations.specs.Comparison as comparison
 use Rattle.relations.specs.Limits.{question_node_words, variable_count}
+use Rattle.terms.specs.declared.operator.Operator.{Operator}
+use Rattle.terms.specs.declared.operator.Operator.TheVariants.{Equal, NotEqual, Less, AtMost, Greater, AtLeast}
 use Rattle.nodes.specs.Kinds.{fields_of, words_fit, reference_in}
 use Rattle.nodes.specs.declared.node.Operand.{Operand}
 use Rattle.nodes.specs.declared.node.Operand.TheVariants.{Of, Fixed}
@@ -21,8 +24,17 @@ unfoldable pub kind_named : List ℕ → ℕ → ℕ → ℕ
 kind_named words i reference =
     cond (leb 1 reference && leb reference i) (get_or words ((reference - 1) * question_node_words) 0) 0
 
+-- the operator as the code has it
+abbrev pub coded : comparison.Operator → Operator
+coded comparison.equal = Equal
+coded comparison.not_equal = NotEqual
+coded comparison.less = Less
+coded comparison.at_most = AtMost
+coded comparison.greater = Greater
+coded comparison.at_least = AtLeast
+
 abbrev pub compares : (variable attribute operator : ℕ) → Operand → Form
-compares variable attribute operator operand = Compares (record { variable = variable; attribute = record { 0 = attribute }; operator = operator; operand = operand })
+compares variable attribute operator operand = Compares (record { variable = variable; attribute = record { 0 = attribute }; operator = coded (comparison.operator_named operator); operand = operand })
 
 -- the table of kinds: what the words of a kind say, but for the nodes that they name
 unfoldable pub form_of : (kind a b c d e : ℕ) → Form

@@ -2,13 +2,13 @@
 ghost use Rattle.std.specs.Prelude.{◌≡◌, ◌+◌, ◌*◌, ◌≤◌, length};
 ghost use Rattle.relations.specs.Limits.{question_node_words};
 ghost use Rattle.nodes.specs.Kinds.{field_fits};
-ghost use Rattle.nodes.specs.declared.node.Form.TheVariants.{Binds};
 ghost use Rattle.nodes.specs.Nodes.{kind_named, compares, form_of, node_at};
 
 use crate::kinds::{Field, fields_of, is_of, reference_in};
 use relations::limits::{ATTRIBUTES, OPERATORS, QUESTION_NODE_WORDS, VARIABLES};
 use terms::attribute::Attribute;
 use terms::constant::Constant;
+use terms::operator::Operator;
 
 #[derive(Clone, Copy)]
 pub enum Operand {
@@ -20,7 +20,7 @@ pub enum Operand {
 pub struct Atom {
     pub variable: u32,
     pub attribute: Attribute,
-    pub operator: u32,
+    pub operator: Operator,
     pub operand: Operand,
 }
 
@@ -75,7 +75,8 @@ pub enum Form {
     IllFormed,
 }
 
-// A reference is a node's number plus one; 0 names no node. No kind has one in d or e.
+// A reference is a node's number plus one; 0 names no node. No kind has one in d or e. It stays the word that document 01 has, and no Option:
+// `references_to`, question's `tree_of` and the theorems over them speak of that number.
 #[derive(Clone, Copy)]
 pub struct Node {
     pub form: Form,
@@ -85,15 +86,17 @@ pub struct Node {
 }
 
 // The kind of the node that a reference of node `i` names: 0, the kind of none, unless that node is lower.
+#[tactic(auto, unfolding(crate::specs::Nodes::kind_named))]
 fn kind_named(words: &[u32], i: usize, reference: u32) -> u32
     requires { i * question_node_words ≤ length words.now }
     ensures { result ≡ kind_named words.now i reference }
 {
     let named = reference as usize;
-    if (1 <= named) & (named <= i) {
-        return words[(named - 1) * QUESTION_NODE_WORDS];
+    if (1..=i).contains(&named) {
+        words[(named - 1) * QUESTION_NODE_WORDS]
+    } else {
+        0
     }
-    0
 }
 
 // A word is within its bounds, or names a lower node of its sort.
@@ -106,18 +109,12 @@ fn field_fits(words: &[u32], i: usize, field: Field, word: u32) -> bool
         Field::Number => true,
         Field::Positive => 1 <= word,
         Field::Variable => word < VARIABLES,
-        Field::Attribute => (1 <= word) & (word <= ATTRIBUTES),
+        Field::Attribute => (1..=ATTRIBUTES).contains(&word),
         Field::AttributeOrRow => word <= ATTRIBUTES,
-        Field::Operator => (1 <= word) & (word <= OPERATORS),
+        Field::Operator => (1..=OPERATORS).contains(&word),
         Field::Reference(sort) => is_of(sort, kind_named(words, i, word)),
-        Field::Optional(sort) => (word == 0) | is_of(sort, kind_named(words, i, word)),
+        Field::Optional(sort) => word == 0 || is_of(sort, kind_named(words, i, word)),
     }
-}
-
-fn binds(variable: u32, binder: Binder) -> Form
-    ensures { result ≡ Binds variable binder }
-{
-    Form::Binds { variable, binder }
 }
 
 fn compares(variable: u32, attribute: u32, operator: u32, operand: Operand) -> Form
@@ -126,12 +123,13 @@ fn compares(variable: u32, attribute: u32, operator: u32, operand: Operand) -> F
     Form::Compares(Atom {
         variable,
         attribute: Attribute(attribute),
-        operator,
+        operator: Operator::from(operator),
         operand,
     })
 }
 
 // What the words of a kind say.
+#[tactic(auto, unfolding(crate::specs::Nodes::form_of))]
 fn form_of(kind: u32, a: u32, b: u32, c: u32, d: u32, e: u32) -> Form
     ensures { result ≡ form_of kind a b c d e }
 {
@@ -142,7 +140,10 @@ fn form_of(kind: u32, a: u32, b: u32, c: u32, d: u32, e: u32) -> Form
             variable: a,
             attribute: Attribute(b),
         },
-        4 => binds(a, Binder::Binding),
+        4 => Form::Binds {
+            variable: a,
+            binder: Binder::Binding,
+        },
         5 => Form::Combines(Combination::Or),
         6 => Form::Combines(Combination::And),
         7 => Form::Combines(Combination::AndNot),
@@ -159,14 +160,24 @@ fn form_of(kind: u32, a: u32, b: u32, c: u32, d: u32, e: u32) -> Form
         10 => Form::Connects(Connective::And),
         11 => Form::Connects(Connective::Or),
         12 => Form::Connects(Connective::Not),
-        13 => binds(a, Binder::Quantifies(Quantifier::Some)),
-        14 => binds(a, Binder::Quantifies(Quantifier::Every)),
-        16 => binds(a, Binder::Quantifies(Quantifier::AtLeast(d))),
+        13 => Form::Binds {
+            variable: a,
+            binder: Binder::Quantifies(Quantifier::Some),
+        },
+        14 => Form::Binds {
+            variable: a,
+            binder: Binder::Quantifies(Quantifier::Every),
+        },
+        16 => Form::Binds {
+            variable: a,
+            binder: Binder::Quantifies(Quantifier::AtLeast(d)),
+        },
         _ => Form::IllFormed,
     }
 }
 
 // Node `i` of the question.
+#[tactic(auto, unfolding(crate::specs::Nodes::node_at))]
 pub fn decode(words: &[u32], i: usize) -> Node
     requires { i * question_node_words + question_node_words ≤ length words.now }
     ensures { result ≡ node_at words.now i }
@@ -179,29 +190,25 @@ pub fn decode(words: &[u32], i: usize) -> Node
     let d = words[at + 4];
     let e = words[at + 5];
     let fields = fields_of(kind);
-    let first = fields.a;
-    let second = fields.b;
-    let third = fields.c;
-    let fourth = fields.d;
-    let fifth = fields.e;
-    if field_fits(words, i, first, a)
-        & field_fits(words, i, second, b)
-        & field_fits(words, i, third, c)
-        & field_fits(words, i, fourth, d)
-        & field_fits(words, i, fifth, e)
+    if field_fits(words, i, fields.a, a)
+        && field_fits(words, i, fields.b, b)
+        && field_fits(words, i, fields.c, c)
+        && field_fits(words, i, fields.d, d)
+        && field_fits(words, i, fields.e, e)
     {
-        return Node {
+        Node {
             form: form_of(kind, a, b, c, d, e),
-            a: reference_in(first, a),
-            b: reference_in(second, b),
-            c: reference_in(third, c),
-        };
-    }
-    Node {
-        form: Form::IllFormed,
-        a: 0,
-        b: 0,
-        c: 0,
+            a: reference_in(fields.a, a),
+            b: reference_in(fields.b, b),
+            c: reference_in(fields.c, c),
+        }
+    } else {
+        Node {
+            form: Form::IllFormed,
+            a: 0,
+            b: 0,
+            c: 0,
+        }
     }
 }
 
@@ -209,6 +216,5 @@ pub fn form_at(words: &[u32], i: usize) -> Form
     requires { i * question_node_words + question_node_words ≤ length words.now }
     ensures { result ≡ (node_at words.now i).form }
 {
-    let node = decode(words, i);
-    node.form
+    decode(words, i).form
 }

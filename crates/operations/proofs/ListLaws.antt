@@ -1,18 +1,18 @@
 -- Columns of a row, and triples and pairs read one after another. Assumes nothing.
-use mathlib.Core.Path.{◌≡◌, refl, ◌∙◌}
-use mathlib.Core.List.{List}
+use mathlib.Core.Path.{◌≡◌, refl, ap, ◌∙◌}
+use mathlib.Core.List.{List, [], ◌∷◌, ◌++◌}
 use mathlib.Core.Option.{Option, some, none}
-use Prim.Native.Nat.{ℕ, zero, suc, ◌+◌, ◌-◌, ◌<◌}
+use Prim.Native.Nat.{ℕ, zero, suc, ◌+◌, ◌-◌, ◌*◌, ◌/◌, ◌≤◌, ◌<◌}
 use native.Mathlib.Nat.{add-zero}
 use native.Mathlib.Omega.{arith}
-use lib.ListN.{length, get_or, drop, get_or-eq_default}
-use lib.Seq.{get_or-drop}
+use lib.ListN.{length, get_or, take, drop, get_or-eq_default}
+use lib.Seq.{get_or-drop, length-take-le}
 use Rattle.relations.specs.Rows.{Row}
 use Rattle.terms.proofs.NumberLaws.{operator-named}
 use Rattle.relations.specs.Comparison.{Operator, operator_of}
 use Rattle.relations.specs.Columns.{Triple, word_at}
 use Rattle.relations.specs.PlanWords.{read_triples, triple_before}
-use Rattle.operations.specs.Lists.{triples_in}
+use Rattle.operations.specs.Lists.{first_triple, triples_in, triples_of}
 
 -- a column is the word one before its number, and 0 outside the row
 pub word_inside : (row : Row) (number : ℕ) → 0 < number → word_at row number ≡ get_or row (number - 1) 0
@@ -39,3 +39,28 @@ triples_read (suc count) list triples h = go (operator_of (get_or list 1 0)) ref
     go none e rest ih f k = let z : ◌≡◌ {A = ℕ} 0 1 = cc in absurd (omega arith)
     go (some o) e none ih f k = let z : ◌≡◌ {A = ℕ} 0 1 = cc in absurd (omega arith)
     go (some o) e (some rest) ih f k = rw (operator-named (get_or list 1 0) o e, ih rest f) (cc)
+
+-- the words of so many triples have these triples alone
+triples_cut : (count : ℕ) (list : List ℕ) → count * 3 ≤ length list → triples_in count (take (count * 3) list) ≡ triples_in count list
+triples_cut zero list h = refl
+triples_cut (suc count) [] h = absurd (omega arith)
+triples_cut (suc count) (a ∷ []) h = absurd (omega arith)
+triples_cut (suc count) (a ∷ b ∷ []) h = absurd (omega arith)
+triples_cut (suc count) (a ∷ b ∷ d ∷ list) h =
+    let e : suc count * 3 ≡ suc (suc (suc (count * 3))) = omega arith in
+    rw e (ap (λ (rest : List Triple). first_triple (a ∷ b ∷ d ∷ list) ∷ rest) (triples_cut count list (omega arith)))
+
+pub triples_alone : (count : ℕ) (list : List ℕ) → count * 3 ≤ length list → triples_of (take (count * 3) list) ≡ triples_in count list
+triples_alone count list h =
+    let many : length (take (count * 3) list) / 3 ≡ count = omega (arith, length-take-le (count * 3) list h) in rw many (triples_cut count list h)
+
+-- a turn of a loop over triples, and its end
+pub triples_next : (words rest : List ℕ) → length words ≡ 3 → triples_of (words ++ rest) ≡ first_triple words ∷ triples_of rest
+triples_next [] rest h = absurd (omega arith)
+triples_next (a ∷ []) rest h = absurd (omega arith)
+triples_next (a ∷ b ∷ []) rest h = absurd (omega arith)
+triples_next (a ∷ b ∷ d ∷ []) rest h = let e : suc (suc (suc (length rest))) / 3 ≡ suc (length rest / 3) = omega arith in rw e refl
+triples_next (a ∷ b ∷ d ∷ e ∷ words) rest h = absurd (omega arith)
+
+pub triples_none : (list : List ℕ) → length list < 3 → triples_of list ≡ []
+triples_none list h = let e : length list / 3 ≡ 0 = omega arith in rw e refl

@@ -1,48 +1,100 @@
--- A test's right value stands in front of what is made, so that it is the same at every turn of a loop. Assumes nothing.
-use mathlib.Core.Path.{◌≡◌, refl, ap₂}
-use mathlib.Core.List.{List, [], ◌∷◌}
-use Prim.Native.Nat.{ℕ, ◌+◌, ◌≤◌}
+-- Rows in front of a place that are kept or not by a test, and the value of those that are, in the words behind. Assumes nothing.
+use mathlib.Core.Path.{◌≡◌, refl, sym, ap, ap₂, ◌∙◌}
+use mathlib.Core.Bool.{Bool, true, false, cond}
+use mathlib.Core.List.{List, [], ◌∷◌, ◌++◌, append_assoc, append-nil}
+use Prim.Native.Nat.{ℕ, zero, suc, ◌+◌, ◌-◌, ◌*◌, ◌≤◌, ◌<◌}
 use native.Mathlib.Omega.{arith}
+use lib.ListN.{length, set, take, drop, length-drop, take-append-drop}
+use lib.Seq.{sets, length-take-le, get_or-take, ext_get_or}
+use native.Mathlib.Nat.{suc-mul}
+use Rattle.std.specs.Prelude.{Option, Some, None}
 use Rattle.relations.specs.Lists.{filter}
 use Rattle.relations.specs.Rows.{Row}
-use Rattle.relations.specs.Values.{Rows, Ascending}
-use Rattle.values.specs.Words.{row_in, rows_of, end}
+use Rattle.relations.specs.Values.{Rows}
+use Rattle.values.specs.Words.{part, rows_at, rows_of, words_of, end}
+use Rattle.values.specs.Building.{build, left_of, Builds}
 use Rattle.values.specs.declared.rows.Value.{Value}
-use Rattle.values.proofs.FillLaws.{Filled, filled_rows}
-use Rattle.operations.proofs.FillSteps.{filled_row}
-use Rattle.operations.specs.Tests.{right_of, keeps, Fits}
-use Rattle.operations.specs.declared.keep.Test.{Test}
-use Rattle.operations.specs.declared.keep.Test.TheVariants.{Constant, Attribute, In, NotIn}
+use Rattle.values.proofs.WordLaws.{length_part, get_d_part}
+use Rattle.values.proofs.RowsLaws.{rows_at_none}
+use Rattle.values.proofs.FillLaws.{Filled, filled_none, filled_wider, filled_on, filled_off, filled_end}
 
--- what a test fits is known by its form
-module _ (out : ℕ) (work : List ℕ) {test : Test} {right : Value} where
-  pub fits_in : test ≡ In right → Fits test out work → (end right ≤ out) × Ascending (rows_of right work)
-  fits_in e f = let g : Fits (In right) out work = rw e at f in g
+-- Of the rows of a value those in front of a number were kept or not, whatever test it is that the answers are of.
+pub record Kept (Says : (Row → Bool) → Type 0) (width made : ℕ) (whole rest : Rows) (before now : List ℕ) : Type 0 where
+  pub taken : Rows
+  pub filled : Filled width 0 0 made taken [] before now
+  pub same : (test : Row → Bool) → Says test → filter test whole ≡ taken ++ filter test rest
 
-  pub fits_not_in : test ≡ NotIn right → Fits test out work → (end right ≤ out) × Ascending (rows_of right work)
-  fits_not_in e f = let g : Fits (NotIn right) out work = rw e at f in g
+pub kept_start : (Says : (Row → Bool) → Type 0) (width : ℕ) (whole rest : Rows) (l : List ℕ) → whole ≡ rest → Kept Says width 0 whole rest l l
+kept_start Says width whole rest l e = record { taken = []; filled = filled_none width 0 [] l (omega arith); same = λ test says. ap (filter test) e }
 
-pub fits-later : (test : Test) (out later : ℕ) (work : List ℕ) → Fits test out work → out ≤ later → Fits test later work
-fits-later (Constant a o k) out later work f h = tt
-fits-later (Attribute a o b) out later work f h = tt
-fits-later (In right) out later work f h = (omega (arith, f.0), f.1)
-fits-later (NotIn right) out later work f h = (omega (arith, f.0), f.1)
+module _ {Says : (Row → Bool) → Type 0} {width made : ℕ} {whole rest : Rows} {before now : List ℕ} (k : Kept Says width made whole rest before now) where
+  pub kept_end : rest ≡ [] → (test : Row → Bool) → Says test → Builds width 0 0 (filter test whole) before now (Some made)
+  kept_end e test says = rw (k.same test says ∙ ap (λ (rows : Rows). k.taken ++ filter test rows) e ∙ append-nil k.taken) (filled_end k.filled refl)
 
-module _ {w out rows made : ℕ} {all todo : Rows} {before now : List ℕ} (f : Filled w out rows made all todo before now) where
-  -- a test's right value is as it was
-  pub right_now : (test : Test) → Fits test out before → right_of test now ≡ right_of test before
-  right_now (Constant a o k) h = refl
-  right_now (Attribute a o b) h = refl
-  right_now (In right) h = filled_rows f right.width right.rows right.base h.0
-  right_now (NotIn right) h = filled_rows f right.width right.rows right.base h.0
+  module _ {row : Row} (fewer : Rows) (first : rest ≡ row ∷ fewer) where
+    passed_by : (test : Row → Bool) → Says test → (b : Bool) → test row ≡ b → filter test whole ≡ k.taken ++ cond b (row ∷ filter test fewer) (filter test fewer)
+    passed_by test says b e = k.same test says ∙ ap (λ (rows : Rows). k.taken ++ filter test rows) first ∙ ap (λ (c : Bool). k.taken ++ cond c (row ∷ filter test fewer) (filter test fewer)) e
 
-  pub fits_now : (test : Test) → Fits test out before → Fits test out now
-  fits_now (Constant a o k) h = tt
-  fits_now (Attribute a o b) h = tt
-  fits_now (In right) h = (h.0, rw (filled_rows f right.width right.rows right.base h.0) h.1)
-  fits_now (NotIn right) h = (h.0, rw (filled_rows f right.width right.rows right.base h.0) h.1)
+    -- one that does not pass
+    pub kept_past : ((test : Row → Bool) → Says test → test row ≡ false) → Kept Says width made whole fewer before now
+    kept_past fails = record { taken = k.taken; filled = k.filled; same = λ test says. passed_by test says false (fails test says) }
 
-  -- the candidates of one left row, as they were
-  pub kept_now : (test : Test) (at width : ℕ) → Fits test out before → at + width ≤ out
-      → filter (keeps test (right_of test now)) (row_in now at width ∷ []) ≡ filter (keeps test (right_of test before)) (row_in before at width ∷ [])
-  kept_now test at width h k = ap₂ (λ (right : Rows) (row : Row). filter (keeps test right) (row ∷ [])) (right_now test h) (filled_row f at width k)
+    -- one that does, and is placed or has no room
+    module _ (yes : (test : Row → Bool) → Says test → test row ≡ true) {after : List ℕ} {r : Option ℕ} (g : Builds width 0 made (row ∷ []) now after r) where
+      pub kept_on : (n : ℕ) → r ≡ Some n → Kept Says width n whole fewer before after
+      kept_on n q = record {
+        taken = k.taken ++ (row ∷ []);
+        filled = filled_on (filled_wider k.filled (row ∷ [])) [] refl g n q;
+        same = λ test says. passed_by test says true (yes test says) ∙ sym (append_assoc k.taken (row ∷ []) (filter test fewer));
+      }
+
+      pub kept_off : r ≡ None → (test : Row → Bool) → Says test → Builds width 0 0 (filter test whole) before after None
+      kept_off q test says = rw (passed_by test says true (yes test says)) (filled_off (filled_wider k.filled (row ∷ filter test fewer)) (filter test fewer) refl g q)
+
+-- a store behind the front
+sets_cons : (x : ℕ) (l : List ℕ) (i : ℕ) (vs : List ℕ) → sets (x ∷ l) (suc i) vs ≡ x ∷ sets l i vs
+sets_cons x l i [] = refl
+sets_cons x l i (v ∷ vs) = sets_cons x (set l i v) (suc i) vs
+
+sets-behind : (front l vs : List ℕ) → sets (front ++ l) (length front) vs ≡ front ++ sets l 0 vs
+sets-behind [] l vs = refl
+sets-behind (x ∷ front) l vs = sets_cons x (front ++ l) (length front) vs ∙ ap (λ (m : List ℕ). x ∷ m) (sets-behind front l vs)
+
+-- what is built in the words behind a place is built from there on
+pub builds_behind : {w out : ℕ} {cs : Rows} (work : List ℕ) {behind after : List ℕ} {r : Option ℕ} → out ≤ length work → after ≡ take out work ++ behind → Builds w 0 0 cs (drop out work) behind r → Builds w out 0 cs work after r
+builds_behind {w} {out} {cs} work {behind} {after} {r} inside e g =
+    let none : rows_at w 0 0 (drop out work) ≡ rows_at w 0 out work = rows_at_none w 0 (drop out work) ∙ sym (rows_at_none w out work) in
+    let room : length (drop out work) - 0 ≡ length work - out = omega (arith, length-drop out work) in
+    let same : build (length (drop out work) - 0) cs (rows_at w 0 0 (drop out work)) ≡ build (length work - out) cs (rows_at w 0 out work) = ap₂ (λ (n : ℕ) (v : Rows). build n cs v) room none in
+    let vs : List ℕ = words_of (left_of (build (length work - out) cs (rows_at w 0 out work))) in
+    let at_out : length (take out work) ≡ out = length-take-le out work inside in
+    record {
+      answers = rw same at g.answers;
+      words = e ∙ ap (λ (l : List ℕ). take out work ++ l) (rw same at g.words) ∙ sym (sets-behind (take out work) (drop out work) vs)
+          ∙ ap₂ (λ (l : List ℕ) (n : ℕ). sets l n vs) (take-append-drop out work) at_out;
+      wide = rw same at g.wide;
+    }
+
+-- and the rows in front of it are those of the front
+part_front : (a w out : ℕ) (l : List ℕ) → a + w ≤ out → out ≤ length l → part a w (take out l) ≡ part a w l
+part_front a w out l h k =
+    let size : length (take out l) ≡ out = length-take-le out l k in
+    ext_get_or 0 (part a w (take out l)) (part a w l) (length_part a w (take out l) (omega arith) ∙ sym (length_part a w l (omega arith)))
+    (λ i j. let low : i < w = omega (arith, length_part a w (take out l) (omega arith)) in
+    get_d_part a w (take out l) i low ∙ get_or-take out l (a + i) 0 (omega arith) ∙ sym (get_d_part a w l i low))
+
+rows_at_front : (w n a out : ℕ) (l : List ℕ) → a + n * w ≤ out → out ≤ length l → rows_at w n a (take out l) ≡ rows_at w n a l
+unfolding rows_at
+rows_at_front w zero a out l h k = refl
+rows_at_front w (suc n) a out l h k =
+    let e : suc n * w ≡ n * w + w = suc-mul n w in
+    rw (part_front a w out l (omega arith) k, rows_at_front w n (a + w) out l (omega arith) k)
+
+pub rows_front : (value : Value) (out : ℕ) (work : List ℕ) {front : List ℕ} → end value ≤ out → out ≤ length work → front ≡ take out work → rows_of value front ≡ rows_of value work
+rows_front value out work h k e = ap (rows_of value) e ∙ rows_at_front value.width value.rows value.base out work h k
+
+pub split_built : (left : Value) (out : ℕ) (work : List ℕ) (test : Row → Bool) {front back behind : List ℕ} {r : Option ℕ} → end left ≤ out → out ≤ length work → front ≡ take out work → back ≡ drop out work
+    → Builds left.width 0 0 (filter test (rows_of left front)) back behind r → Builds left.width out 0 (filter test (rows_of left work)) work (front ++ behind) r
+split_built left out work test {front} {back} {behind} {r} h k e f g =
+    let there : Builds left.width 0 0 (filter test (rows_of left work)) (drop out work) behind r = rw (rows_front left out work h k e, f) at g in
+    builds_behind work k (ap (λ (l : List ℕ). l ++ behind) e) there

@@ -2,3 +2,4 @@
 pub mod Lists
 pub mod Aside
 pub mod Tests
+pub mod Passing

@@ -1,5 +1,5 @@
 -- What the code's triples and pairs stand for, and how they are read from a node's list words.
-use Rattle.std.specs.Prelude.{List, [], ◌∷◌, ℕ, zero, suc, get_or, drop}
+use Rattle.std.specs.Prelude.{List, [], ◌∷◌, ℕ, zero, suc, ◌/◌, length, get_or, drop}
 use Rattle.relations.specs.Comparison.{operator_named}
 use Rattle.relations.specs.Columns as columns
 use Rattle.terms.specs.Terms.{attribute_in, operator_in}
@@ -23,3 +23,7 @@ first_pair list = record { left = columns.attribute (get_or list 0 0); right = c
 abbrev pub triples_in : ℕ → List ℕ → List columns.Triple
 triples_in zero list = []
 triples_in (suc count) list = first_triple list ∷ triples_in count (drop 3 list)
+
+-- all triples of list words that have no others
+abbrev pub triples_of : List ℕ → List columns.Triple
+triples_of list = triples_in (length list / 3) list

@@ -5,7 +5,7 @@ ghost use Rattle.terms.specs.Terms.{attribute_in};
 ghost use Rattle.operations.specs.Lists.{triple_in, pair_in, first_triple, first_pair};
 
 use terms::attribute::Attribute;
-use terms::operator::{Operator, operator_of};
+use terms::operator::Operator;
 
 // The list of a node that has none.
 pub const NO_WORDS: [u32; 0] = [];
@@ -25,18 +25,21 @@ pub struct Pair {
     pub right: Attribute,
 }
 
-// The word of a row at an attribute, 0 where the row has no such column.
+// The word of a row at a column's number, 0 where the row has no such column.
+pub fn word_at(row: &[u32], number: usize) -> u32
+    ensures { result ≡ meaning.word_at row.now number }
+{
+    match number.checked_sub(1) {
+        Some(place) => row.get(place).copied().unwrap_or(0),
+        None => 0,
+    }
+}
+
+// The word of a row at an attribute.
 pub fn column_of(row: &[u32], attribute: Attribute) -> u32
     ensures { result ≡ meaning.column row.now (attribute_in attribute) }
 {
-    let number = attribute.0 as usize;
-    if number == 0 {
-        return 0;
-    }
-    if row.len() < number {
-        return 0;
-    }
-    row[number - 1]
+    word_at(row, attribute.0 as usize)
 }
 
 // The triple that starts at the word `at` of the list.
@@ -46,7 +49,7 @@ pub fn triple_at(list: &[u32], at: usize) -> Triple
 {
     Triple {
         left: Attribute(list[at]),
-        operator: operator_of(list[at + 1]),
+        operator: Operator::from(list[at + 1]),
         right: Attribute(list[at + 2]),
     }
 }

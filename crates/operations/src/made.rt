@@ -8,18 +8,15 @@ ghost use Rattle.operations.specs.Aside.{aside};
 use crate::columns::column_of;
 use relations::limits::COLUMNS;
 use terms::attribute::Attribute;
-use values::placing::write_row;
 
 // The listed columns of a row.
-pub fn picked_row(columns: &[u32], count: usize, row: &[u32]) -> [u32; COLUMNS]
-    requires { (count ≤ column_limit) × (count ≤ length columns.now) }
-    ensures { result ≡ aside (meaning.pick (map meaning.attribute (take count columns.now)) row.now) }
+pub fn picked_row(columns: &[u32], row: &[u32]) -> [u32; COLUMNS]
+    requires { length columns.now ≤ column_limit }
+    ensures { result ≡ aside (meaning.pick (map meaning.attribute columns.now) row.now) }
 {
     let mut made = [0u32; COLUMNS];
-    let mut i: usize = 0;
-    while i < count {
-        made[i] = column_of(row, Attribute(columns[i]));
-        i += 1;
+    for (i, column) in columns.iter().enumerate() {
+        made[i] = column_of(row, Attribute(*column));
     }
     made
 }
@@ -36,7 +33,7 @@ pub fn pair_row(
     ensures { result ≡ aside (row_in work.now left width ++ row_in work.now right more) }
 {
     let mut made = [0u32; COLUMNS];
-    write_row(work, &mut made, false, left, width, 0);
-    write_row(work, &mut made, false, right, more, width);
+    made[..width].copy_from_slice(&work[left..left + width]);
+    made[width..width + more].copy_from_slice(&work[right..right + more]);
     made
 }

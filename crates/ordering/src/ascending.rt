@@ -5,7 +5,6 @@ ghost use Rattle.values.specs.Words.{rows_of, end};
 ghost use Rattle.values.specs.Building.{Blank, Makes};
 ghost use Rattle.ordering.specs.Offering.{neighbours_ascend};
 
-use values::placing::{Placed, write_row};
 use values::rows::{Value, row};
 use values::search::stands_before;
 
@@ -14,18 +13,10 @@ pub fn ascends(words: &[u32], value: Value) -> bool
     requires { end value ≤ length words.now }
     ensures { result ≡ neighbours_ascend value words.now }
 {
-    let base = value.base;
-    let rows = value.rows;
     let width = value.width;
-    if rows == 0 {
-        return true;
-    }
-    let mut left = rows - 1;
-    while 0 < left {
-        left -= 1;
-        let at = base + left * width;
-        let next = at + width;
-        if !stands_before(words, at, width, row(words, words, true, next, width)) {
+    for next in (1..value.rows).rev() {
+        let at = value.base + next * width;
+        if !stands_before(words, at - width, width, row(words, words, true, at, width)) {
             return false;
         }
     }
@@ -33,17 +24,14 @@ pub fn ascends(words: &[u32], value: Value) -> bool
 }
 
 // The value of rows that ascend: their words, copied at once.
-pub fn copy_ascending(tables: &[u32], work: &mut [u32], stored: Value, out: usize) -> Placed
+pub fn copy_ascending(tables: &[u32], work: &mut [u32], stored: Value, out: usize) -> Option<usize>
     requires { Ascending (rows_of stored tables.now) × (end stored ≤ length tables.now) × (out ≤ length work.old) × Blank out work.old }
     ensures { Makes stored.width out (rows_of stored tables.now) work.old work.new result }
 {
-    let base = stored.base;
-    let rows = stored.rows;
-    let width = stored.width;
-    let words = rows * width;
+    let words = stored.rows * stored.width;
     if work.len() - out < words {
-        return Placed::Full;
+        return None;
     }
-    write_row(tables, work, false, base, words, out);
-    Placed::Rows(rows)
+    work[out..out + words].copy_from_slice(&tables[stored.base..stored.base + words]);
+    Some(stored.rows)
 }

@@ -6,27 +6,30 @@ ghost use Rattle.relations.specs.Operations.{load_candidates, project_candidates
 ghost use Rattle.values.specs.Words.{rows_of, end};
 ghost use Rattle.values.specs.Building.{Blank, Makes};
 ghost use Rattle.ordering.specs.Offering as spec;
+ghost use Rattle.ordering.specs.Offering.{PicksOf};
 
 use crate::ascending::{ascends, copy_ascending};
 use crate::taking::take_rows;
 use operations::columns::NO_WORDS;
-use sort_columns::columns::{Picks, wide};
-use values::placing::Placed;
+use sort_columns::columns::{Picks, Projection};
 use values::rows::Value;
 
 // Operation 1: all columns of the stored rows.
-pub fn load(tables: &[u32], work: &mut [u32], stored: Value, out: usize) -> Placed
+pub fn load(tables: &[u32], work: &mut [u32], stored: Value, out: usize) -> Option<usize>
     requires { (0 < stored.width) × (end stored ≤ length tables.now) × (out ≤ length work.old) × Blank out work.old }
     ensures { Makes stored.width out (load_candidates (rows_of stored tables.now)) work.old work.new result }
 {
     if ascends(tables, stored) {
-        return copy_ascending(tables, work, stored, out);
+        copy_ascending(tables, work, stored, out)
+    } else {
+        let from = Projection {
+            tables,
+            in_work: false,
+            value: stored,
+            picks: Picks::First(stored.width),
+        };
+        take_rows(&from, work, out)
     }
-    let picks = Picks {
-        leading: true,
-        count: stored.width,
-    };
-    take_rows(tables, &NO_WORDS, picks, work, false, stored, out)
 }
 
 // Whether the list names the first columns of rows of that width, in their order.
@@ -37,23 +40,43 @@ fn leads(list: &[u32], count: usize, width: usize) -> bool
     if width < count {
         return false;
     }
-    let mut left = count;
-    while 0 < left {
-        let number = wide(list[left - 1]);
-        if number != left {
+    for i in (0..count).rev() {
+        if list[i] as usize != i + 1 {
             return false;
         }
-        left -= 1;
     }
     true
 }
 
+// The listed columns of rows of that width, in the work area: where they are its first ones in their order, as such.
+fn picks_of<'a>(list: &'a [u32], count: usize, width: usize) -> Picks<'a>
+    requires { (0 < count) × (count ≤ column_limit) × (count ≤ length list.now) }
+    ensures { PicksOf list.now count width result }
+{
+    if leads(list, count, width) {
+        Picks::First(count)
+    } else {
+        Picks::Listed(&list[..count])
+    }
+}
+
 // Operation 2: the listed columns of the rows of a value.
-pub fn project(list: &[u32], count: usize, work: &mut [u32], left: Value, out: usize) -> Placed
+pub fn project(
+    list: &[u32],
+    count: usize,
+    work: &mut [u32],
+    left: Value,
+    out: usize,
+) -> Option<usize>
     requires { (0 < count) × (count ≤ column_limit) × (count ≤ length list.now) × (end left ≤ out) × (out ≤ length work.old) × Blank out work.old }
     ensures { Makes count out (project_candidates (map meaning.attribute (take count list.now)) (rows_of left work.old)) work.old work.new result }
 {
-    let leading = leads(list, count, left.width);
-    let picks = Picks { leading, count };
-    take_rows(&NO_WORDS, list, picks, work, true, left, out)
+    let picks = picks_of(list, count, left.width);
+    let from = Projection {
+        tables: &NO_WORDS,
+        in_work: true,
+        value: left,
+        picks,
+    };
+    take_rows(&from, work, out)
 }

@@ -13,6 +13,7 @@ use Rattle.relations.specs.Columns.{Triple, meets}
 use Rattle.relations.proofs.BoolLaws.{true_or_false}
 use Rattle.relations.proofs.ListLaws.{any_same, filter_same}
 use Rattle.partners.specs.Sieves.{sifts, Sieve}
+use Rattle.partners.specs.declared.sieve.Entry.{Entry}
 
 -- so many rows, and the rest
 pub times_rest : (m n w : ℕ) → m ≤ n → m * w + (n - m) * w ≡ n * w
@@ -33,9 +34,9 @@ any_by_filter : (test : Row → Bool) (rows others : Rows) → filter test rows 
 any_by_filter test rows others e = any-kept test rows ∙ ap (any (λ row. true)) e ∙ sym (any-kept test others)
 
 -- what a sieve lets through of some rows that have all those of others, told by the triples
-module _ {triples : List Triple} {left : Row} {entries : ℕ} {sieve : List ℕ} (made : Sieve triples left entries sieve) (rows others : Rows) (all : filter (sifts entries sieve) rows ≡ filter (sifts entries sieve) others) where
-  pub any_through : any (sifts entries sieve) others ≡ any (meets triples left) rows
-  any_through = sym (any_by_filter (sifts entries sieve) rows others all) ∙ any_same (sifts entries sieve) (meets triples left) made.same rows
+module _ {triples : List Triple} {left : Row} {sieve : List Entry} (made : Sieve triples left sieve) (rows others : Rows) (all : filter (sifts sieve) rows ≡ filter (sifts sieve) others) where
+  pub any_through : any (sifts sieve) others ≡ any (meets triples left) rows
+  any_through = sym (any_by_filter (sifts sieve) rows others all) ∙ any_same (sifts sieve) (meets triples left) made.same rows
 
-  pub filter_through : filter (sifts entries sieve) others ≡ filter (meets triples left) rows
-  filter_through = sym all ∙ filter_same (sifts entries sieve) (meets triples left) made.same rows
+  pub filter_through : filter (sifts sieve) others ≡ filter (meets triples left) rows
+  filter_through = sym all ∙ filter_same (sifts sieve) (meets triples left) made.same rows

@@ -4,3 +4,4 @@
 pub mod bounds;
 pub mod finding;
 pub mod sieve;
+pub mod words;

@@ -1,33 +1,27 @@
 -- The judgement of one node, and of a plan from left to right. Assumes nothing.
-use Prim.Native.Nat.{ℕ, zero, suc, ◌+◌, ◌-◌, ◌/◌, ◌%◌, ◌≤◌, ◌<◌}
+use Prim.Native.Nat.{ℕ, zero, suc, ◌+◌, ◌-◌, ◌*◌, ◌/◌, ◌%◌, ◌≤◌, ◌<◌}
 use mathlib.Core.Path.{◌≡◌, refl, sym, ap, ◌∙◌}
-use mathlib.Core.Bool.{Bool, true, false, not, ◌||◌}
+use mathlib.Core.Bool.{true, false}
 use mathlib.Core.List.{List, [], ◌∷◌, ◌++◌}
-use mathlib.Core.Option.{Option, some, none}
+use mathlib.Core.Option.{some}
 use native.Mathlib.Omega.{arith}
 use native.Mathlib.Numerals.{add-one}
-use lib.Dec.{leb, eqb}
-use lib.ListN.{length, take, drop, set}
-use lib.Seq.{drop-drop, take-suc-set, length-take-le}
-use borrow.Author.Tests.{eq-eqb, le-leb, leb-true}
-use Rattle.relations.specs.Limits.{column_limit, plan_node_limit, plan_node_words}
+use lib.ListN.{length, take, drop, set, length-set, length-append}
+use lib.Seq.{take-suc-set, take_at, drop_at, length-take-le}
+use borrow.Author.Tests.{eq-eqb, le-leb}
+use Rattle.relations.specs.Limits.{plan_node_limit, plan_node_words}
 use Rattle.relations.specs.Nodes as nodes
 use Rattle.relations.specs.Nodes.{load, project, select_constant, select_attribute, join, semijoin, antijoin, divide, unite, intersect, subtract, tally, loading, projecting, selecting_constant, selecting_attribute, joining, semijoining, antijoining, dividing, uniting, intersecting, subtracting, tallying, operation_number}
 use Rattle.relations.specs.Plan.{width_at, width_of_node}
-use Rattle.relations.specs.Legality.{legal_triples, legal_node}
+use Rattle.relations.specs.Legality.{legal_node}
 use Rattle.relations.specs.PlanWords.{read_node}
-use Rattle.relations.proofs.BoolLaws.{and_right}
 use Rattle.catalogue.specs.Stored.{relations_of, columns_of}
-use Rattle.plan_reading.specs.Decoding.{operation_in, Head, node_head, plan_head, head_read}
-use Rattle.plan_reading.specs.Judging.{legal_read, judged_node, onward, judge_plan_nodes, plan_judgement, PlanNumbers, plan_numbers, judged_plan}
+use Rattle.plan_reading.specs.Decoding.{Head, node_head, plan_head, head_read}
+use Rattle.plan_reading.specs.Judging.{legal_read, judged_node, PlanJudgement, illegal_at, onward, judge_plan_nodes, plan_judgement, PlanNumbers, plan_numbers, judged_plan}
 use Rattle.plan_reading.specs.Steps.{HeadOfLegal, WidthOfHead}
-use Rattle.plan_reading.specs.declared.nodes.Operation.{Operation}
-use Rattle.plan_reading.specs.declared.nodes.Operation.TheVariants.{Join}
 use Rattle.plan_reading.specs.declared.nodes.PlanNode.{PlanNode}
-use Rattle.plan_reading.specs.declared.judging.Width.TheVariants.{Of, Illegal as NoWidth}
-use Rattle.plan_reading.specs.declared.judging.PlanJudgement.{PlanJudgement}
-use Rattle.plan_reading.specs.declared.judging.PlanJudgement.TheVariants.{Legal, Illegal}
-use Rattle.plan_reading.proofs.DecodeLaws.{Stands}
+use Rattle.std.specs.Prelude.{Some, None, Ok, Err}
+use Rattle.plan_reading.proofs.DecodeLaws.{Stands, stands}
 
 -- One node.
 
@@ -67,57 +61,23 @@ width_made_lem columns made (tally left right least) = refl
 pub width_by : (columns : ℕ → ℕ) (made : List ℕ) (head : Head) → WidthOfHead columns made head (head_width columns made head)
 width_by columns made head node is = ap (head_width columns made) (sym is) ∙ sym (width_made_lem columns made node)
 
--- an arm of `width_of`: what is made by its operation
-pub width_arm : (columns : ℕ → ℕ) (made : List ℕ) (plan : PlanNode) (operation : Operation) → plan.operation ≡ operation → {width : ℕ}
-    → width ≡ width_made columns (operation_in operation) plan.left plan.count (width_at made plan.left) (width_at made plan.right) → WidthOfHead columns made (plan_head plan) width
-width_arm columns made plan operation o e node is =
-    e ∙ ap (λ (o : Operation). width_made columns (operation_in o) plan.left plan.count (width_at made plan.left) (width_at made plan.right)) (sym o) ∙ width_by columns made (plan_head plan) node is
+-- what `judge_node` knows of a decoded node: what judging it answers, legal or not
+module _ (catalogue made words : List ℕ) (plan : PlanNode) (size : length words ≡ plan_node_words) (read : head_read (read_node words) ≡ some (plan_head plan)) where
+  stood : Stands words plan
+  stood = stands words plan size read
 
--- a legal join is within the column limit, so that its width is no overflow
-abbrev join_fits : List ℕ → Head → Bool
-join_fits made head = not (eqb (operation_number head.operation) 5) || leb (width_at made head.left + width_at made head.right) column_limit
+  pub head_of_legal : legal_read (relations_of catalogue) made (read_node words) ≡ true → HeadOfLegal (relations_of catalogue) made (plan_head plan)
+  head_of_legal h = (stood.node, stood.is, rw stood.read at h)
 
-join-fits : (relations : ℕ) (made : List ℕ) (node : nodes.Node) → legal_node relations made node ≡ true → join_fits made (node_head node) ≡ true
-join-fits relations made (load relation) h = refl
-join-fits relations made (project left attributes) h = refl
-join-fits relations made (select_constant left a operator c) h = refl
-join-fits relations made (select_attribute left a operator b) h = refl
-join-fits relations made (join left right triples) h = and_right (legal_triples made left right triples) (leb (width_at made left + width_at made right) column_limit) h
-join-fits relations made (semijoin left right triples) h = refl
-join-fits relations made (antijoin left right triples) h = refl
-join-fits relations made (divide left right pairs) h = refl
-join-fits relations made (unite left right) h = refl
-join-fits relations made (intersect left right) h = refl
-join-fits relations made (subtract left right) h = refl
-join-fits relations made (tally left right least) h = refl
+  pub judged_legal : legal_read (relations_of catalogue) made (read_node words) ≡ true → {width : ℕ} → WidthOfHead (columns_of catalogue) made (plan_head plan) width → judged_node catalogue made (read_node words) ≡ Some width
+  judged_legal h is =
+      let legal : legal_node (relations_of catalogue) made stood.node ≡ true = rw stood.read at h in
+      ap (judged_node catalogue made) stood.read ∙ rw legal (ap Some (sym (is stood.node stood.is)))
 
-pub join-narrow : (relations : ℕ) (made : List ℕ) (plan : PlanNode) → HeadOfLegal relations made (plan_head plan) → plan.operation ≡ Join → width_at made plan.left + width_at made plan.right ≤ column_limit
-join-narrow relations made plan legal o =
-    let fits : join_fits made (plan_head plan) ≡ true = ap (join_fits made) (sym legal.1) ∙ join-fits relations made legal.0 legal.2 in
-    leb-true (width_at made plan.left + width_at made plan.right) column_limit (rw o at fits)
-
-module _ (catalogue made words : List ℕ) where
-  module _ (plan : PlanNode) (stood : Stands words plan) where
-    legal_node_lem : legal_read (relations_of catalogue) made (read_node words) ≡ true → legal_node (relations_of catalogue) made stood.node ≡ true
-    legal_node_lem h = rw stood.read at h
-
-    pub head_of_legal : legal_read (relations_of catalogue) made (read_node words) ≡ true → HeadOfLegal (relations_of catalogue) made (plan_head plan)
-    head_of_legal h = (stood.node, stood.is, legal_node_lem h)
-
-    pub judged_legal : legal_read (relations_of catalogue) made (read_node words) ≡ true → {width : ℕ} → WidthOfHead (columns_of catalogue) made (plan_head plan) width → judged_node catalogue made (read_node words) ≡ Of width
-    judged_legal h is = ap (judged_node catalogue made) stood.read ∙ rw (legal_node_lem h) (ap Of (sym (is stood.node stood.is)))
-
-    pub judged_illegal : legal_read (relations_of catalogue) made (read_node words) ≡ false → judged_node catalogue made (read_node words) ≡ NoWidth
-    judged_illegal h =
-        let legal : legal_node (relations_of catalogue) made stood.node ≡ false = rw stood.read at h in
-        ap (judged_node catalogue made) stood.read ∙ rw legal
-
-  pub judged_nothing : head_read (read_node words) ≡ none → judged_node catalogue made (read_node words) ≡ NoWidth
-  judged_nothing e = go (read_node words) e
-    where
-      go : (read : Option nodes.Node) → head_read read ≡ none → judged_node catalogue made read ≡ NoWidth
-      go none e = refl
-      go (some node) e = let z : ◌≡◌ {A = ℕ} 0 1 = cc in absurd (omega arith)
+  pub judged_illegal : legal_read (relations_of catalogue) made (read_node words) ≡ false → judged_node catalogue made (read_node words) ≡ None
+  judged_illegal h =
+      let legal : legal_node (relations_of catalogue) made stood.node ≡ false = rw stood.read at h in
+      ap (judged_node catalogue made) stood.read ∙ rw legal
 
 -- A plan.
 
@@ -127,21 +87,45 @@ unfolding judge_plan_nodes
 judge_step catalogue zero made words h = absurd (omega arith)
 judge_step catalogue (suc left) made words h = let less : suc left - 1 ≡ left = omega arith in rw less
 
--- the widths before `place` are the front of a table
-module _ (catalogue widths : List ℕ) (place : ℕ) (plan : List ℕ) (at left : ℕ) where
-  pub judge_onward : (width : ℕ) → 0 < left → place < length widths → judged_node catalogue (take place widths) (read_node (take plan_node_words (drop at plan))) ≡ Of width
-      → judge_plan_nodes catalogue left (take place widths) (drop at plan) ≡ judge_plan_nodes catalogue (left - 1) (take (place + 1) (set widths place width)) (drop (at + plan_node_words) plan)
-  judge_onward width more room judged =
-      judge_step catalogue left (take place widths) (drop at plan) more
-      ∙ rw (judged, add-one place, take-suc-set widths place width room, drop-drop plan_node_words at plan)
+-- The loop over a plan: the whole plan is judged as the words that are left are, given the widths of the nodes before them, which are the front of the table.
+pub record JudgedSoFar (catalogue plan widths : List ℕ) (nodes place : ℕ) (left : List ℕ) : Type 0 where
+  pub table : length widths ≡ plan_node_limit
+  pub places : place ≤ nodes
+  pub size : length left ≡ (nodes - place) * plan_node_words
+  pub judged : judge_plan_nodes catalogue nodes [] plan ≡ judge_plan_nodes catalogue (nodes - place) (take place widths) left
 
-  pub judge_stopped : 0 < left → place ≤ length widths → judged_node catalogue (take place widths) (read_node (take plan_node_words (drop at plan))) ≡ NoWidth
-      → judge_plan_nodes catalogue left (take place widths) (drop at plan) ≡ Illegal place
-  judge_stopped more room judged = judge_step catalogue left (take place widths) (drop at plan) more ∙ rw (judged, length-take-le place widths room)
+module _ (catalogue plan widths : List ℕ) (nodes place : ℕ) (few : nodes ≤ plan_node_limit) where
+  -- one turn: a node's words are in front of the others
+  module _ (words behind : List ℕ) (size : length words ≡ plan_node_words) (sofar : JudgedSoFar catalogue plan widths nodes place (words ++ behind)) where
+    front : take plan_node_words (words ++ behind) ≡ words
+    front = take_at words behind plan_node_words size
 
-  pub judge_ended : left ≤ 0 → place ≤ length widths → judge_plan_nodes catalogue left (take place widths) (drop at plan) ≡ Legal place
+    more : place < nodes
+    more = omega (arith, sofar.size, length-append words behind)
+
+    pub judge_onward : (width : ℕ) → judged_node catalogue (take place widths) (read_node words) ≡ Some width → JudgedSoFar catalogue plan (set widths place width) nodes (place + 1) behind
+    judge_onward width judged =
+        let less : nodes - place - 1 ≡ nodes - (place + 1) = omega arith in
+        let room : place < length widths = omega (arith, sofar.table, more) in
+        record {
+          table = length-set widths place width ∙ sofar.table;
+          places = omega (arith, more);
+          size = omega (arith, sofar.size, more, length-append words behind);
+          judged = sofar.judged ∙ judge_step catalogue (nodes - place) (take place widths) (words ++ behind) (omega (arith, more)) ∙ rw (front, judged, less, add-one place, take-suc-set widths place width room, drop_at words behind plan_node_words size);
+        }
+
+    pub judge_stopped : judged_node catalogue (take place widths) (read_node words) ≡ None → judge_plan_nodes catalogue nodes [] plan ≡ illegal_at place
+    judge_stopped judged =
+        sofar.judged
+        ∙ judge_step catalogue (nodes - place) (take place widths) (words ++ behind) (omega (arith, more))
+        ∙ rw (front, judged, length-take-le place widths (omega (arith, sofar.table, sofar.places)))
+
+  pub judge_ended : (left : List ℕ) → JudgedSoFar catalogue plan widths nodes place left → length left < plan_node_words → judge_plan_nodes catalogue nodes [] plan ≡ Ok nodes
   unfolding judge_plan_nodes
-  judge_ended done room = let empty : left ≡ 0 = omega arith in rw (empty, length-take-le place widths room)
+  judge_ended left sofar short =
+      let none : nodes - place ≡ 0 = omega (arith, sofar.size) in
+      let all : place ≡ nodes = omega (arith, sofar.places) in
+      sofar.judged ∙ rw (none, length-take-le place widths (omega (arith, sofar.table, sofar.places))) (ap Ok all)
 
 pub judge_sized : (catalogue plan : List ℕ) → length plan % plan_node_words ≡ 0 → 1 ≤ length plan / plan_node_words → length plan / plan_node_words ≤ plan_node_limit
     → plan_judgement catalogue plan ≡ judge_plan_nodes catalogue (length plan / plan_node_words) [] plan
@@ -149,10 +133,10 @@ judge_sized catalogue plan whole least few = rw (eq-eqb (length plan % plan_node
 
 -- The numbers of an answer name it: `judge_plan` promises one answer.
 pub one_plan_judgement : (one other : PlanJudgement) → plan_numbers one ≡ plan_numbers other → one ≡ other
-one_plan_judgement (Legal nodes) (Legal others) e = ap Legal (ap (λ (n : PlanNumbers). n.nodes) e)
-one_plan_judgement (Legal nodes) (Illegal place) e = let never : ◌≡◌ {A = ℕ} 0 9 = ap (λ (n : PlanNumbers). n.status) e in absurd (omega arith)
-one_plan_judgement (Illegal place) (Legal nodes) e = let never : ◌≡◌ {A = ℕ} 9 0 = ap (λ (n : PlanNumbers). n.status) e in absurd (omega arith)
-one_plan_judgement (Illegal place) (Illegal other) e = ap Illegal (ap (λ (n : PlanNumbers). n.place) e)
+one_plan_judgement (Ok nodes) (Ok others) e = ap Ok (ap (λ (n : PlanNumbers). n.nodes) e)
+one_plan_judgement (Ok nodes) (Err at) e = let never : ◌≡◌ {A = ℕ} 0 9 = ap (λ (n : PlanNumbers). n.status) e in absurd (omega arith)
+one_plan_judgement (Err at) (Ok nodes) e = let never : ◌≡◌ {A = ℕ} 9 0 = ap (λ (n : PlanNumbers). n.status) e in absurd (omega arith)
+one_plan_judgement (Err at) (Err other) e = ap illegal_at (ap (λ (n : PlanNumbers). n.place) e)
 
 -- for a caller that met one of the cases
 pub plan_judged : (catalogue plan : List ℕ) {answer found : PlanJudgement} → plan_numbers answer ≡ judged_plan catalogue plan → answer ≡ found → plan_judgement catalogue plan ≡ found

@@ -3,7 +3,8 @@ use Prim.Native.Nat.{ℕ, zero, suc, ◌+◌, ◌*◌, ◌/◌, ◌%◌, ◌≤�
 use mathlib.Core.Path.{◌≡◌, refl, sym, ap, ap₂, subst, ◌∙◌}
 use mathlib.Core.Bool.{Bool, true, false, cond, ◌&&◌, So}
 use mathlib.Core.List.{List, [], ◌∷◌, ◌++◌}
-use mathlib.Core.Option.{Option, some, none}
+use mathlib.Core.Option as maybe
+use mathlib.Core.Option.{some, none}
 use native.Mathlib.Omega.{arith}
 use native.Mathlib.Nat.{add_comm, suc-mul, div-add-mod', zero-add, add-zero}
 use lib.Dec.{eqb}
@@ -21,19 +22,11 @@ use Rattle.relations.proofs.BoolLaws.{and_left, and_right, and_both}
 use Rattle.relations.proofs.LegalityLaws.{legal-count}
 use Rattle.relations.proofs.PlanWordsOnly.{words_and_back}
 use Rattle.catalogue.specs.Stored.{relations_of, columns_of}
-use Rattle.plan_reading.specs.Judging.{legal_read, judged_node, onward, judge_plan_nodes, size_ok, plan_judgement, nodes_in, nodes_of_plan, node_words_at, LowestIllegal, JudgedExactly}
-use Rattle.plan_reading.specs.declared.judging.Width.TheVariants.{Of, Illegal as NoWidth}
-use Rattle.plan_reading.specs.declared.judging.PlanJudgement.{PlanJudgement}
-use Rattle.plan_reading.specs.declared.judging.PlanJudgement.TheVariants.{Legal, Illegal}
+use Rattle.plan_reading.specs.Judging.{legal_read, judged_node, PlanNumbers, plan_numbers, PlanJudgement, illegal_at, onward, judge_plan_nodes, size_ok, plan_judgement, nodes_in, nodes_of_plan, node_words_at, LowestIllegal, JudgedExactly}
+use Rattle.std.specs.Prelude.{Some, None, Ok}
 
-illegal-place : {at place : ℕ} → Illegal at ≡ Illegal place → at ≡ place
-illegal-place e = cc
-
-legal-illegal {ℓ} : {C : Type ℓ} {place count : ℕ} → Legal count ≡ Illegal place → C
-legal-illegal e = let z : ◌≡◌ {A = ℕ} 0 1 = cc in absurd (omega arith)
-
-illegal-legal {ℓ} : {C : Type ℓ} {place count : ℕ} → Illegal place ≡ Legal count → C
-illegal-legal e = let z : ◌≡◌ {A = ℕ} 0 1 = cc in absurd (omega arith)
+illegal-place : {at place : ℕ} → illegal_at at ≡ illegal_at place → at ≡ place
+illegal-place e = ap (λ (n : PlanNumbers). n.place) (ap plan_numbers e)
 
 module _ (catalogue : List ℕ) where
   -- the first of the nodes that are judged legal, and the judgement of the others
@@ -41,22 +34,22 @@ module _ (catalogue : List ℕ) where
     pub node : nodes.Node
     pub read : read_node (take plan_node_words words) ≡ some node
     pub legal : So (legal_node (relations_of catalogue) made node)
-    pub others : judge_plan_nodes catalogue count (made ++ (width_of_node (columns_of catalogue) made node ∷ [])) (drop plan_node_words words) ≡ Legal total
+    pub others : judge_plan_nodes catalogue count (made ++ (width_of_node (columns_of catalogue) made node ∷ [])) (drop plan_node_words words) ≡ Ok total
 
-  pub legal-first : (count : ℕ) (made words : List ℕ) (total : ℕ) → judge_plan_nodes catalogue (suc count) made words ≡ Legal total → LegalFirst count made words total
+  pub legal-first : (count : ℕ) (made words : List ℕ) (total : ℕ) → judge_plan_nodes catalogue (suc count) made words ≡ Ok total → LegalFirst count made words total
   unfolding judge_plan_nodes
   legal-first count made words total e = go (read_node (take plan_node_words words)) refl e
     where
       next : ℕ → PlanJudgement
       next = λ width. judge_plan_nodes catalogue count (made ++ (width ∷ [])) (drop plan_node_words words)
 
-      go : (read : Option nodes.Node) → read_node (take plan_node_words words) ≡ read → onward (judged_node catalogue made read) (length made) next ≡ Legal total → LegalFirst count made words total
-      go none read e = illegal-legal e
+      go : (read : maybe.Option nodes.Node) → read_node (take plan_node_words words) ≡ read → onward (judged_node catalogue made read) (length made) next ≡ Ok total → LegalFirst count made words total
+      go none read e = absurd cc
       go (some node) read e = judged (legal_node (relations_of catalogue) made node) refl e
         where
-          judged : (legal : Bool) → legal_node (relations_of catalogue) made node ≡ legal → onward (cond legal (Of (width_of_node (columns_of catalogue) made node)) NoWidth) (length made) next ≡ Legal total → LegalFirst count made words total
+          judged : (legal : Bool) → legal_node (relations_of catalogue) made node ≡ legal → onward (cond legal (Some (width_of_node (columns_of catalogue) made node)) None) (length made) next ≡ Ok total → LegalFirst count made words total
           judged true legal e = record { node = node; read = read; legal = legal; others = e }
-          judged false legal e = illegal-legal e
+          judged false legal e = absurd cc
 
   record Sound (count : ℕ) (made words : List ℕ) (total : ℕ) : Type 0 where
     legal : So (legal_nodes (columns_of catalogue) (relations_of catalogue) made (nodes_in count words))
@@ -64,7 +57,7 @@ module _ (catalogue : List ℕ) where
     many : length (nodes_in count words) ≡ count
     counted : total ≡ length made + count
 
-  sound-nodes : (count : ℕ) (made words : List ℕ) (total : ℕ) → length words ≡ count * plan_node_words → judge_plan_nodes catalogue count made words ≡ Legal total → Sound count made words total
+  sound-nodes : (count : ℕ) (made words : List ℕ) (total : ℕ) → length words ≡ count * plan_node_words → judge_plan_nodes catalogue count made words ≡ Ok total → Sound count made words total
   unfolding judge_plan_nodes nodes_in legal_nodes
   sound-nodes zero made [] total size e = let is : length made ≡ total = cc in record { legal = refl; written = refl; many = refl; counted = omega arith }
   sound-nodes zero made (word ∷ words) total size e = absurd (omega arith)
@@ -85,13 +78,13 @@ module _ (catalogue : List ℕ) where
       }
 
   record Complete (made : List ℕ) (plan : List nodes.Node) : Type 0 where
-    judged : judge_plan_nodes catalogue (length plan) made (flat node_words plan) ≡ Legal (length made + length plan)
+    judged : judge_plan_nodes catalogue (length plan) made (flat node_words plan) ≡ Ok (length made + length plan)
     back : nodes_in (length plan) (flat node_words plan) ≡ plan
     size : length (flat node_words plan) ≡ length plan * plan_node_words
 
   complete-nodes : (made : List ℕ) (plan : List nodes.Node) → So (legal_nodes (columns_of catalogue) (relations_of catalogue) made plan) → Complete made plan
   unfolding judge_plan_nodes nodes_in legal_nodes
-  complete-nodes made [] h = record { judged = ap Legal (sym (add-zero (length made))); back = refl; size = refl }
+  complete-nodes made [] h = record { judged = ap Ok (sym (add-zero (length made))); back = refl; size = refl }
   complete-nodes made (node ∷ plan) h =
       let width : ℕ = width_of_node (columns_of catalogue) made node in
       let legal : So (legal_node (relations_of catalogue) made node) = and_left (legal_node (relations_of catalogue) made node) (legal_nodes (columns_of catalogue) (relations_of catalogue) (made ++ (width ∷ [])) plan) h in
@@ -103,7 +96,7 @@ module _ (catalogue : List ℕ) where
       let read : read_node (take plan_node_words (node_words node ++ flat node_words plan)) ≡ some node = ap read_node front ∙ words_and_back.back node fits in
       let more : length (made ++ (width ∷ [])) + length plan ≡ length made + suc (length plan) = omega (arith, length-append made (width ∷ [])) in
       record {
-        judged = rw (read, legal, behind) (rest.judged ∙ ap Legal more);
+        judged = rw (read, legal, behind) (rest.judged ∙ ap Ok more);
         back = rw (read, behind) (ap (λ (others : List nodes.Node). node ∷ others) rest.back);
         size = length-append (node_words node) (flat node_words plan) ∙ omega (arith, own, rest.size, suc-mul (length plan) plan_node_words);
       }
@@ -116,26 +109,26 @@ module _ (catalogue : List ℕ) where
     many : length (nodes_in nodes-before words) ≡ nodes-before
     illegal : legal_read (relations_of catalogue) (run (width_of_node (columns_of catalogue)) made (nodes_in nodes-before words)) (read_node (node_words_at words nodes-before)) ≡ false
 
-  first-illegal : (count : ℕ) (made words : List ℕ) (place : ℕ) → judge_plan_nodes catalogue count made words ≡ Illegal place → Behind made words place
+  first-illegal : (count : ℕ) (made words : List ℕ) (place : ℕ) → judge_plan_nodes catalogue count made words ≡ illegal_at place → Behind made words place
   unfolding judge_plan_nodes nodes_in legal_nodes run
-  first-illegal zero made words place e = legal-illegal e
+  first-illegal zero made words place e = absurd cc
   first-illegal (suc count) made words place e =
       go (read_node (take plan_node_words words)) refl (λ width e. first-illegal count (made ++ (width ∷ [])) (drop plan_node_words words) place e) e
     where
       next : ℕ → PlanJudgement
       next = λ width. judge_plan_nodes catalogue count (made ++ (width ∷ [])) (drop plan_node_words words)
 
-      here : legal_read (relations_of catalogue) made (read_node (take plan_node_words words)) ≡ false → Illegal (length made) ≡ Illegal place → Behind made words place
+      here : legal_read (relations_of catalogue) made (read_node (take plan_node_words words)) ≡ false → illegal_at (length made) ≡ illegal_at place → Behind made words place
       here bad e =
           let at : length made ≡ place = illegal-place e in
           record { nodes-before = 0; placed = omega arith; legal = refl; many = refl; illegal = bad }
 
-      go : (read : Option nodes.Node) → read_node (take plan_node_words words) ≡ read → ((width : ℕ) → next width ≡ Illegal place → Behind (made ++ (width ∷ [])) (drop plan_node_words words) place)
-          → onward (judged_node catalogue made read) (length made) next ≡ Illegal place → Behind made words place
+      go : (read : maybe.Option nodes.Node) → read_node (take plan_node_words words) ≡ read → ((width : ℕ) → next width ≡ illegal_at place → Behind (made ++ (width ∷ [])) (drop plan_node_words words) place)
+          → onward (judged_node catalogue made read) (length made) next ≡ illegal_at place → Behind made words place
       go none read deeper e = here (rw read) e
       go (some node) read deeper e = judged (legal_node (relations_of catalogue) made node) refl e
         where
-          judged : (legal : Bool) → legal_node (relations_of catalogue) made node ≡ legal → onward (cond legal (Of (width_of_node (columns_of catalogue) made node)) NoWidth) (length made) next ≡ Illegal place → Behind made words place
+          judged : (legal : Bool) → legal_node (relations_of catalogue) made node ≡ legal → onward (cond legal (Some (width_of_node (columns_of catalogue) made node)) None) (length made) next ≡ illegal_at place → Behind made words place
           judged false legal e = here (rw (read, legal)) e
           judged true legal e =
               let width : ℕ = width_of_node (columns_of catalogue) made node in
@@ -156,9 +149,9 @@ module _ (catalogue : List ℕ) where
   judged_exactly = record { sound = λ words count e. by_size words count (eqb (length words % plan_node_words) 0 && between 1 plan_node_limit (length words / plan_node_words)) refl e; complete = complete; lowest = lowest }
     where
       by_size : (words : List ℕ) (count : ℕ) (good : Bool) → (eqb (length words % plan_node_words) 0 && between 1 plan_node_limit (length words / plan_node_words)) ≡ good
-          → cond good (judge_plan_nodes catalogue (length words / plan_node_words) [] words) (Illegal 0) ≡ Legal count
+          → cond good (judge_plan_nodes catalogue (length words / plan_node_words) [] words) (illegal_at 0) ≡ Ok count
           → So (legal_plan (columns_of catalogue) (relations_of catalogue) (nodes_of_plan words)) × (flat node_words (nodes_of_plan words) ≡ words) × (length (nodes_of_plan words) ≡ count)
-      by_size words count false good e = illegal-legal e
+      by_size words count false good e = absurd cc
       by_size words count true good e =
           let n : ℕ = length words / plan_node_words in
           let whole : length words % plan_node_words ≡ 0 = eqb-true (length words % plan_node_words) 0 (and_left (eqb (length words % plan_node_words) 0) (between 1 plan_node_limit n) good) in
@@ -171,15 +164,15 @@ module _ (catalogue : List ℕ) where
             omega (arith, found.many, found.counted),
           )
 
-      complete : (plan : List nodes.Node) → So (legal_plan (columns_of catalogue) (relations_of catalogue) plan) → (plan_judgement catalogue (flat node_words plan) ≡ Legal (length plan)) × (nodes_of_plan (flat node_words plan) ≡ plan)
+      complete : (plan : List nodes.Node) → So (legal_plan (columns_of catalogue) (relations_of catalogue) plan) → (plan_judgement catalogue (flat node_words plan) ≡ Ok (length plan)) × (nodes_of_plan (flat node_words plan) ≡ plan)
       complete plan h =
           let few : So (between 1 plan_node_limit (length plan)) = and_left (between 1 plan_node_limit (length plan)) (legal_nodes (columns_of catalogue) (relations_of catalogue) [] plan) h in
           let found : Complete [] plan = complete-nodes [] plan (and_right (between 1 plan_node_limit (length plan)) (legal_nodes (columns_of catalogue) (relations_of catalogue) [] plan) h) in
           let many : length (flat node_words plan) / plan_node_words ≡ length plan = omega (arith, found.size) in
           let whole : eqb (length (flat node_words plan) % plan_node_words) 0 ≡ true = eq-eqb (length (flat node_words plan) % plan_node_words) 0 (omega (arith, found.size)) in
-          (rw (whole, many, few) (found.judged ∙ ap Legal (zero-add (length plan))), rw many found.back)
+          (rw (whole, many, few) (found.judged ∙ ap Ok (zero-add (length plan))), rw many found.back)
 
-      lowest : (words : List ℕ) (place : ℕ) → size_ok words ≡ true → plan_judgement catalogue words ≡ Illegal place → LowestIllegal catalogue words place
+      lowest : (words : List ℕ) (place : ℕ) → size_ok words ≡ true → plan_judgement catalogue words ≡ illegal_at place → LowestIllegal catalogue words place
       lowest words place good e =
           let found : Behind [] words place = first-illegal (length words / plan_node_words) [] words place (rw good at e) in
           let at : found.nodes-before ≡ place = omega (arith, found.placed) in

@@ -1,6 +1,7 @@
 -- What the decoder's numbers and cases stand for: the operations, shapes and nodes of relations.
-use Rattle.std.specs.Prelude.{ℕ, zero, suc, ◌+◌, Bool, List, [], ◌∷◌, get_or, drop}
-use Rattle.std.proofs.Math.Option.{Option, some, none, map}
+use Rattle.std.specs.Prelude.{ℕ, zero, suc, ◌+◌, Bool, not, ◌||◌, List, [], ◌∷◌, eqb, get_or, drop, Option, Some, None}
+use Rattle.std.proofs.Math.Option as maybe
+use Rattle.std.proofs.Math.Option.{some, none, map}
 use Rattle.relations.specs.Limits.{head_words, operator_count}
 use Rattle.relations.specs.Lists.{all}
 use Rattle.relations.specs.Legality.{between}
@@ -11,8 +12,6 @@ use Rattle.relations.specs.PlanWords.{shape_of, shape_fits, parts_of}
 use Rattle.plan_reading.specs.declared.nodes.Operation.{Operation}
 use Rattle.plan_reading.specs.declared.nodes.Operation.TheVariants.{Load, Project, SelectConstant, SelectAttribute, Join, Semijoin, Antijoin, Divide, Unite, Intersect, Subtract, Tally}
 use Rattle.plan_reading.specs.declared.nodes.PlanNode.{PlanNode}
-use Rattle.plan_reading.specs.declared.nodes.Decoded.{Decoded}
-use Rattle.plan_reading.specs.declared.nodes.Decoded.TheVariants.{Node, Illegal}
 use Rattle.plan_reading.specs.declared.nodes.Shape.{Shape}
 
 -- `count` words, the first in front and each `step` behind the one before it
@@ -35,6 +34,11 @@ operation_in Intersect = intersecting
 operation_in Subtract = subtracting
 operation_in Tally = tallying
 
+-- of what `operation_of` answers
+abbrev pub operation_known : Option Operation → maybe.Option nodes.Operation
+operation_known None = none
+operation_known (Some operation) = some (operation_in operation)
+
 abbrev pub shape_in : Shape → words.Shape
 shape_in s = record { uses_right = s.right; least_count = s.least; most_count = s.most; unit = s.unit }
 
@@ -45,6 +49,10 @@ fits operation words = shape_fits (shape_of operation) (get_or words 2 0) (get_o
 -- every triple's operator is 1 to 6
 abbrev pub operators_known : List ℕ → Bool
 operators_known words = all (between 1 operator_count) (spaced 3 (get_or words 3 0) (drop (head_words + 1) words))
+
+-- that, of an operation whose list has operators: one of triples
+abbrev pub operators_fit : nodes.Operation → List ℕ → Bool
+operators_fit operation words = not (eqb (shape_of operation).unit 3) || operators_known words
 
 abbrev pub head_in : Operation → List ℕ → PlanNode
 head_in operation words = record { operation = operation; left = get_or words 1 0; right = get_or words 2 0; count = get_or words 3 0 }
@@ -65,9 +73,9 @@ abbrev pub plan_head : PlanNode → Head
 plan_head plan = record { operation = operation_in plan.operation; left = plan.left; right = plan.right; count = plan.count }
 
 -- of what `decode_node` answers, and of what the words read as: none where that is no node
-abbrev pub head_decoded : Decoded → Option Head
-head_decoded Illegal = none
-head_decoded (Node plan) = some (plan_head plan)
+abbrev pub head_decoded : Option PlanNode → maybe.Option Head
+head_decoded None = none
+head_decoded (Some plan) = some (plan_head plan)
 
-abbrev pub head_read : Option nodes.Node → Option Head
+abbrev pub head_read : maybe.Option nodes.Node → maybe.Option Head
 head_read read = map node_head read

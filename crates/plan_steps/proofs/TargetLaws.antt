@@ -16,8 +16,9 @@ use Rattle.nodes.specs.Kinds.{is_target}
 use Rattle.nodes.specs.declared.node.Form.TheVariants.{Target as TargetForm}
 use Rattle.nodes.proofs.Forms.{lower_if_any}
 use Rattle.conditions.specs.Readings.{Inside, targets_at}
+use Rattle.conditions.specs.declared.scope.Scope.{Scope as Carried}
 use Rattle.conditions.specs.Scopes.{scope_of, ScopeFits}
-use Rattle.conditions.proofs.Readings.{made, fits_in, targets_is, targets_none}
+use Rattle.conditions.proofs.Readings.{made, fits_in, targets_is}
 use Rattle.emission.specs.NodeLists.{node_list, grown_by, numbers_of}
 use Rattle.emission.specs.declared.node_list.NodeList.{NodeList}
 use Rattle.emission.proofs.NodeListLaws.{numbers-append, grown_used, grown_step, grown_none, grown-list}
@@ -30,17 +31,17 @@ pub one_target : (variable number : ℕ) → (number ≡ 0 → ⊥) → target_o
 one_target variable zero h = absurd (h refl)
 one_target variable (suc n) h = refl
 
-abbrev columns_of_targets : (words scope : List ℕ) → ℕ → List Attribute
+abbrev columns_of_targets : (words : List ℕ) (scope : Carried) → ℕ → List Attribute
 columns_of_targets words scope reference = flat (target_columns (scope_of scope)) (targets_at words reference)
 
 -- the targets from a reference on are still to be listed, and then all are
-pub record TargetsLeft (words scope : List ℕ) (whole reference : ℕ) (list : NodeList) : Type 0 where
+pub record TargetsLeft (words : List ℕ) (scope : Carried) (whole reference : ℕ) (list : NodeList) : Type 0 where
   pub inside : Inside words reference
   pub good : All (GoodTarget (scope_of scope)) (targets_at words reference)
   pub few : list.used + length (columns_of_targets words scope reference) ≤ list_words
   pub rest : grown_by list (numbers_of (columns_of_targets words scope reference)) ≡ node_list (numbers_of (columns_of_targets words scope whole))
 
-pub targets_start : {words scope : List ℕ} {reference : ℕ} {list : NodeList} → TargetsReady words reference scope → list ≡ node_list [] → TargetsLeft words scope reference reference list
+pub targets_start : {words : List ℕ} {scope : Carried} {reference : ℕ} {list : NodeList} → TargetsReady words reference scope → list ≡ node_list [] → TargetsLeft words scope reference reference list
 targets_start {words} {scope} {reference} {list} r e =
     let columns : List Attribute = columns_of_targets words scope reference in
     record {
@@ -50,7 +51,7 @@ targets_start {words} {scope} {reference} {list} r e =
       rest = grown-list (numbers_of columns) e refl (omega (arith, r.few, length-map columns (λ (a : Attribute). a.number)));
     }
 
-module _ {words scope : List ℕ} {whole reference : ℕ} {list : NodeList} (left : TargetsLeft words scope whole reference list) where
+module _ {words : List ℕ} {scope : Carried} {whole reference : ℕ} {list : NodeList} (left : TargetsLeft words scope whole reference list) where
   -- the next node is a target
   module _ {variable number a b next : ℕ} (named : 1 ≤ reference) (e : made (TargetForm variable (record { 0 = number })) a b next ≡ node_at words (reference - 1)) where
     abbrev here : List Attribute
@@ -84,19 +85,5 @@ module _ {words scope : List ℕ} {whole reference : ℕ} {list : NodeList} (lef
         }
 
   -- it is none
-  none_left : targets_at words reference ≡ [] → list ≡ node_list (numbers_of (columns_of_targets words scope whole))
+  pub none_left : targets_at words reference ≡ [] → list ≡ node_list (numbers_of (columns_of_targets words scope whole))
   none_left e = sym (grown_none list) ∙ ap (λ (ts : List Target). grown_by list (numbers_of (flat (target_columns (scope_of scope)) ts))) (sym e) ∙ left.rest
-
-  pub targets_end : targets_at words reference ≡ [] → TargetsLeft words scope whole 0 list
-  targets_end e =
-      let none : targets_at words 0 ≡ [] = targets_none words refl in
-      let size : length (columns_of_targets words scope 0) ≡ 0 = ap (λ (ts : List Target). length (flat (target_columns (scope_of scope)) ts)) none in
-      record {
-        inside = omega arith;
-        good = subst (All (GoodTarget (scope_of scope))) (sym none) tt;
-        few = omega (arith, left.few, size);
-        rest = ap (λ (ts : List Target). grown_by list (numbers_of (flat (target_columns (scope_of scope)) ts))) none ∙ grown_none list ∙ none_left e;
-      }
-
-  pub targets-done : reference ≡ 0 → list ≡ node_list (numbers_of (columns_of_targets words scope whole))
-  targets-done e = none_left (targets_none words e)

@@ -21,20 +21,17 @@ pub enum Wanted {
 pub fn is_opposite(wanted: Wanted) -> bool
     ensures { result ≡ opposite_wanted wanted }
 {
-    match wanted {
-        Wanted::Itself => false,
-        Wanted::Opposite => true,
-        Wanted::Division { y: _, k: _ } => false,
-    }
+    matches!(wanted, Wanted::Opposite)
 }
 
 pub fn opposite_if(test: bool) -> Wanted
     ensures { result ≡ opposite_if test }
 {
     if test {
-        return Wanted::Opposite;
+        Wanted::Opposite
+    } else {
+        Wanted::Itself
     }
-    Wanted::Itself
 }
 
 // How a quantifier's nodes are made: by S2, S3 or S4; by S5, below "every y", whose range is node k; by S5 of the "some" below it; or plainly.
@@ -57,27 +54,20 @@ pub fn way_of(
     requires { Names words.now condition × (condition_nodes (condition_at words.now condition) ≤ question_node_limit) }
     ensures { result ≡ way_of short quantifier wanted x (condition_at words.now condition) }
 {
-    match quantifier {
-        Quantifier::Some => match wanted {
-            Wanted::Itself => {
-                if short & rule_fits(words, ShortRule::S2, x, condition) {
-                    return Way::ByRule(ShortRule::S2);
-                }
-                Way::Plain
-            }
-            Wanted::Opposite => Way::ByRule(ShortRule::S3),
-            Wanted::Division { y, k } => Way::AsDivisor { y, k },
-        },
-        Quantifier::Every => {
-            if short & rule_fits(words, ShortRule::S4, x, condition) {
-                return Way::ByRule(ShortRule::S4);
-            }
-            if short & rule_fits(words, ShortRule::S5, x, condition) {
-                return Way::ByDivision;
-            }
-            Way::Plain
+    match (quantifier, wanted) {
+        (Quantifier::Some, Wanted::Itself)
+            if short && rule_fits(words, ShortRule::S2, x, condition) => {
+            Way::ByRule(ShortRule::S2)
         }
-        Quantifier::AtLeast(_) => Way::Plain,
+        (Quantifier::Some, Wanted::Opposite) => Way::ByRule(ShortRule::S3),
+        (Quantifier::Some, Wanted::Division { y, k }) => Way::AsDivisor { y, k },
+        (Quantifier::Every, _) if short && rule_fits(words, ShortRule::S4, x, condition) => {
+            Way::ByRule(ShortRule::S4)
+        }
+        (Quantifier::Every, _) if short && rule_fits(words, ShortRule::S5, x, condition) => {
+            Way::ByDivision
+        }
+        _ => Way::Plain,
     }
 }
 

@@ -7,7 +7,6 @@ ghost use Rattle.plan_steps.specs.Ranges.{binding_variable, RangeDone};
 use catalogue::stored::columns_of;
 use emission::emit::load;
 use nodes::node::{Binder, Form};
-use relations::limits::VARIABLES;
 
 // How many nodes the plan has behind a range, and the range's width.
 #[derive(Clone, Copy)]
@@ -34,24 +33,15 @@ pub fn translate_table(
     }
 }
 
-// The variable of a binding; none is one past the last.
-pub fn binding_variable(form: Form) -> u32
+// The variable of a binding.
+pub fn binding_variable(form: Form) -> Option<u32>
     ensures { result ≡ binding_variable form }
 {
     match form {
-        Form::Table(_) => VARIABLES,
-        Form::Alpha => VARIABLES,
-        Form::Target {
-            variable: _,
-            attribute: _,
-        } => VARIABLES,
-        Form::Binds { variable, binder } => match binder {
-            Binder::Binding => variable,
-            Binder::Quantifies(_) => VARIABLES,
-        },
-        Form::Combines(_) => VARIABLES,
-        Form::Compares(_) => VARIABLES,
-        Form::Connects(_) => VARIABLES,
-        Form::IllFormed => VARIABLES,
+        Form::Binds {
+            variable,
+            binder: Binder::Binding,
+        } => Some(variable),
+        _ => None,
     }
 }

@@ -12,48 +12,41 @@ ghost use Rattle.emission.specs.Written.{Room};
 ghost use Rattle.plan_steps.specs.Targets.{TargetsReady, TargetsDone};
 
 use crate::ranges::MadeRange;
-use conditions::scope::{SCOPE_BYTES, column_number, columns_in, width_in};
-use emission::node_list::{NodeList, no_list, with_columns, with_word};
+use conditions::scope::Scope;
+use emission::node_list::NodeList;
 use emission::projects::write_project;
 use nodes::node::{Form, decode};
 
 // A target's columns behind those of the list; attribute 0 is the whole row.
-fn with_target(scope: &[u8; SCOPE_BYTES], variable: u32, attribute: u32, list: NodeList) -> NodeList
-    requires { ScopeFits scope.now × GoodTarget (scope_of scope.now) (target_of variable attribute) × (list.used + length (target_columns (scope_of scope.now) (target_of variable attribute)) ≤ list_words) }
-    ensures { result ≡ grown_by list (numbers_of (target_columns (scope_of scope.now) (target_of variable attribute))) }
+fn extend_by_target(list: &mut NodeList, scope: &Scope, variable: u32, attribute: u32)
+    requires { ScopeFits scope.now × GoodTarget (scope_of scope.now) (target_of variable attribute) × (list.old.used + length (target_columns (scope_of scope.now) (target_of variable attribute)) ≤ list_words) }
+    ensures { list.new ≡ grown_by list.old (numbers_of (target_columns (scope_of scope.now) (target_of variable attribute))) }
 {
     if attribute == 0 {
-        return with_columns(
-            list,
-            column_number(scope, variable, 1),
-            width_in(scope, variable),
-        );
+        list.extend_columns(scope.column_number(variable, 1), scope.width_in(variable));
+    } else {
+        list.push(scope.column_number(variable, attribute));
     }
-    with_word(list, column_number(scope, variable, attribute))
 }
 
 // The columns of the targets from a reference on. They follow one another, so this is a loop, and a long chain of them takes no stack.
-fn targets_from(words: &[u32], reference: u32, scope: &[u8; SCOPE_BYTES]) -> NodeList
+fn targets_from(words: &[u32], reference: u32, scope: &Scope) -> NodeList
     requires { TargetsReady words.now reference scope.now }
     ensures { result ≡ node_list (numbers_of (flat (target_columns (scope_of scope.now)) (targets_at words.now reference))) }
 {
-    let mut list = no_list();
+    let mut list = NodeList::new();
     let mut at = reference;
-    while 0 < at {
+    while at != 0 {
         let node = decode(words, (at - 1) as usize);
-        let form = node.form;
-        match form {
-            Form::Target {
-                variable,
-                attribute,
-            } => {
-                list = with_target(scope, variable, attribute.0, list);
-                at = node.c;
-            }
-            _ => {
-                at = 0;
-            }
-        }
+        let Form::Target {
+            variable,
+            attribute,
+        } = node.form
+        else {
+            break;
+        };
+        extend_by_target(&mut list, scope, variable, attribute.0);
+        at = node.c;
     }
     list
 }
@@ -63,7 +56,7 @@ pub fn write_targets(
     words: &[u32],
     short: bool,
     target: u32,
-    scope: &[u8; SCOPE_BYTES],
+    scope: &Scope,
     plan: &mut [u32],
     n: u32,
 ) -> MadeRange
@@ -71,7 +64,7 @@ pub fn write_targets(
     ensures { TargetsDone short words.now target scope.now plan.old n plan.new result }
 {
     let columns = targets_from(words, target, scope);
-    let count = write_project(short, columns_in(scope), n - 1, columns, plan, n);
+    let count = write_project(short, scope.columns_in(), n - 1, columns, plan, n);
     MadeRange {
         count,
         width: columns.used,

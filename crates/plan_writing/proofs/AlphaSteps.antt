@@ -2,7 +2,7 @@
 use Prim.Native.Nat.{ℕ, ◌+◌, ◌*◌, ◌-◌, ◌≤◌, ◌<◌, max}
 use mathlib.Core.Path.{◌≡◌, sym, ap, subst, ◌∙◌}
 use mathlib.Core.Bool.{Bool}
-use mathlib.Core.List.{List, [], ◌∷◌}
+use mathlib.Core.List.{List, [], ◌∷◌, ◌++◌}
 use native.Mathlib.Omega.{arith}
 use lib.ListN.{length}
 use Rattle.relations.specs.Columns.{Attribute}
@@ -21,6 +21,7 @@ use Rattle.nodes.specs.Nodes.{node_at}
 use Rattle.question.specs.Trees.{alpha_of}
 use Rattle.nodes.specs.declared.node.Binder.TheVariants.{Binding}
 use Rattle.nodes.specs.declared.node.Form.TheVariants.{Binds}
+use Rattle.conditions.specs.declared.scope.Scope.{Scope as Carried}
 use Rattle.conditions.proofs.Readings.{made}
 use Rattle.conditions.specs.Readings.{Inside, Names, range_at, targets_at, bindings_at, restriction_at}
 use Rattle.conditions.specs.Scopes.{no_variables, scope_of, ScopeFits, Extended}
@@ -92,15 +93,15 @@ module _ {catalogue words plan : List ℕ} {t n target binding condition variabl
       lower_call words (omega (arith, asked.measure)) (asked.link.named, asked.binding_inside) asked.link.range_below (record { good = good.0; stored = asked.ready.stored; room = room-less _ asked.ready.room (omega (arith, size)) })
 
   module _ {short : Bool} {middle : List ℕ} {made : MadeRange} (r : RangeDone catalogue short plan first n middle made) where
-    pub scope_starts : (variable < variable_count) × ScopeFits no_variables × (1 ≤ made.width) × (columns_in (scope_of no_variables) + made.width ≤ column_limit)
-    scope_starts = (asked.link.variable-known, empty_fits, omega (arith, r.width, range-wide catalogue asked.ready.stored first good.0), omega (arith, r.width, good.4))
+    pub scope_starts : {start : Carried} → start ≡ no_variables → (variable < variable_count) × ScopeFits start × (1 ≤ made.width) × (columns_in (scope_of start) + made.width ≤ column_limit)
+    scope_starts none = rw none (asked.link.variable-known, empty_fits, omega (arith, r.width, range-wide catalogue asked.ready.stored first good.0), omega (arith, r.width, good.4))
 
     room-first : Room middle made.count (4 * binding_nodes rest + 4 * maybe_nodes restriction + 1)
     room-first = room_after _ asked.ready.room r.written (omega (arith, size, range_size columns short first n))
 
-    module _ {own : List ℕ} (grown : Extended no_variables variable made.width own) where
+    module _ {start own : Carried} (none : start ≡ no_variables) (grown : Extended start variable made.width own) where
       own_stands : scope_of own ≡ entry variable (width_of_range columns first) ∷ []
-      own_stands = grown.stands ∙ ap (λ (width : ℕ). entry variable width ∷ []) r.width
+      own_stands = grown.stands ∙ ap (λ (s : Carried). scope_of s ++ (entry variable made.width ∷ [])) none ∙ ap (λ (width : ℕ). entry variable width ∷ []) r.width
 
       pub call_rest : (2 * next < t) × (Inside words next × BindingsReady catalogue middle rest own made.count)
       call_rest = (
@@ -117,7 +118,7 @@ module _ {catalogue words plan : List ℕ} {t n target binding condition variabl
         ),
       )
 
-      module _ {later scope : List ℕ} {joined : ℕ} (d : BindingsDone catalogue short middle rest own (made.count - 1) made.count later scope joined) where
+      module _ {later : List ℕ} {scope : Carried} {joined : ℕ} (d : BindingsDone catalogue short middle rest own (made.count - 1) made.count later scope joined) where
         stands : scope_of scope ≡ inner
         stands = d.stands ∙ ap (scope_of_bindings columns rest) own_stands
 

@@ -1,5 +1,6 @@
 -- Translating bindings: what each asks for, and what the chain leaves. Assumes nothing.
 use Prim.Native.Nat.{ℕ, ◌+◌, ◌*◌, ◌-◌, ◌≤◌, ◌<◌}
+use Rattle.std.specs.Prelude.{Some}
 use mathlib.Core.Path.{◌≡◌, refl, sym, ap, ap₂, subst, ◌∙◌}
 use mathlib.Core.Bool.{Bool}
 use mathlib.Core.List.{List, [], ◌∷◌}
@@ -21,6 +22,7 @@ use Rattle.nodes.specs.declared.node.Form.TheVariants.{Table, Alpha, Target, Bin
 use Rattle.nodes.specs.declared.node.Node.{Node}
 use Rattle.question.specs.Trees.{Reading, reading_of}
 use Rattle.nodes.proofs.Forms.{lower, lower_if_any, node_variables}
+use Rattle.conditions.specs.declared.scope.Scope.{Scope as Carried}
 use Rattle.conditions.specs.Readings.{Inside, Names, reading_at, range_at, bindings_at}
 use Rattle.conditions.specs.Scopes.{with_variable, scope_of, ScopeFits, Extended}
 use Rattle.plan_steps.specs.Ranges.{binding_variable, RangeDone}
@@ -52,43 +54,43 @@ chain words {reference} {variable} {a} {range} {next} named e =
     }
 
 -- a decoded node, by the variable that the code asks for: it is a binding, or it reads as none
-binding_is : (form : Form) → binding_variable form < variable_count → form ≡ Binds (binding_variable form) Binding
-binding_is (Table relation) h = absurd (omega arith)
-binding_is Alpha h = absurd (omega arith)
-binding_is (Target variable attribute) h = absurd (omega arith)
-binding_is (Binds variable Binding) h = refl
-binding_is (Binds variable (Quantifies quantifier)) h = absurd (omega arith)
-binding_is (Combines combination) h = absurd (omega arith)
-binding_is (Compares atom) h = absurd (omega arith)
-binding_is (Connects connective) h = absurd (omega arith)
-binding_is IllFormed h = absurd (omega arith)
+binding_is : (form : Form) {variable : ℕ} → Some variable ≡ binding_variable form → form ≡ Binds variable Binding
+binding_is (Table relation) e = cc
+binding_is Alpha e = cc
+binding_is (Target variable attribute) e = cc
+binding_is (Binds variable Binding) e = cc
+binding_is (Binds variable (Quantifies quantifier)) e = cc
+binding_is (Combines combination) e = cc
+binding_is (Compares atom) e = cc
+binding_is (Connects connective) e = cc
+binding_is IllFormed e = cc
 
-no_binding_lem : (form : Form) (a b c : Reading) → VariablesFit form → variable_count ≤ binding_variable form → (reading_of form a b c).bindings ≡ no_more
-no_binding_lem (Table relation) a b c fits h = refl
-no_binding_lem Alpha a b c fits h = refl
-no_binding_lem (Target variable attribute) a b c fits h = refl
-no_binding_lem (Binds variable Binding) a b c fits h = absurd (omega (arith, fits))
-no_binding_lem (Binds variable (Quantifies quantifier)) a b c fits h = refl
-no_binding_lem (Combines combination) a b c fits h = refl
-no_binding_lem (Compares atom) a b c fits h = refl
-no_binding_lem (Connects connective) a b c fits h = refl
-no_binding_lem IllFormed a b c fits h = refl
+no_binding_lem : (form : Form) (a b c : Reading) → ((variable : ℕ) → binding_variable form ≡ Some variable → ⊥) → (reading_of form a b c).bindings ≡ no_more
+no_binding_lem (Table relation) a b c h = refl
+no_binding_lem Alpha a b c h = refl
+no_binding_lem (Target variable attribute) a b c h = refl
+no_binding_lem (Binds variable Binding) a b c h = absurd (h variable refl)
+no_binding_lem (Binds variable (Quantifies quantifier)) a b c h = refl
+no_binding_lem (Combines combination) a b c h = refl
+no_binding_lem (Compares atom) a b c h = refl
+no_binding_lem (Connects connective) a b c h = refl
+no_binding_lem IllFormed a b c h = refl
 
-module _ (words : List ℕ) (reference : ℕ) {node : Node} {variable : ℕ} (e : node ≡ node_at words (reference - 1)) (v : variable ≡ binding_variable node.form) where
-  pub binding_made : variable < variable_count → made (Binds variable Binding) node.a node.b node.c ≡ node_at words (reference - 1)
-  binding_made small = rw v (made_is words (reference - 1) (binding_is node.form (rw v at small)) e)
+module _ (words : List ℕ) (reference : ℕ) {node : Node} (e : node ≡ node_at words (reference - 1)) where
+  pub binding_made : {variable : ℕ} → Some variable ≡ binding_variable node.form → made (Binds variable Binding) node.a node.b node.c ≡ node_at words (reference - 1)
+  binding_made v = made_is words (reference - 1) (binding_is node.form v) e
 
-  pub none_bound : 1 ≤ reference → variable_count ≤ variable → bindings_at words reference ≡ no_more
-  none_bound named large =
-      bindings_is words reference node named e ∙ no_binding_lem node.form (reading_at words node.a) (reading_at words node.b) (reading_at words node.c) (rw e (node_variables words (reference - 1))) (rw v at large)
+  pub none_bound : 1 ≤ reference → ((variable : ℕ) → binding_variable node.form ≡ Some variable → ⊥) → bindings_at words reference ≡ no_more
+  none_bound named none =
+      bindings_is words reference node named e ∙ no_binding_lem node.form (reading_at words node.a) (reading_at words node.b) (reading_at words node.c) none
 
 -- the parts of a good chain
-record Parts (catalogue : List ℕ) (scope : List ℕ) (variable : ℕ) (range : Range) (rest : Bindings) : Type 0 where
+record Parts (catalogue : List ℕ) (scope : Carried) (variable : ℕ) (range : Range) (rest : Bindings) : Type 0 where
   range-good : GoodRange (columns_of catalogue) (relations_of catalogue) range
   rest_good : GoodBindings (columns_of catalogue) (relations_of catalogue) rest (extend (scope_of scope) variable (width_of_range (columns_of catalogue) range))
   few_columns : columns_in (scope_of scope) + width_of_range (columns_of catalogue) range ≤ column_limit
 
-parts : {catalogue plan : List ℕ} {scope : List ℕ} {n : ℕ} {variable : ℕ} {range : Range} {rest : Bindings} → BindingsReady catalogue plan (bind variable range rest) scope n → Parts catalogue scope variable range rest
+parts : {catalogue plan : List ℕ} {scope : Carried} {n : ℕ} {variable : ℕ} {range : Range} {rest : Bindings} → BindingsReady catalogue plan (bind variable range rest) scope n → Parts catalogue scope variable range rest
 unfolding GoodBindings
 parts ready = record { range-good = ready.good.1; rest_good = ready.good.2; few_columns = ready.good.3 }
 
@@ -97,7 +99,7 @@ unfolding binding_nodes
 bind-size variable range rest = refl
 
 -- from what the chain was asked with: the call on its range, room for the product, the longer scope, the call on the next bindings, and what is left
-module _ {words : List ℕ} {reference variable range next : ℕ} (link : Chain words reference variable range next) {catalogue plan : List ℕ} {t n : ℕ} {scope : List ℕ} (asked : (2 * reference ≡ t) × (Inside words reference × BindingsReady catalogue plan (bindings_at words reference) scope n)) where
+module _ {words : List ℕ} {reference variable range next : ℕ} (link : Chain words reference variable range next) {catalogue plan : List ℕ} {t n : ℕ} {scope : Carried} (asked : (2 * reference ≡ t) × (Inside words reference × BindingsReady catalogue plan (bindings_at words reference) scope n)) where
   abbrev first : Range
   first = range_at words range
 
@@ -121,7 +123,7 @@ module _ {words : List ℕ} {reference variable range next : ℕ} (link : Chain 
     pub scope_grows : (variable < variable_count) × ScopeFits scope × (1 ≤ made.width) × (columns_in (scope_of scope) + made.width ≤ column_limit)
     scope_grows = (link.variable-known, ready.fits, omega (arith, r.width, range-wide catalogue ready.stored first (parts ready).range-good), omega (arith, r.width, (parts ready).few_columns))
 
-    module _ {p : ℕ} {later : List ℕ} {count : ℕ} {longer : List ℕ} (w : Written middle made.count (join p (made.count - 1) [] ∷ []) later count) (extended : Extended scope variable made.width longer) where
+    module _ {p : ℕ} {later : List ℕ} {count : ℕ} {longer : Carried} (w : Written middle made.count (join p (made.count - 1) [] ∷ []) later count) (extended : Extended scope variable made.width longer) where
       stands : scope_of longer ≡ extend (scope_of scope) variable (width_of_range (columns_of catalogue) first)
       stands = extended.stands ∙ ap (extend (scope_of scope) variable) r.width
 
@@ -140,14 +142,14 @@ module _ {words : List ℕ} {reference variable range next : ℕ} (link : Chain 
         ),
       )
 
-      pub bindings-done : {after grown : List ℕ} {total : ℕ} → BindingsDone catalogue short later rest longer made.count count after grown total → BindingsDone catalogue short plan (bindings_at words reference) scope p n after grown total
+      pub bindings-done : {after : List ℕ} {grown : Carried} {total : ℕ} → BindingsDone catalogue short later rest longer made.count count after grown total → BindingsDone catalogue short plan (bindings_at words reference) scope p n after grown total
       unfolding translate_bindings scope_of_bindings with_bindings
       bindings-done {after} {grown} {total} d =
           let written : Written plan n (translate_bindings (columns_of catalogue) short (bind variable first rest) p n) after total =
           written_then (going_on (λ k m. join p k [] ∷ []) r.written w) (written_as (ap₂ (λ q m. translate_bindings (columns_of catalogue) short rest q m) (sym r.written.counted) (omega (arith, r.written.counted, w.counted))) d.written) in
           subst (λ bindings. BindingsDone catalogue short plan bindings scope p n after grown total) (sym link.reads) (record { written = written; is = d.is ∙ ap (with_bindings catalogue rest) (extended.is ∙ ap (with_variable scope variable) r.width); fits = d.fits; stands = d.stands ∙ ap (scope_of_bindings (columns_of catalogue) rest) stands })
 
-pub no_more-done : {catalogue : List ℕ} {short : Bool} {plan : List ℕ} {bindings : Bindings} {scope : List ℕ} {p n : ℕ} → bindings ≡ no_more → ScopeFits scope → BindingsDone catalogue short plan bindings scope p n plan scope n
+pub no_more-done : {catalogue : List ℕ} {short : Bool} {plan : List ℕ} {bindings : Bindings} {scope : Carried} {p n : ℕ} → bindings ≡ no_more → ScopeFits scope → BindingsDone catalogue short plan bindings scope p n plan scope n
 unfolding translate_bindings scope_of_bindings with_bindings
 no_more-done {catalogue} {short} {plan} {bindings} {scope} {p} {n} e fits =
     subst (λ bindings. BindingsDone catalogue short plan bindings scope p n plan scope n) (sym e) (record { written = written-nothing plan n; is = refl; fits = fits; stands = refl })

@@ -22,6 +22,7 @@ use Rattle.nodes.specs.declared.node.Quantifier.{Quantifier}
 use Rattle.nodes.specs.declared.node.Binder.TheVariants.{Quantifies}
 use Rattle.nodes.specs.declared.node.Form.TheVariants.{Binds, Compares, Connects}
 use Rattle.nodes.specs.declared.node.Atom as question-atom
+use Rattle.conditions.specs.declared.scope.Scope.{Scope as Carried}
 use Rattle.conditions.specs.Readings.{Names, range_at, restriction_at, condition_at}
 use Rattle.conditions.specs.Scopes.{scope_of}
 use Rattle.conditions.specs.Atoms.{AtomNarrow}
@@ -37,7 +38,7 @@ use Rattle.conditions.proofs.LeafLaws.{found_narrow}
 use Rattle.emission.proofs.WrittenLaws.{written_then, written-nothing, room_after, room-less, last_is, written_as, going_on}
 
 -- What is ready for a condition is ready for its parts.
-module _ (catalogue scope : List ℕ) where
+module _ (catalogue : List ℕ) (scope : Carried) where
   abbrev pub Good : Condition → Type 0
   Good f = GoodCondition (columns_of catalogue) (relations_of catalogue) f (scope_of scope)
 
@@ -53,7 +54,7 @@ module _ (catalogue scope : List ℕ) where
   abbrev pub BothReady : List ℕ → Condition → Condition → ℕ → Type 0
   BothReady plan f g n = ReadyWith plan f n (4 * condition_nodes g + 4) × Good g
 
-module _ {catalogue scope : List ℕ} where
+module _ {catalogue : List ℕ} {scope : Carried} where
   pub ready_as : {plan : List ℕ} {n : ℕ} {wanted : Wanted} {w v : MaybeCondition} → w ≡ v → ConditionReady catalogue plan wanted v scope n → ConditionReady catalogue plan wanted w scope n
   ready_as {plan} {n} {wanted} e r = subst (λ (m : MaybeCondition). ConditionReady catalogue plan wanted m scope n) (sym e) r
 
@@ -165,7 +166,7 @@ module _ (columns : ℕ → ℕ) (short : Bool) where
     opposite-written f e w = written_as (chosen _ _ (short && (short_rule3_fits f || short_rule6_fits f)) e) w
 
 -- an atom, or its opposite (S6); it is never divided
-pub atom-written : {catalogue plan : List ℕ} {scope : List ℕ} {n : ℕ} (wanted : code.Wanted) (a : calculus.Atom) → ConditionReady catalogue plan (wanted_in wanted) (on_condition (calculus.atom a)) scope n → (short : Bool) (p : ℕ) {opposite : Bool} {after : List ℕ} {count : ℕ} → opposite ≡ opposite_wanted wanted
+pub atom-written : {catalogue plan : List ℕ} {scope : Carried} {n : ℕ} (wanted : code.Wanted) (a : calculus.Atom) → ConditionReady catalogue plan (wanted_in wanted) (on_condition (calculus.atom a)) scope n → (short : Bool) (p : ℕ) {opposite : Bool} {after : List ℕ} {count : ℕ} → opposite ≡ opposite_wanted wanted
     → Written plan n (atom_nodes opposite (scope_of scope) p a) after count → Written plan n (translate_condition (columns_of catalogue) short (calculus.atom a) (wanted_in wanted) (scope_of scope) p n) after count
 unfolding translate_condition
 atom-written {scope = scope} Itself a r short p e w = written_as (ap (λ (b : Bool). atom_nodes b (scope_of scope) p a) (sym e)) w
@@ -173,7 +174,7 @@ atom-written {scope = scope} Opposite a r short p e w = written_as (ap (λ (b : 
 atom-written (Division y k) a r short p e w = absurd (false≢true r.good.fits)
 
 -- the nodes of a part that was handed down by its reference
-part-written : {catalogue scope : List ℕ} (short : Bool) (p : ℕ) (words : List ℕ) (reference : ℕ) {plan after : List ℕ} {n count : ℕ} → Ready catalogue scope plan (condition_at words reference) n → WritesMaybe (columns_of catalogue) short itself (scope_of scope) p plan n (restriction_at words reference) after count → Writes (columns_of catalogue) short itself (scope_of scope) p plan n (condition_at words reference) after count
+part-written : {catalogue : List ℕ} {scope : Carried} (short : Bool) (p : ℕ) (words : List ℕ) (reference : ℕ) {plan after : List ℕ} {n count : ℕ} → Ready catalogue scope plan (condition_at words reference) n → WritesMaybe (columns_of catalogue) short itself (scope_of scope) p plan n (restriction_at words reference) after count → Writes (columns_of catalogue) short itself (scope_of scope) p plan n (condition_at words reference) after count
 part-written {catalogue} {scope} short p words reference r w =
     written-condition (columns_of catalogue) short itself (scope_of scope) p (restriction-good (columns_of catalogue) (relations_of catalogue) (scope_of scope) words reference (good_of r)) w
 
@@ -184,23 +185,23 @@ pub record AtomHere (found : question-atom.Atom) (words plan : List ℕ) (refere
   pub narrow : AtomNarrow found
   pub room : Room plan n 1
 
-pub record TwoSides (join : Condition → Condition → Condition) (left right : ℕ) (catalogue words plan scope : List ℕ) (reference n : ℕ) : Type 0 where
+pub record TwoSides (join : Condition → Condition → Condition) (left right : ℕ) (catalogue words plan : List ℕ) (scope : Carried) (reference n : ℕ) : Type 0 where
   pub reads : restriction_at words reference ≡ on_condition (join (condition_at words left) (condition_at words right))
   pub parts : Part words reference left × Part words reference right
   pub ready : BothReady catalogue scope plan (condition_at words left) (condition_at words right) n
 
-pub record OneInner (inner : ℕ) (catalogue words plan scope : List ℕ) (reference n : ℕ) : Type 0 where
+pub record OneInner (inner : ℕ) (catalogue words plan : List ℕ) (scope : Carried) (reference n : ℕ) : Type 0 where
   pub reads : restriction_at words reference ≡ on_condition (condition_not (condition_at words inner))
   pub part : Part words reference inner
   pub ready : ReadyWith catalogue scope plan (condition_at words inner) n 4
 
-pub record Quantified (quantifier : Quantifier) (variable range condition : ℕ) (catalogue words plan : List ℕ) (wanted : Wanted) (scope : List ℕ) (reference n : ℕ) : Type 0 where
+pub record Quantified (quantifier : Quantifier) (variable range condition : ℕ) (catalogue words plan : List ℕ) (wanted : Wanted) (scope : Carried) (reference n : ℕ) : Type 0 where
   pub reads : restriction_at words reference ≡ on_condition (quantified quantifier variable (range_at words range) (condition_at words condition))
   pub known : variable < variable_count
   pub parts : Part words reference range × Part words reference condition
   pub ready : ConditionReady catalogue plan wanted (on_condition (quantified quantifier variable (range_at words range) (condition_at words condition))) scope n
 
-module _ {catalogue words plan scope : List ℕ} {reference n : ℕ} (wanted : Wanted) (h : Names words reference) (r : ConditionReady catalogue plan wanted (restriction_at words reference) scope n) where
+module _ {catalogue words plan : List ℕ} {scope : Carried} {reference n : ℕ} (wanted : Wanted) (h : Names words reference) (r : ConditionReady catalogue plan wanted (restriction_at words reference) scope n) where
   pub atom_step : {found : question-atom.Atom} {a b c : ℕ} → made (Compares found) a b c ≡ node_at words (reference - 1) → AtomHere found words plan reference n
   atom_step {found} {a} {b} {c} e =
       let reads = restriction_is words reference (made (Compares found) a b c) h.0 e in
@@ -227,7 +228,7 @@ module _ {catalogue words plan scope : List ℕ} {reference n : ℕ} (wanted : W
       record { reads = reads; known = binder_variable words reference h e; parts = quantifier_parts words reference h e; ready = ready_as (sym reads) r }
 
 -- the sides of an "and" or an "or", one written behind the other
-module _ {catalogue words plan scope : List ℕ} {join : Condition → Condition → Condition} {reference n left right : ℕ} (b : TwoSides join left right catalogue words plan scope reference n) where
+module _ {catalogue words plan : List ℕ} {scope : Carried} {join : Condition → Condition → Condition} {reference n left right : ℕ} (b : TwoSides join left right catalogue words plan scope reference n) where
   pub left_ready : ConditionReady catalogue plan itself (restriction_at words left) scope n
   left_ready = ready_at words left b.ready.0.ready
 
@@ -249,7 +250,7 @@ module _ {catalogue words plan scope : List ℕ} {join : Condition → Condition
       room-behind_both = room-less 1 (room-behind short q right-written right_side) (omega arith)
 
 -- what is below a "not": its opposite where a rule fits
-module _ {catalogue words plan scope : List ℕ} {reference n inner : ℕ} (b : OneInner inner catalogue words plan scope reference n) where
+module _ {catalogue words plan : List ℕ} {scope : Carried} {reference n inner : ℕ} (b : OneInner inner catalogue words plan scope reference n) where
   abbrev f : Condition
   f = condition_at words inner
 

@@ -19,6 +19,7 @@ use Rattle.calculus.specs.Translation.{itself, division_by, translate_range, tra
 use Rattle.calculus.proofs.ScopeLaws.{columns_extend}
 use Rattle.calculus.proofs.SizeTheorem.{range_size, condition-size}
 use Rattle.catalogue.specs.Stored.{relations_of, columns_of}
+use Rattle.conditions.specs.declared.scope.Scope.{Scope as Carried}
 use Rattle.conditions.specs.Readings.{Names, range_at, condition_at, restriction_at}
 use Rattle.conditions.specs.Scopes.{scope_of, ScopeFits, Extended}
 use Rattle.rule_writing.specs.Rules.{rule_atoms, rule_nodes, dividend_nodes, RuleReady}
@@ -41,8 +42,9 @@ use Rattle.nodes.specs.Nodes.{node_at}
 use Rattle.nodes.specs.declared.node.Node as question
 use Rattle.nodes.specs.declared.node.Binder.TheVariants.{Quantifies}
 use Rattle.nodes.specs.declared.node.Form.TheVariants.{Binds}
+use Rattle.std.specs.Prelude.{Some as Found}
 use Rattle.short_rules.specs.Fits.{some_variable}
-use Rattle.short_rules.proofs.FitLaws.{some_decoded, divided_some}
+use Rattle.short_rules.proofs.FitLaws.{some_decoded}
 use Rattle.conditions.proofs.Readings.{made as decoded, condition_is, restriction_is, binder_variable, quantifier_parts}
 use Rattle.judgements.proofs.KindsAlike.{quantified-nodes, quantified_parts}
 use Rattle.conditions.proofs.OtherNodes.{restriction-good}
@@ -89,7 +91,7 @@ some-condition (for_every x range f) = omega arith
 some-condition (for_at_least x range f least) = omega arith
 
 -- What every way asks for: a range that is ready, and room behind it.
-module _ (quantifier : Quantifier) (wanted : Wanted) (x : ℕ) (range : Range) (f : Condition) (known : x < variable_count) {catalogue plan scope : List ℕ} {n : ℕ} (r : ConditionReady catalogue plan (wanted_in wanted) (on_condition (quantified quantifier x range f)) scope n) where
+module _ (quantifier : Quantifier) (wanted : Wanted) (x : ℕ) (range : Range) (f : Condition) (known : x < variable_count) {catalogue plan : List ℕ} {scope : Carried} {n : ℕ} (r : ConditionReady catalogue plan (wanted_in wanted) (on_condition (quantified quantifier x range f)) scope n) where
   abbrev columns : ℕ → ℕ
   columns = columns_of catalogue
 
@@ -337,7 +339,7 @@ module _ {catalogue : List ℕ} {short : Bool} {plan : List ℕ} {range : Range}
         written_as (way s p n) (written_then behind (written_as (ap (λ (m : ℕ). kept_nodes quantifier (columns_in s) p q m) total ∙ ap (λ (k : ℕ). kept_nodes quantifier (columns_in s) p k meeting) (sym done.written.counted) ∙ ap (λ (c : ℕ). kept_nodes quantifier c p made.count meeting) (sym e)) w))
 
 -- The condition inside: below the division of S5, or on the product of P with the range.
-module _ (quantifier : Quantifier) (wanted : Wanted) (x : ℕ) (range : Range) (words : List ℕ) (condition : ℕ) (known : x < variable_count) {catalogue plan scope : List ℕ} {n : ℕ} (r : ConditionReady catalogue plan (wanted_in wanted) (on_condition (quantified quantifier x range (condition_at words condition))) scope n) {short : Bool} {after : List ℕ} {made : MadeRange} (done : RangeDone catalogue short plan range n after made) where
+module _ (quantifier : Quantifier) (wanted : Wanted) (x : ℕ) (range : Range) (words : List ℕ) (condition : ℕ) (known : x < variable_count) {catalogue plan : List ℕ} {scope : Carried} {n : ℕ} (r : ConditionReady catalogue plan (wanted_in wanted) (on_condition (quantified quantifier x range (condition_at words condition))) scope n) {short : Bool} {after : List ℕ} {made : MadeRange} (done : RangeDone catalogue short plan range n after made) where
   abbrev inner : Condition
   inner = condition_at words condition
 
@@ -363,9 +365,9 @@ module _ (quantifier : Quantifier) (wanted : Wanted) (x : ℕ) (range : Range) (
         })
 
     -- the "some" below a division
-    module _ (names : Names words condition) {node : question.Node} {z : ℕ} (d : node ≡ node_at words (condition - 1)) (v : z ≡ some_variable node.form) (fits : short_rule5_fits x inner ≡ true) where
+    module _ (names : Names words condition) {node : question.Node} {z : ℕ} (d : node ≡ node_at words (condition - 1)) (v : Found z ≡ some_variable node.form) (fits : short_rule5_fits x inner ≡ true) where
       below : decoded (Binds z (Quantifies Some)) node.a node.b node.c ≡ node_at words (condition - 1)
-      below = rw v (some_decoded words names d (divided_some words names d x fits))
+      below = some_decoded words names d v
 
       reads_below : inner ≡ quantified Some z (range_at words node.b) (condition_at words node.c)
       reads_below = condition_is words condition (decoded (Binds z (Quantifies Some)) node.a node.b node.c) names.0 below
@@ -389,7 +391,7 @@ module _ (quantifier : Quantifier) (wanted : Wanted) (x : ℕ) (range : Range) (
           → Written after made.count (translate_condition (columns_of catalogue) short inner (division_by x k) (scope_of scope) p made.count) end count
       written_below k p w = written_as (ap (λ (f : Condition). translate_condition (columns_of catalogue) short f (division_by x k) (scope_of scope) p made.count) reads_below) w
 
-    module _ {longer : List ℕ} (extended : Extended scope x made.width longer) {p : ℕ} {middle : List ℕ} {count : ℕ} (product : Written after made.count (join p (made.count - 1) [] ∷ []) middle count) where
+    module _ {longer : Carried} (extended : Extended scope x made.width longer) {p : ℕ} {middle : List ℕ} {count : ℕ} (product : Written after made.count (join p (made.count - 1) [] ∷ []) middle count) where
       pub inside_ready : ConditionReady catalogue middle itself (restriction_at words condition) longer count
       unfolding GoodMaybe maybe_nodes
       inside_ready =

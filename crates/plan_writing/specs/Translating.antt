@@ -8,6 +8,7 @@ use Rattle.calculus.specs.ShortRules.{short_rule3_fits, short_rule5_fits, short_
 use Rattle.calculus.specs.Translation.{Wanted, itself, its_opposite, division_by, translate_bindings, translate_condition}
 use Rattle.catalogue.specs.Stored.{relations_of, columns_of}
 use Rattle.judgements.specs.Accepted.{HasColumns}
+use Rattle.conditions.specs.declared.scope.Scope.{Scope as Carried}
 use Rattle.conditions.specs.Scopes.{scope_of, ScopeFits, with_variable}
 use Rattle.emission.specs.Written.{Room, Written}
 
@@ -32,7 +33,7 @@ module _ (catalogue : List ℕ) where
     pub stored : HasColumns catalogue
     pub room : Room plan n (4 * range_nodes range)
 
-  pub record BindingsReady (plan : List ℕ) (bindings : Bindings) (scope : List ℕ) (n : ℕ) : Type 0 where
+  pub record BindingsReady (plan : List ℕ) (bindings : Bindings) (scope : Carried) (n : ℕ) : Type 0 where
     pub good : GoodBindings (columns_of catalogue) (relations_of catalogue) bindings (scope_of scope)
     pub fits : ScopeFits scope
     pub stored : HasColumns catalogue
@@ -40,11 +41,11 @@ module _ (catalogue : List ℕ) where
     pub room : Room plan n (4 * binding_nodes bindings)
 
   -- the scope that bindings make of the one before them, as the code carries it
-  unfoldable pub with_bindings : Bindings → List ℕ → List ℕ
+  unfoldable pub with_bindings : Bindings → Carried → Carried
   with_bindings no_more scope = scope
   with_bindings (bind variable range bindings) scope = with_bindings bindings (with_variable scope variable (width_of_range (columns_of catalogue) range))
 
-  pub record BindingsDone (short : Bool) (before : List ℕ) (bindings : Bindings) (scope : List ℕ) (p n : ℕ) (after grown : List ℕ) (count : ℕ) : Type 0 where
+  pub record BindingsDone (short : Bool) (before : List ℕ) (bindings : Bindings) (scope : Carried) (p n : ℕ) (after : List ℕ) (grown : Carried) (count : ℕ) : Type 0 where
     pub written : Written before n (translate_bindings (columns_of catalogue) short bindings p n) after count
     pub is : grown ≡ with_bindings bindings scope
     pub fits : ScopeFits grown
@@ -61,7 +62,7 @@ module _ (catalogue : List ℕ) where
   GoodAs its_opposite restriction s = GoodMaybe (columns_of catalogue) (relations_of catalogue) restriction s × OppositeFits restriction
   GoodAs (division_by y k) restriction s = DivisionGood y restriction s
 
-  pub record ConditionReady (plan : List ℕ) (wanted : Wanted) (restriction : MaybeCondition) (scope : List ℕ) (n : ℕ) : Type 0 where
+  pub record ConditionReady (plan : List ℕ) (wanted : Wanted) (restriction : MaybeCondition) (scope : Carried) (n : ℕ) : Type 0 where
     pub good : GoodAs wanted restriction (scope_of scope)
     pub fits : ScopeFits scope
     pub stored : HasColumns catalogue

@@ -4,46 +4,46 @@ use mathlib.Core.Bool.{true, false}
 use mathlib.Core.List.{List}
 use Prim.Native.Nat.{ℕ, ◌≤◌, ◌<◌}
 use borrow.Author.Tests.{lt-ltb, le-ltb}
+use Rattle.std.specs.Prelude.{Ok, Err}
 use Rattle.relations.specs.Limits.{question_node_limit}
 use Rattle.nodes.specs.Nodes.{node_count, node_at}
 use Rattle.question.specs.Judgement.{is_alpha, lowest_ill_formed, last_node, lowest_not_once, lowest_unknown}
 use Rattle.question.specs.Walk.{faults_found, judge_tree, judge_nodes}
-use Rattle.question.specs.declared.judgement.Judgement.TheVariants.{Accepted, Refused}
+use Rattle.question.specs.declared.judgement.Refusal.TheVariants.{BrokenForm, NotATree, UnknownRelation, Unbound, Unfit}
 
-module _ (catalogue words : List ℕ) {unknown : ℕ} (u : unknown ≡ lowest_unknown catalogue words) where
-  pub unknown_refused : unknown < node_count words → Refused 4 unknown ≡ judge_tree catalogue words
+module _ (catalogue words : List ℕ) where
+  pub unknown_refused : {place : ℕ} → (place < node_count words) × (place ≡ lowest_unknown catalogue words) → Err (UnknownRelation place) ≡ judge_tree catalogue words
   unfolding judge_tree
-  unknown_refused h = rw (← u, lt-ltb unknown (node_count words) h)
+  unknown_refused {place} h = rw (← h.1, lt-ltb place (node_count words) h.0)
 
-  module _ {unbound unfit : ℕ} (b : unbound ≡ (faults_found catalogue words).unbound) (f : unfit ≡ (faults_found catalogue words).unfit) (known : node_count words ≤ unknown) where
-    pub unbound-refused : unbound < question_node_limit → Refused 5 unbound ≡ judge_tree catalogue words
+  module _ (known : node_count words ≤ lowest_unknown catalogue words) {unbound unfit : ℕ} (found : (unbound ≡ (faults_found catalogue words).unbound) × (unfit ≡ (faults_found catalogue words).unfit)) where
+    pub unbound-refused : unbound < question_node_limit → Err (Unbound unbound) ≡ judge_tree catalogue words
     unfolding judge_tree
-    unbound-refused h = rw (← u, le-ltb unknown (node_count words) known, ← b, lt-ltb unbound question_node_limit h)
+    unbound-refused h = rw (le-ltb (lowest_unknown catalogue words) (node_count words) known, ← found.0, lt-ltb unbound question_node_limit h)
 
-    pub unfit-refused : question_node_limit ≤ unbound → unfit < question_node_limit → Refused 6 unfit ≡ judge_tree catalogue words
+    pub unfit-refused : question_node_limit ≤ unbound → unfit < question_node_limit → Err (Unfit unfit) ≡ judge_tree catalogue words
     unfolding judge_tree
     unfit-refused g h =
-        rw (← u, le-ltb unknown (node_count words) known, ← b, le-ltb unbound question_node_limit g, ← f, lt-ltb unfit question_node_limit h)
+        rw (le-ltb (lowest_unknown catalogue words) (node_count words) known, ← found.0, le-ltb unbound question_node_limit g, ← found.1, lt-ltb unfit question_node_limit h)
 
-    pub all_accepted : question_node_limit ≤ unbound → question_node_limit ≤ unfit → Accepted ≡ judge_tree catalogue words
+    pub all_accepted : question_node_limit ≤ unbound → question_node_limit ≤ unfit → Ok tt ≡ judge_tree catalogue words
     unfolding judge_tree
     all_accepted g h =
-        rw (← u, le-ltb unknown (node_count words) known, ← b, le-ltb unbound question_node_limit g, ← f, le-ltb unfit question_node_limit h)
+        rw (le-ltb (lowest_unknown catalogue words) (node_count words) known, ← found.0, le-ltb unbound question_node_limit g, ← found.1, le-ltb unfit question_node_limit h)
 
-module _ (catalogue words : List ℕ) {ill : ℕ} (i : ill ≡ lowest_ill_formed words) where
-  pub ill_refused : ill < node_count words → Refused 2 ill ≡ judge_nodes catalogue words
+  pub ill_refused : {place : ℕ} → (place < node_count words) × (place ≡ lowest_ill_formed words) → Err (BrokenForm place) ≡ judge_nodes catalogue words
   unfolding judge_nodes
-  ill_refused h = rw (← i, lt-ltb ill (node_count words) h)
+  ill_refused {place} h = rw (← h.1, lt-ltb place (node_count words) h.0)
 
-  module _ {once : ℕ} (o : once ≡ lowest_not_once words) (formed : node_count words ≤ ill) where
-    pub once-refused : once < last_node words → Refused 3 once ≡ judge_nodes catalogue words
+  module _ (formed : node_count words ≤ lowest_ill_formed words) {once : ℕ} (o : once ≡ lowest_not_once words) where
+    pub once-refused : once < last_node words → Err (NotATree once) ≡ judge_nodes catalogue words
     unfolding judge_nodes
-    once-refused h = rw (← i, le-ltb ill (node_count words) formed, ← o, lt-ltb once (last_node words) h)
+    once-refused h = rw (le-ltb (lowest_ill_formed words) (node_count words) formed, ← o, lt-ltb once (last_node words) h)
 
     pub tree_judged : last_node words ≤ once → is_alpha (node_at words (last_node words)).form ≡ true → judge_tree catalogue words ≡ judge_nodes catalogue words
     unfolding judge_nodes
-    tree_judged g h = rw (← i, le-ltb ill (node_count words) formed, ← o, le-ltb once (last_node words) g, h)
+    tree_judged g h = rw (le-ltb (lowest_ill_formed words) (node_count words) formed, ← o, le-ltb once (last_node words) g, h)
 
-    pub last_refused : last_node words ≤ once → is_alpha (node_at words (last_node words)).form ≡ false → Refused 3 (last_node words) ≡ judge_nodes catalogue words
+    pub last_refused : last_node words ≤ once → is_alpha (node_at words (last_node words)).form ≡ false → Err (NotATree (last_node words)) ≡ judge_nodes catalogue words
     unfolding judge_nodes
-    last_refused g h = rw (← i, le-ltb ill (node_count words) formed, ← o, le-ltb once (last_node words) g, h)
+    last_refused g h = rw (le-ltb (lowest_ill_formed words) (node_count words) formed, ← o, le-ltb once (last_node words) g, h)

@@ -7,9 +7,16 @@ use native.Mathlib.Nat.{eq-or-lt_of_le}
 use native.Mathlib.Omega.{arith}
 use lib.ListN.{length, get_or, length-append, get_or-append}
 use lib.Seq.{get_or_at}
-use Rattle.nodes.specs.Nodes.{node_at}
+use Rattle.nodes.specs.Nodes.{kind_named, node_at, VariablesFit}
+use Rattle.nodes.specs.declared.node.Node.{Node}
 use Rattle.question.specs.Trees.{nothing, branch, named, grown, trees_below, tree_of}
-use Rattle.nodes.proofs.Forms.{node_lower}
+use Rattle.nodes.proofs.Forms.{parts_of, part_fits, node_fits, node_lower, node_variables}
+use Rattle.nodes.specs.declared.node.Form.{Form}
+use Rattle.nodes.specs.declared.node.Form.TheVariants.{Binds}
+use Rattle.nodes.specs.declared.node.Binder.{Binder}
+use Rattle.nodes.specs.declared.node.Binder.TheVariants.{Binding, Quantifies}
+use borrow.Author.Tests.{eqb-true}
+use mathlib.Core.Bool.{true}
 
 module _ (words : List ℕ) where
   trees_length : (n : ℕ) → length (trees_below words n) ≡ n
@@ -47,3 +54,35 @@ module _ (words : List ℕ) where
   pub tree_of_none : tree_of words 0 ≡ nothing
   unfolding tree_of
   tree_of_none = refl
+
+-- what a node refers to is lower than the node
+pub record Lower (reference : ℕ) (node : Node) : Type 0 where
+  pub a : node.a < reference
+  pub b : node.b < reference
+  pub c : node.c < reference
+
+pub lower_parts : (words : List ℕ) (reference : ℕ) → (reference ≡ 0 → ⊥) → {node : Node} → node ≡ node_at words (reference - 1) → Lower reference node
+lower_parts words reference some e =
+    let l = node_lower words (reference - 1) in
+    rw e (record { a = omega arith; b = omega arith; c = omega arith })
+
+-- what the code knows of a reference's node in the case of its form
+pub record Stands (words : List ℕ) (reference : ℕ) (node : Node) (form : Form) : Type 0 where
+  pub tree : tree_of words reference ≡ branch (reference - 1) form (tree_of words node.a) (tree_of words node.b) (tree_of words node.c)
+  pub form_is : (node_at words (reference - 1)).form ≡ form
+  pub variables : VariablesFit form
+  pub part_a : part_fits (kind_named words (reference - 1)) (parts_of form).a node.a ≡ true
+
+pub stands : (words : List ℕ) (reference : ℕ) → (reference ≡ 0 → ⊥) → {node : Node} {form : Form} → node ≡ node_at words (reference - 1) → node.form ≡ form → Stands words reference node form
+stands words reference some e f =
+    rw (← f, e) (record {
+      tree = tree_of_reference words reference (omega arith);
+      form_is = refl;
+      variables = node_variables words (reference - 1);
+      part_a = (node_fits words (reference - 1)).a_fits;
+    })
+
+-- a binder refers to nothing in its a
+pub binds_alone : (words : List ℕ) (reference : ℕ) {node : Node} (variable : ℕ) (binder : Binder) → Stands words reference node (Binds variable binder) → tree_of words node.a ≡ nothing
+binds_alone words reference variable Binding it = rw (eqb-true _ 0 it.part_a, tree_of_none words)
+binds_alone words reference variable (Quantifies quantifier) it = rw (eqb-true _ 0 it.part_a, tree_of_none words)

@@ -1,7 +1,8 @@
 -- A question's table as a tree, and that tree as `calculus` reads it. Assumes nothing.
 -- The trees of all nodes below n are one list, each made from those before it.
 use Rattle.std.specs.Prelude.{ℕ, zero, suc, ◌+◌, List, [], ◌∷◌, ◌++◌, get_or}
-use Rattle.relations.specs.Comparison.{equal, operator_named}
+use Rattle.relations.specs.Comparison.{equal}
+use Rattle.terms.specs.Terms.{operator_in}
 use Rattle.relations.specs.Columns.{attribute, constant}
 use Rattle.calculus.specs.Question as calculus
 use Rattle.nodes.specs.Nodes.{node_at, node_count}
@@ -63,7 +64,7 @@ operand_of (Of variable number) = calculus.of_variable variable (attribute numbe
 operand_of (Fixed value) = calculus.fixed (constant value.0)
 
 abbrev pub atom_of : Atom → calculus.Atom
-atom_of atom = calculus.compare atom.variable (attribute atom.attribute.0) (operator_named atom.operator) (operand_of atom.operand)
+atom_of atom = calculus.compare atom.variable (attribute atom.attribute.0) (operator_in atom.operator) (operand_of atom.operand)
 
 -- "b attribute (0 = whole row)"
 abbrev pub target_of : (variable number : ℕ) → calculus.Target

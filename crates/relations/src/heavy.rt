@@ -6,9 +6,8 @@ ghost use Rattle.relations.specs.Nodes.{heavy_number, weight_of};
 pub fn weight(operation: u32) -> u32
     ensures { result ≡ weight_of (heavy_number operation) }
 {
-    if (operation == 5) | ((8 <= operation) & (operation <= 11)) | (operation == 13) {
-        1
-    } else {
-        0
+    match operation {
+        5 | 8..=11 | 13 => 1,
+        _ => 0,
     }
 }

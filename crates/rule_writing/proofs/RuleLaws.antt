@@ -1,25 +1,28 @@
 -- What a rule writes behind its range: the selects leaf by leaf, and S5's nodes. Assumes nothing.
 use Rattle.calculus.proofs.SizeTheorem.{leaves-size, filter-size, selects_size, projects_size}
 use Prim.Native.Nat.{ℕ, suc, ◌+◌, ◌-◌, ◌≤◌, ◌<◌, pred, ◌/◌}
-use mathlib.Core.Path.{◌≡◌, refl, sym, ap, ap₂, ◌∙◌}
-use mathlib.Core.Bool.{Bool, true, false, cond, ◌&&◌, ◌||◌}
+use mathlib.Core.Path.{◌≡◌, sym, ap, ap₂, ◌∙◌}
+use mathlib.Core.Bool.{Bool, true, false, ◌&&◌, ◌||◌}
 use mathlib.Core.List.{List, [], ◌∷◌, ◌++◌, map, append_assoc}
 use native.Mathlib.Omega.{arith}
 use lib.Dec.{leb}
 use lib.ListN.{length, length-map, length-append}
 use borrow.Author.Tests.{leb-true}
-use Rattle.relations.specs.Limits.{triple_limit, pair_limit}
+use Rattle.relations.specs.Limits.{triple_limit, pair_limit, list_words}
 use Rattle.relations.specs.PlanWords.{triple_words, pair_words}
 use Rattle.calculus.specs.Leaves.{leaves, opposite_atom, alone_on, compares_with_other, own_attribute, equates_with, equates_outside}
-use Rattle.calculus.specs.ShortRules.{last_number, select_nodes, project_nodes, restricted_range, outside_triples, division_pairs, short_rule2_atoms, short_rule5_atoms, short_rule5_columns}
-use Rattle.relations.specs.Columns.{Triple, Pair}
+use Rattle.calculus.specs.ShortRules.{last_number, select_node, select_nodes, project_nodes, restricted_range, outside_triples, division_pairs, short_rule2_atoms, short_rule5_atoms, short_rule5_columns}
+use Rattle.relations.specs.Columns.{Attribute, Triple, Pair}
 use Rattle.relations.specs.Lists.{all, filter, flat}
 use Rattle.relations.specs.Nodes.{Node, semijoin, antijoin, divide, unite}
 use Rattle.calculus.specs.Question as calculus
 use Rattle.calculus.specs.Scope.{entry, Scope}
-use Rattle.conditions.specs.Leaves.{leaf_at, atoms_of}
+use Rattle.conditions.specs.declared.scope.Scope.{Scope as Carried}
+use Rattle.conditions.specs.Leaves.{atoms_of}
 use Rattle.calculus.proofs.LegalColumns.{few-opposite}
-use Rattle.emission.specs.NodeLists.{node_list, numbers_of}
+use Rattle.emission.specs.NodeLists.{node_list, grown_by, numbers_of}
+use Rattle.emission.proofs.NodeListLaws.{grown_used, grown_then, grown-list, numbers-append}
+use Rattle.short_rules.specs.Lists.{links}
 use Rattle.emission.specs.declared.node_list.NodeList.{NodeList}
 use Rattle.emission.specs.Written.{Written}
 use Rattle.relations.specs.Legality.{between}
@@ -31,39 +34,19 @@ use Rattle.rule_writing.specs.Rules.{dividend_nodes, RuleFits, DividendFits, Rul
 use Rattle.short_rules.specs.declared.fits.ShortRule.{ShortRule}
 use Rattle.short_rules.proofs.LeafSteps as steps
 use Rattle.short_rules.proofs.ListLaws.{outside_size}
-use Rattle.emission.proofs.WrittenLaws.{written_then, last_is, written_as, room-less}
+use Rattle.emission.proofs.WrittenLaws.{written_then, pred_is, last_is, written_as, room-less}
 
--- the next leaf of so many
-module _ (words : List ℕ) (opposite : Bool) (collected : List ℕ) (i left : ℕ) (h : 0 < left) where
-  abbrev rest : ℕ → ℕ → List calculus.Atom
-  rest = steps.rest words opposite collected
-
-  pub selects_next : (s : Scope) (x n : ℕ) → 1 ≤ n → select_nodes s (filter (alone_on x) (rest i left)) (pred n) n ≡ select_nodes s (filter (alone_on x) (leaf_at words opposite collected i ∷ [])) (pred n) n ++ select_nodes s (filter (alone_on x) (rest (i + 1) (left - 1))) (pred (n + length (select_nodes s (filter (alone_on x) (leaf_at words opposite collected i ∷ [])) (pred n) n))) (n + length (select_nodes s (filter (alone_on x) (leaf_at words opposite collected i ∷ [])) (pred n) n))
-  selects_next s x n some = ap (λ l. select_nodes s (filter (alone_on x) l) (pred n) n) (steps.next_leaf words opposite collected i left h) ∙ go (alone_on x (leaf_at words opposite collected i)) (leaf_at words opposite collected i)
-    where
-      go : (b : Bool) (a : calculus.Atom) → select_nodes s (cond b (a ∷ filter (alone_on x) (rest (i + 1) (left - 1))) (filter (alone_on x) (rest (i + 1) (left - 1)))) (pred n) n ≡ select_nodes s (cond b (a ∷ []) []) (pred n) n ++ select_nodes s (filter (alone_on x) (rest (i + 1) (left - 1))) (pred (n + length (select_nodes s (cond b (a ∷ []) []) (pred n) n))) (n + length (select_nodes s (cond b (a ∷ []) []) (pred n) n))
-      go true a =
-          let e : n + 1 ≡ suc n = omega arith in
-          rw e
-      go false a =
-          let e : n + 0 ≡ n = omega arith in
-          rw e
-
-pub alone_here : (x : ℕ) (a : calculus.Atom) → alone_on x a ≡ true → filter (alone_on x) (a ∷ []) ≡ a ∷ []
-alone_here x a h = rw h
-
-pub alone_not : (x : ℕ) (a : calculus.Atom) → alone_on x a ≡ false → filter (alone_on x) (a ∷ []) ≡ []
-alone_not x a h = rw h
-
-pub alone_count : (x : ℕ) (a : calculus.Atom) → length (filter (alone_on x) (a ∷ [])) ≡ cond (alone_on x a) 1 0
-alone_count x a = go (alone_on x a)
-  where
-    go : (b : Bool) → length (cond b (a ∷ []) []) ≡ cond b 1 0
-    go true = refl
-    go false = refl
+-- the next leaf, on x alone
+module _ (words : List ℕ) (opposite : Bool) (numbers : List ℕ) (i : ℕ) (h : i < length numbers) (s : Scope) (x : ℕ) where
+  pub selects_next : (n m : ℕ) (a : calculus.Atom) → a ≡ steps.here words opposite numbers i h → alone_on x a ≡ true → m ≡ n + 1
+      → select_nodes s (filter (alone_on x) (steps.rest words opposite numbers i)) (pred n) n ≡ select_node s (n - 1) a ∷ select_nodes s (filter (alone_on x) (steps.rest words opposite numbers (i + 1))) (pred m) m
+  selects_next n m a e alone f =
+      let before : n - 1 ≡ pred n = sym (pred_is n) in
+      let after : m ≡ suc n = omega arith in
+      rw (before, after, e) (ap (λ l. select_nodes s l (pred n) n) (steps.filter_in words opposite numbers i h (alone_on x) (ap (alone_on x) (sym e) ∙ alone)))
 
 -- a rule's leaves once they are found: its selects, its triples and its equations
-module _ {words plan scope : List ℕ} {rule : ShortRule} {x width condition y n : ℕ} (r : RuleReady words plan scope rule x width condition y n) {found : List ℕ} (f : FoundLeaves words (condition_at words condition) found) where
+module _ {words plan : List ℕ} {scope : Carried} {rule : ShortRule} {x width condition y n : ℕ} (r : RuleReady words plan scope rule x width condition y n) {found : List ℕ} (f : FoundLeaves words (condition_at words condition) found) where
   abbrev atoms : List calculus.Atom
   atoms = leaves (condition_at words condition)
 
@@ -118,6 +101,19 @@ module _ (s : Scope) (z y : ℕ) (atoms : List calculus.Atom) {triples : NodeLis
 
 pub own_size : (z : ℕ) (atoms : List calculus.Atom) → length (numbers_of (map (own_attribute z) atoms)) ≡ length atoms
 own_size z atoms = length-map (map (own_attribute z) atoms) (λ a. a.number) ∙ length-map atoms (own_attribute z)
+
+-- z's attributes in the two kinds of equations, listed one behind the other, are the columns that S5 keeps
+module _ (z y : ℕ) (atoms : List calculus.Atom) where
+  abbrev own : Bool → List Attribute
+  own outside = map (own_attribute z) (filter (links outside z y) atoms)
+
+  pub columns_room : {nothing first : NodeList} → length (filter (equates_with z y) atoms) ≤ pair_limit → length (filter (equates_outside z y) atoms) ≤ triple_limit → nothing ≡ node_list [] → first ≡ grown_by nothing (numbers_of (own true)) → first.used + length (filter (links false z y) atoms) ≤ list_words
+  columns_room h k none e = omega (arith, h, k, ap (λ (l : NodeList). l.used) none, grown_used _ _ e, own_size z (filter (equates_outside z y) atoms))
+
+  pub columns_listed : {nothing first both : NodeList} → length (filter (equates_with z y) atoms) ≤ pair_limit → length (filter (equates_outside z y) atoms) ≤ triple_limit → nothing ≡ node_list [] → first ≡ grown_by nothing (numbers_of (own true)) → both ≡ grown_by first (numbers_of (own false)) → both ≡ node_list (numbers_of (short_rule5_columns z y atoms))
+  columns_listed h k none e f =
+      grown-list _ none (grown_then _ _ _ e f) (omega (arith, h, k, length-append (numbers_of (own true)) (numbers_of (own false)), own_size z (filter (equates_outside z y) atoms), own_size z (filter (equates_with z y) atoms)))
+      ∙ ap node_list (sym (numbers-append (own true) (own false)))
 
 -- the selects behind a range that stands there already
 pub own_selects : (x width : ℕ) (atoms : List calculus.Atom) (n : ℕ) → restricted_range x width atoms [] n ≡ select_nodes (entry x width ∷ []) (filter (alone_on x) atoms) (pred n) n

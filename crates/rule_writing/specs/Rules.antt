@@ -8,6 +8,7 @@ use Rattle.calculus.specs.Scope.{Scope}
 use Rattle.calculus.specs.Leaves.{leaves, alone_on, equates_with, equates_outside}
 use Rattle.calculus.specs.ShortRules.{last_number, select_node, project_nodes, restricted_range, short_rule2_atoms, short_rule2_nodes, short_rule3_nodes, short_rule4_nodes, short_rule5_atoms, short_rule5_columns, short_rule5_nodes, short_rule6_nodes}
 use Rattle.conditions.specs.Readings.{Names, condition_at}
+use Rattle.conditions.specs.declared.scope.Scope.{Scope as Carried}
 use Rattle.conditions.specs.Scopes.{ScopeFits}
 use Rattle.conditions.specs.Leaves.{atoms_of, LeavesFit}
 use Rattle.emission.specs.Written.{Room}
@@ -58,7 +59,7 @@ pub record DividendFits (words plan found : List ℕ) (y z width n more : ℕ) :
   pub few_outside : length (filter (equates_outside z y) (atoms_of words false found)) ≤ triple_limit
 
 -- a rule's atoms are those that it asks for, and there is room for what it writes
-pub record RuleReady (words plan scope : List ℕ) (rule : ShortRule) (x width condition y n : ℕ) : Type 0 where
+pub record RuleReady (words plan : List ℕ) (scope : Carried) (rule : ShortRule) (x width condition y n : ℕ) : Type 0 where
   pub named : Names words condition
   pub small : condition_nodes (condition_at words condition) ≤ question_node_limit
   pub atoms : rule_atoms rule x y (leaves (condition_at words condition)) ≡ true

@@ -13,60 +13,37 @@ ghost use Rattle.emission.specs.Written.{Room, Written};
 ghost use Rattle.rule_writing.specs.Rules.{join_nodes, atom_nodes, dividend_nodes, rule_nodes, RuleFits, DividendFits, RuleReady};
 
 use conditions::atom::{alone_on, opposite_atom};
-use conditions::leaves::{LEAF_WORDS, collect, leaf};
-use conditions::scope::{SCOPE_BYTES, column_of, extend};
+use conditions::leaves::{Leaves, collect, leaf};
+use conditions::scope::Scope;
 use emission::emit::{Comparand, Linking, link, pair, select};
-use emission::node_list::no_list;
+use emission::node_list::NodeList;
 use emission::projects::write_project;
 use nodes::node::{Atom, Combination, Operand};
 use short_rules::fits::ShortRule;
-use short_rules::lists::{division_pairs, outside_triples, triples_of, with_own_columns};
+use short_rules::lists::{division_pairs, extend_by_own_columns, outside_triples, triples_of};
 
 // Atom: select. A select keeps the atom's sides.
-fn write_select(scope: &[u8; SCOPE_BYTES], atom: Atom, p: u32, plan: &mut [u32], n: u32) -> u32
+fn write_select(scope: &Scope, atom: Atom, p: u32, plan: &mut [u32], n: u32) -> u32
     requires { ScopeFits scope.now × AtomNarrow atom × Room plan.old n 1 }
     ensures { Written plan.old n (select_node (scope_of scope.now) p (atom_of atom) ∷ []) plan.new result }
 {
-    let operator = atom.operator;
-    let own = atom.attribute;
-    let operand = atom.operand;
-    let attribute = column_of(scope, atom.variable, own);
-    match operand {
+    let attribute = scope.column_of(atom.variable, atom.attribute);
+    let with = match atom.operand {
         Operand::Of {
             variable,
             attribute: other,
-        } => {
-            let with = column_of(scope, variable, other);
-            select(plan, n, p, attribute, operator, Comparand::Attribute(with))
-        }
-        Operand::Fixed(constant) => select(
-            plan,
-            n,
-            p,
-            attribute,
-            operator,
-            Comparand::Constant(constant),
-        ),
-    }
-}
-
-// A select of an atom on x alone, on the value before.
-fn write_if_alone(own: &[u8; SCOPE_BYTES], x: u32, atom: Atom, plan: &mut [u32], n: u32) -> u32
-    requires { ScopeFits own.now × AtomNarrow atom × (1 ≤ n) × Room plan.old n (length (filter (alone_on x) (atom_of atom ∷ []))) }
-    ensures { Written plan.old n (select_nodes (scope_of own.now) (filter (alone_on x) (atom_of atom ∷ [])) (pred n) n) plan.new result }
-{
-    if alone_on(x, atom) {
-        return write_select(own, atom, n - 1, plan, n);
-    }
-    n
+        } => Comparand::Attribute(scope.column_of(variable, other)),
+        Operand::Fixed(constant) => Comparand::Constant(constant),
+    };
+    select(plan, n, p, attribute, atom.operator, with)
 }
 
 // A select for each leaf on x alone, each on the value before.
 fn write_selects(
     words: &[u32],
-    own: &[u8; SCOPE_BYTES],
+    own: &Scope,
     x: u32,
-    leaves: &[u32; LEAF_WORDS],
+    leaves: &[u32],
     opposite: bool,
     plan: &mut [u32],
     n: u32,
@@ -75,12 +52,11 @@ fn write_selects(
     ensures { Written plan.old n (select_nodes (scope_of own.now) (filter (alone_on x) (atoms_of words.now opposite leaves.now)) (pred n) n) plan.new result }
 {
     let mut count = n;
-    let mut i: usize = 0;
-    let mut left = leaves[0];
-    while 0 < left {
-        count = write_if_alone(own, x, leaf(words, leaves, opposite, i), plan, count);
-        i += 1;
-        left -= 1;
+    for number in leaves {
+        let atom = leaf(words, *number, opposite);
+        if alone_on(x, atom) {
+            count = write_select(own, atom, count - 1, plan, count);
+        }
     }
     count
 }
@@ -90,7 +66,7 @@ fn write_own_selects(
     words: &[u32],
     x: u32,
     width: u32,
-    leaves: &[u32; LEAF_WORDS],
+    leaves: &[u32],
     opposite: bool,
     plan: &mut [u32],
     n: u32,
@@ -98,19 +74,19 @@ fn write_own_selects(
     requires { (x < variable_count) × LeavesFit words.now leaves.now × (1 ≤ width) × (width ≤ column_limit) × (1 ≤ n) × Room plan.old n (length (filter (alone_on x) (atoms_of words.now opposite leaves.now))) }
     ensures { Written plan.old n (restricted_range x width (atoms_of words.now opposite leaves.now) [] n) plan.new result }
 {
-    let mut own = [0u8; SCOPE_BYTES];
-    extend(&mut own, x, width);
+    let mut own = Scope::new();
+    own.extend(x, width);
     write_selects(words, &own, x, leaves, opposite, plan, n)
 }
 
 // A semijoin from P with x's range, restricted to the leaves on x alone, which stands before node n; or an antijoin.
 fn write_join(
     words: &[u32],
-    scope: &[u8; SCOPE_BYTES],
+    scope: &Scope,
     anti: bool,
     x: u32,
     width: u32,
-    leaves: &[u32; LEAF_WORDS],
+    leaves: &[u32],
     opposite: bool,
     p: u32,
     plan: &mut [u32],
@@ -121,15 +97,17 @@ fn write_join(
 {
     let triples = triples_of(words, scope, x, leaves, opposite);
     let count = write_own_selects(words, x, width, leaves, opposite, plan, n);
-    if anti {
-        return link(plan, count, Linking::Antijoin, p, count - 1, triples);
-    }
-    link(plan, count, Linking::Semijoin, p, count - 1, triples)
+    let how = if anti {
+        Linking::Antijoin
+    } else {
+        Linking::Semijoin
+    };
+    link(plan, count, how, p, count - 1, triples)
 }
 
 // Atom: select. S6, not above an atom, selects its opposite.
 pub fn write_atom(
-    scope: &[u8; SCOPE_BYTES],
+    scope: &Scope,
     opposite: bool,
     atom: Atom,
     p: u32,
@@ -139,10 +117,8 @@ pub fn write_atom(
     requires { ScopeFits scope.now × AtomNarrow atom × Room plan.old n 1 }
     ensures { Written plan.old n (atom_nodes opposite (scope_of scope.now) p (atom_of atom)) plan.new result }
 {
-    if opposite {
-        return write_select(scope, opposite_atom(atom), p, plan, n);
-    }
-    write_select(scope, atom, p, plan, n)
+    let selected = if opposite { opposite_atom(atom) } else { atom };
+    write_select(scope, selected, p, plan, n)
 }
 
 // The selects of z's range, then z's attribute in each equation with a variable outside and in each with y.
@@ -151,15 +127,16 @@ fn write_dividend(
     y: u32,
     z: u32,
     width: u32,
-    leaves: &[u32; LEAF_WORDS],
+    leaves: &[u32],
     plan: &mut [u32],
     n: u32,
 ) -> u32
     requires { DividendFits words.now plan.old leaves.now y z width n 1 }
     ensures { Written plan.old n (dividend_nodes y z width (atoms_of words.now false leaves.now) n) plan.new result }
 {
-    let outside = with_own_columns(words, true, z, y, leaves, no_list());
-    let columns = with_own_columns(words, false, z, y, leaves, outside);
+    let mut columns = NodeList::new();
+    extend_by_own_columns(&mut columns, words, true, z, y, leaves);
+    extend_by_own_columns(&mut columns, words, false, z, y, leaves);
     let count = write_own_selects(words, z, width, leaves, false, plan, n);
     write_project(true, width, count - 1, columns, plan, count)
 }
@@ -167,12 +144,12 @@ fn write_dividend(
 // S5: "every y", whose range is node k, above "some z", whose range stands before node n.
 fn write_division(
     words: &[u32],
-    scope: &[u8; SCOPE_BYTES],
+    scope: &Scope,
     y: u32,
     k: u32,
     z: u32,
     width: u32,
-    leaves: &[u32; LEAF_WORDS],
+    leaves: &[u32],
     p: u32,
     plan: &mut [u32],
     n: u32,
@@ -185,7 +162,7 @@ fn write_division(
     let q = write_dividend(words, y, z, width, leaves, plan, n);
     let divided = link(plan, q, Linking::Divide, q - 1, k, pairs);
     let matched = link(plan, divided, Linking::Semijoin, p, q, triples);
-    let unmatched = link(plan, matched, Linking::Antijoin, p, k, no_list());
+    let unmatched = link(plan, matched, Linking::Antijoin, p, k, NodeList::new());
     pair(plan, unmatched, Combination::Or, divided, matched)
 }
 
@@ -194,7 +171,7 @@ fn write_division(
 // holds their leaves and lists.
 pub fn write_rule(
     words: &[u32],
-    scope: &[u8; SCOPE_BYTES],
+    scope: &Scope,
     rule: ShortRule,
     x: u32,
     width: u32,
@@ -208,12 +185,13 @@ pub fn write_rule(
     requires { RuleReady words.now plan.old scope.now rule x width condition y n }
     ensures { Written plan.old n (rule_nodes rule (scope_of scope.now) y k x width (leaves (condition_at words.now condition)) p n) plan.new result }
 {
-    let mut found = [0u32; LEAF_WORDS];
+    let mut found = Leaves::new();
     collect(words, false, condition, &mut found);
+    let leaves = found.numbers();
     match rule {
-        ShortRule::S2 => write_join(words, scope, false, x, width, &found, false, p, plan, n),
-        ShortRule::S3 => write_join(words, scope, true, x, width, &found, false, p, plan, n),
-        ShortRule::S4 => write_join(words, scope, true, x, width, &found, true, p, plan, n),
-        ShortRule::S5 => write_division(words, scope, y, k, x, width, &found, p, plan, n),
+        ShortRule::S2 => write_join(words, scope, false, x, width, leaves, false, p, plan, n),
+        ShortRule::S3 => write_join(words, scope, true, x, width, leaves, false, p, plan, n),
+        ShortRule::S4 => write_join(words, scope, true, x, width, leaves, true, p, plan, n),
+        ShortRule::S5 => write_division(words, scope, y, k, x, width, leaves, p, plan, n),
     }
 }

@@ -3,7 +3,10 @@ use mathlib.Core.Path.{◌≡◌, refl, sym, ap, ◌∙◌}
 use mathlib.Core.Bool.{Bool, true, false, cond, ◌&&◌}
 use mathlib.Core.List.{List, [], ◌∷◌, ◌++◌}
 use mathlib.Core.Option.{Option, some, none}
-use Prim.Native.Nat.{ℕ, zero, suc, ◌+◌, ◌-◌, ◌/◌, ◌%◌, ◌<◌}
+use Prim.Native.Nat.{ℕ, zero, suc, ◌+◌, ◌-◌, ◌*◌, ◌/◌, ◌%◌, ◌<◌}
+use native.Mathlib.Nat.{div-add-mod'}
+use borrow.Author.Tests.{eqb-true}
+use Rattle.relations.proofs.BoolLaws.{and_left}
 use native.Mathlib.Omega.{arith}
 use lib.Dec.{eqb}
 use lib.ListN.{length, get_or, take, drop, length-append}
@@ -18,22 +21,18 @@ use Rattle.relations.specs.PlanWords.{read_node}
 use Rattle.relations.proofs.MachineLaws.{run-keeps}
 use Rattle.relations.proofs.ValueLaws.{all_members, member_has, member-canonical}
 use Rattle.catalogue.specs.Stored.{relations_of, columns_of}
-use Rattle.plan_reading.specs.Judging.{judged_node, onward, judge_plan_nodes, plan_judgement, nodes_in}
-use Rattle.plan_reading.specs.declared.judging.PlanJudgement.{PlanJudgement}
-use Rattle.plan_reading.specs.declared.judging.PlanJudgement.TheVariants.{Legal, Illegal}
+use Rattle.std.specs.Prelude.{Ok}
+use Rattle.plan_reading.specs.Judging.{PlanJudgement, illegal_at, judged_node, onward, judge_plan_nodes, plan_judgement, nodes_in}
 
 pub record Next (catalogue : List ℕ) (left : ℕ) (made words : List ℕ) (count : ℕ) : Type 0 where
   pub node : Node
   pub read : read_node (take plan_node_words words) ≡ some node
   pub legal : legal_node (relations_of catalogue) made node ≡ true
-  pub onward : judge_plan_nodes catalogue (left - 1) (made ++ (width_of_node (columns_of catalogue) made node ∷ [])) (drop plan_node_words words) ≡ Legal count
+  pub onward : judge_plan_nodes catalogue (left - 1) (made ++ (width_of_node (columns_of catalogue) made node ∷ [])) (drop plan_node_words words) ≡ Ok count
   pub todo : nodes_in left words ≡ node ∷ nodes_in (left - 1) (drop plan_node_words words)
 
-illegal-legal {ℓ} : {C : Type ℓ} {place count : ℕ} → Illegal place ≡ Legal count → C
-illegal-legal e = let z : ◌≡◌ {A = ℕ} 0 1 = cc in absurd (omega arith)
-
 -- a plan that is judged legal with a node to come has a legal node there
-pub next_node : (catalogue : List ℕ) (left : ℕ) (made words : List ℕ) (count : ℕ) → 0 < left → judge_plan_nodes catalogue left made words ≡ Legal count → Next catalogue left made words count
+pub next_node : (catalogue : List ℕ) (left : ℕ) (made words : List ℕ) (count : ℕ) → 0 < left → judge_plan_nodes catalogue left made words ≡ Ok count → Next catalogue left made words count
 unfolding judge_plan_nodes nodes_in
 next_node catalogue zero made words count h e = absurd (omega arith)
 next_node catalogue (suc left) made words count h e = go (read_node (take plan_node_words words)) refl e
@@ -45,12 +44,12 @@ next_node catalogue (suc left) made words count h e = go (read_node (take plan_n
     less = omega arith
 
     legally : (node : Node) → read_node (take plan_node_words words) ≡ some node → (ok : Bool) → legal_node (relations_of catalogue) made node ≡ ok
-        → onward (judged_node catalogue made (some node)) (length made) rest ≡ Legal count → Next catalogue (suc left) made words count
+        → onward (judged_node catalogue made (some node)) (length made) rest ≡ Ok count → Next catalogue (suc left) made words count
     legally node read true ok e = record { node = node; read = read; legal = ok; onward = rw less (rw ok at e); todo = rw (read, less) }
-    legally node read false ok e = illegal-legal (rw ok at e)
+    legally node read false ok e = let none : illegal_at (length made) ≡ Ok count = rw ok at e in absurd cc
 
-    go : (found : Option Node) → read_node (take plan_node_words words) ≡ found → onward (judged_node catalogue made found) (length made) rest ≡ Legal count → Next catalogue (suc left) made words count
-    go none read e = illegal-legal e
+    go : (found : Option Node) → read_node (take plan_node_words words) ≡ found → onward (judged_node catalogue made found) (length made) rest ≡ Ok count → Next catalogue (suc left) made words count
+    go none read e = absurd cc
     go (some node) read e = legally node read (legal_node (relations_of catalogue) made node) refl e
 
 -- what a step makes stands at its number when all steps are done
@@ -65,7 +64,7 @@ pub wide-candidates : (width : ℕ) (rows : Rows) → Wide width (canonical rows
 wide-candidates width rows h = all_members (λ row. length row ≡ width) rows (λ row m. member_has (λ r. length r ≡ width) row (canonical rows) h (rw (member-canonical row rows) m))
 
 -- a judged plan has as many nodes as the words say
-judged_count : (catalogue : List ℕ) (left : ℕ) (made words : List ℕ) (count : ℕ) → judge_plan_nodes catalogue left made words ≡ Legal count → count ≡ length made + left
+judged_count : (catalogue : List ℕ) (left : ℕ) (made words : List ℕ) (count : ℕ) → judge_plan_nodes catalogue left made words ≡ Ok count → count ≡ length made + left
 unfolding judge_plan_nodes
 judged_count catalogue zero made words count e = let is : length made ≡ count = cc in omega arith
 judged_count catalogue (suc left) made words count e =
@@ -76,13 +75,16 @@ judged_count catalogue (suc left) made words count e =
 
 pub record Sized (catalogue plan : List ℕ) (nodes : ℕ) : Type 0 where
   pub many : length plan / plan_node_words ≡ nodes
-  pub judged : judge_plan_nodes catalogue nodes [] plan ≡ Legal nodes
+  pub size : length plan ≡ nodes * plan_node_words
+  pub judged : judge_plan_nodes catalogue nodes [] plan ≡ Ok nodes
 
-pub judged_sized : (catalogue plan : List ℕ) (nodes : ℕ) → plan_judgement catalogue plan ≡ Legal nodes → Sized catalogue plan nodes
-judged_sized catalogue plan nodes e = go (eqb (length plan % plan_node_words) 0 && between 1 plan_node_limit (length plan / plan_node_words)) e
+pub judged_sized : (catalogue plan : List ℕ) (nodes : ℕ) → plan_judgement catalogue plan ≡ Ok nodes → Sized catalogue plan nodes
+judged_sized catalogue plan nodes e = go (eqb (length plan % plan_node_words) 0 && between 1 plan_node_limit (length plan / plan_node_words)) refl e
   where
-    go : (good : Bool) → cond good (judge_plan_nodes catalogue (length plan / plan_node_words) [] plan) (Illegal 0) ≡ Legal nodes → Sized catalogue plan nodes
-    go false e = illegal-legal e
-    go true e =
+    go : (good : Bool) → (eqb (length plan % plan_node_words) 0 && between 1 plan_node_limit (length plan / plan_node_words)) ≡ good
+        → cond good (judge_plan_nodes catalogue (length plan / plan_node_words) [] plan) (illegal_at 0) ≡ Ok nodes → Sized catalogue plan nodes
+    go false good e = absurd cc
+    go true good e =
         let is : length plan / plan_node_words ≡ nodes = omega (arith, judged_count catalogue (length plan / plan_node_words) [] plan nodes e) in
-        record { many = is; judged = rw is at e }
+        let whole : length plan % plan_node_words ≡ 0 = eqb-true (length plan % plan_node_words) 0 (and_left (eqb (length plan % plan_node_words) 0) (between 1 plan_node_limit (length plan / plan_node_words)) good) in
+        record { many = is; size = sym (div-add-mod' (length plan) plan_node_words) ∙ omega arith; judged = rw is at e }

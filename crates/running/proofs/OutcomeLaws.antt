@@ -15,12 +15,12 @@ use Rattle.values.specs.Words.{row_in, words_of}
 use Rattle.values.specs.Building.{cleared_from, Blank}
 use Rattle.values.specs.declared.rows.Value.{Value}
 use Rattle.values.proofs.RowsLaws.{row_inside, length-rows_at, words-rows_at}
-use Rattle.plan_reading.specs.Judging.{plan_judgement, nodes_of_plan}
-use Rattle.plan_reading.specs.declared.judging.PlanJudgement.TheVariants.{Legal, Illegal}
-use Rattle.running.specs.RunCall.{RunNumbers, run_refusal, RunOutcome, capacity_of, Fit, fits, passes_at, answer_rows, last_place, answer_width, fit_within, stopped, answered, ran_outcome, refused, run_outcome}
+use Rattle.plan_reading.specs.Judging.{illegal_at, plan_judgement, nodes_of_plan}
+use Rattle.running.specs.RunCall.{RunNumbers, run_numbers, run_refusal, RunOutcome, capacity_of, Fit, fits, passes_at, answer_rows, last_place, answer_width, fit_within, stopped, answered, ran_outcome, refused, run_outcome}
 use Rattle.running.specs.PlanRun.{Answered, PlanRun}
-use Rattle.running.specs.declared.Worked.{Worked}
-use Rattle.running.specs.declared.Worked.TheVariants.{Answer, NoRoom}
+use Rattle.running.specs.declared.RunRefusal.{RunRefusal}
+use Rattle.running.specs.declared.RunRefusal.TheVariants.{WrongTables, IllegalPlan, NoRoom, LongAnswer}
+use Rattle.std.specs.Prelude.{Ok, Err}
 
 -- a work area that was cleared is blank
 pub cleared-blank : {words : List ℕ} (work : List ℕ) → words ≡ cleared_from 0 work → Blank 0 words
@@ -29,15 +29,15 @@ cleared-blank {words} work e =
     e ∙ ap (λ (n : ℕ). replicate n 0) (sym size)
 
 -- After running: the answer handed out, or a refusal.
-module _ (catalogue tables : List ℕ) (plan : List Node) (work after : List ℕ) {worked : Worked} (same : length after ≡ length work) (ran : PlanRun catalogue tables plan after worked) where
-  pub ran_no_room : {place : ℕ} → worked ≡ NoRoom place → (output left : List ℕ)
-      → record { numbers = run_refusal 10 place; work = left; output = output } ≡ ran_outcome catalogue tables plan left output (fit_within catalogue tables plan (length work))
-  ran_no_room {place} e output left = let stops : fit_within catalogue tables plan (length after) ≡ passes_at place = rw e at ran in rw (← same, stops)
+module _ (catalogue tables : List ℕ) (plan : List Node) (work after : List ℕ) (same : length after ≡ length work) where
+  pub ran_refused : (refusal : RunRefusal) → PlanRun catalogue tables plan after (Err refusal) → (output left : List ℕ)
+      → record { numbers = run_numbers (Err refusal); work = left; output = output } ≡ ran_outcome catalogue tables plan left output (fit_within catalogue tables plan (length work))
+  ran_refused WrongTables ran output left = absurd ran
+  ran_refused (IllegalPlan place) ran output left = absurd ran
+  ran_refused (NoRoom place) ran output left = rw (← same, ran)
+  ran_refused (LongAnswer place) ran output left = absurd ran
 
-  module _ {value : Value} {heavies room : ℕ} (e : worked ≡ Answer value heavies room) where
-    pub ran_answer : Answered catalogue tables plan after value heavies room
-    ran_answer = rw e at ran
-
+  module _ {value : Value} {heavies room : ℕ} (ran_answer : Answered catalogue tables plan after value heavies room) where
     pub ran_inside : value.base + value.rows * value.width ≤ length work
     ran_inside = omega (arith, ran_answer.inside, same)
 
@@ -87,12 +87,12 @@ module _ (catalogue tables plan work output : List ℕ) where
   unfolding run_outcome
   outcome-tables h = rw h
 
-  pub outcome-illegal : tables_ok catalogue tables ≡ true → {place : ℕ} → plan_judgement catalogue plan ≡ Illegal place → refused catalogue tables plan work output 9 place ≡ run_outcome catalogue tables plan work output
+  pub outcome-illegal : tables_ok catalogue tables ≡ true → {place : ℕ} → plan_judgement catalogue plan ≡ illegal_at place → refused catalogue tables plan work output 9 place ≡ run_outcome catalogue tables plan work output
   unfolding run_outcome
   outcome-illegal h e = rw (h, e)
 
   -- the part within capacity was run, and what is behind it is as it was
-  pub outcome_ran : tables_ok catalogue tables ≡ true → {nodes : ℕ} → plan_judgement catalogue plan ≡ Legal nodes → {capacity : ℕ} → capacity ≡ capacity_of work → {outcome : RunOutcome}
+  pub outcome_ran : tables_ok catalogue tables ≡ true → {nodes : ℕ} → plan_judgement catalogue plan ≡ Ok nodes → {capacity : ℕ} → capacity ≡ capacity_of work → {outcome : RunOutcome}
       → outcome ≡ ran_outcome catalogue tables (nodes_of_plan plan) (replicate (length (take capacity work)) 0 ++ drop capacity work) output (fit_within catalogue tables (nodes_of_plan plan) (length (take capacity work)))
       → outcome ≡ run_outcome catalogue tables plan work output
   unfolding run_outcome

@@ -1,6 +1,6 @@
 -- Every number of a call of `run` is small: places and counts of nodes by the node limit, the room by the capacity, the answer's rows by the room. Assumes nothing.
 use Prim.Native.Nat.{ℕ, zero, suc, pred, ◌+◌, ◌*◌, ◌/◌, ◌%◌, ◌≤◌, ◌<◌}
-use mathlib.Core.Path.{◌≡◌, refl}
+use mathlib.Core.Path.{◌≡◌, refl, ap}
 use mathlib.Core.Bool.{Bool, true, false, cond, not, ◌&&◌}
 use mathlib.Core.List.{List, [], ◌∷◌, ◌++◌}
 use native.Mathlib.Omega.{arith}
@@ -18,11 +18,8 @@ use Rattle.relations.proofs.LegalityLaws.{so_between}
 use Rattle.relations.proofs.MachineLaws.{run_length}
 use Rattle.catalogue.specs.Judging.{tables_ok}
 use Rattle.catalogue.specs.Stored.{columns_of, stored_tables}
-use Rattle.plan_reading.specs.Judging.{judged_node, onward, judge_plan_nodes, plan_judgement, nodes_of_plan}
-use Rattle.plan_reading.specs.declared.judging.Width.{Width}
-use Rattle.plan_reading.specs.declared.judging.Width.TheVariants.{Of, Illegal as NoWidth}
-use Rattle.plan_reading.specs.declared.judging.PlanJudgement.{PlanJudgement}
-use Rattle.plan_reading.specs.declared.judging.PlanJudgement.TheVariants.{Legal, Illegal}
+use Rattle.std.specs.Prelude.{Option, Some, None, Ok, Err}
+use Rattle.plan_reading.specs.Judging.{PlanNumbers, plan_numbers, PlanJudgement, illegal_at, judged_node, onward, judge_plan_nodes, plan_judgement, nodes_of_plan}
 use Rattle.running.specs.RunCall.{run_refusal, sizes_of, Fit, fits, passes_at, fit_of, capacity_of, cleared, answer_rows, answer_width, last_place, plan_room, fit_within, stopped, answered, ran_outcome, refused, judged_outcome, run_outcome}
 use Rattle.running.specs.RunBounds.{Bounded}
 use Rattle.running.proofs.SizeLaws.{total, room_total}
@@ -33,28 +30,31 @@ refusal_bounded status place h = record { place = h; nodes = omega arith; heavy 
 
 -- 9: the place is a node of the words
 
-illegal-inside : (catalogue : List ℕ) (count : ℕ) (made words : List ℕ) (place : ℕ) → judge_plan_nodes catalogue count made words ≡ Illegal place → place ≤ length made + count
+illegal-place : {at place : ℕ} → illegal_at at ≡ illegal_at place → at ≡ place
+illegal-place e = ap (λ (n : PlanNumbers). n.place) (ap plan_numbers e)
+
+illegal-inside : (catalogue : List ℕ) (count : ℕ) (made words : List ℕ) (place : ℕ) → judge_plan_nodes catalogue count made words ≡ illegal_at place → place ≤ length made + count
 unfolding judge_plan_nodes
-illegal-inside catalogue zero made words place e = let never : ◌≡◌ {A = ℕ} 0 1 = cc in absurd (omega arith)
+illegal-inside catalogue zero made words place e = absurd cc
 illegal-inside catalogue (suc count) made words place e =
     go (judged_node catalogue made (read_node (take plan_node_words words))) e (λ width later. illegal-inside catalogue count (made ++ (width ∷ [])) (drop plan_node_words words) place later)
   where
     rest : ℕ → PlanJudgement
     rest width = judge_plan_nodes catalogue count (made ++ (width ∷ [])) (drop plan_node_words words)
 
-    go : (width : Width) → onward width (length made) rest ≡ Illegal place → ((w : ℕ) → rest w ≡ Illegal place → place ≤ length (made ++ (w ∷ [])) + count) → place ≤ length made + suc count
-    go (Of width) e later = omega (arith, later width e, length-append made (width ∷ []))
-    go NoWidth e later = let is : length made ≡ place = cc in omega arith
+    go : (width : Option ℕ) → onward width (length made) rest ≡ illegal_at place → ((w : ℕ) → rest w ≡ illegal_at place → place ≤ length (made ++ (w ∷ [])) + count) → place ≤ length made + suc count
+    go (Some width) e later = omega (arith, later width e, length-append made (width ∷ []))
+    go None e later = omega (arith, illegal-place e)
 
-illegal_bounded : (catalogue plan : List ℕ) (place : ℕ) → plan_judgement catalogue plan ≡ Illegal place → place ≤ plan_node_limit
+illegal_bounded : (catalogue plan : List ℕ) (place : ℕ) → plan_judgement catalogue plan ≡ illegal_at place → place ≤ plan_node_limit
 illegal_bounded catalogue plan place e = go (eqb (length plan % plan_node_words) 0 && between 1 plan_node_limit (length plan / plan_node_words)) refl e
   where
     go : (whole : Bool) → (eqb (length plan % plan_node_words) 0 && between 1 plan_node_limit (length plan / plan_node_words)) ≡ whole
-        → cond whole (judge_plan_nodes catalogue (length plan / plan_node_words) [] plan) (Illegal 0) ≡ Illegal place → place ≤ plan_node_limit
+        → cond whole (judge_plan_nodes catalogue (length plan / plan_node_words) [] plan) (illegal_at 0) ≡ illegal_at place → place ≤ plan_node_limit
     go true whole e =
         let few : length plan / plan_node_words ≤ plan_node_limit = (so_between 1 plan_node_limit (length plan / plan_node_words) (and_right (eqb (length plan % plan_node_words) 0) (between 1 plan_node_limit (length plan / plan_node_words)) whole)).1 in
         omega (arith, few, illegal-inside catalogue (length plan / plan_node_words) [] plan place e)
-    go false whole e = let is : ◌≡◌ {A = ℕ} 0 place = cc in omega arith
+    go false whole e = omega (arith, illegal-place e)
 
 -- 10: the place is one of the sizes'; and sizes that fit are within the capacity together
 
@@ -95,7 +95,7 @@ rows_words : (rows width : ℕ) → 1 ≤ width → rows ≤ rows * width
 rows_words rows zero h = absurd (omega arith)
 rows_words rows (suc width) h = omega arith
 
-module _ (catalogue tables plan : List ℕ) (nodes : ℕ) (ok : tables_ok catalogue tables ≡ true) (judged : plan_judgement catalogue plan ≡ Legal nodes) where
+module _ (catalogue tables plan : List ℕ) (nodes : ℕ) (ok : tables_ok catalogue tables ≡ true) (judged : plan_judgement catalogue plan ≡ Ok nodes) where
   abbrev whole : List Node
   whole = nodes_of_plan plan
 
@@ -154,8 +154,8 @@ module _ (catalogue tables plan : List ℕ) (nodes : ℕ) (ok : tables_ok catalo
 
 module _ (catalogue tables plan work output : List ℕ) where
   judged_bounded : tables_ok catalogue tables ≡ true → (judged : PlanJudgement) → plan_judgement catalogue plan ≡ judged → Bounded (judged_outcome catalogue tables plan work output judged).numbers
-  judged_bounded ok (Illegal place) e = refusal_bounded 9 place (illegal_bounded catalogue plan place e)
-  judged_bounded ok (Legal nodes) e = ran_bounded catalogue tables plan nodes ok e (cleared work) output (capacity_of work) (omega arith) (fit_within catalogue tables (nodes_of_plan plan) (capacity_of work)) refl
+  judged_bounded ok (Err illegal) e = refusal_bounded 9 illegal.0 (illegal_bounded catalogue plan illegal.0 e)
+  judged_bounded ok (Ok nodes) e = ran_bounded catalogue tables plan nodes ok e (cleared work) output (capacity_of work) (omega arith) (fit_within catalogue tables (nodes_of_plan plan) (capacity_of work)) refl
 
   pub run_bounded : Bounded (run_outcome catalogue tables plan work output).numbers
   unfolding run_outcome

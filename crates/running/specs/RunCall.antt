@@ -1,5 +1,5 @@
 -- Document 01, "Running" and "Refusal numbers": what a call of `run` leaves: its numbers, the work area and the output afterwards. Assumes nothing.
-use Rattle.std.specs.Prelude.{ℕ, suc, ◌+◌, ◌-◌, min, List, [], ◌∷◌, ◌++◌, cond, not, length, drop, replicate, leb, ltb}
+use Rattle.std.specs.Prelude.{ℕ, suc, ◌+◌, ◌-◌, min, List, [], ◌∷◌, ◌++◌, cond, not, length, drop, replicate, leb, ltb, Result, Ok, Err}
 use Rattle.std.proofs.lemmas.List.Edits.{sets}
 use Rattle.relations.specs.Limits.{word_limit}
 use Rattle.relations.specs.Values.{Rows}
@@ -8,11 +8,10 @@ use Rattle.relations.specs.Plan.{values, answer, widths, width_at, value_words, 
 use Rattle.catalogue.specs.Judging.{tables_ok}
 use Rattle.values.specs.Words.{words_of}
 use Rattle.catalogue.specs.Stored.{columns_of, stored_tables}
-use Rattle.plan_reading.specs.Judging.{plan_judgement, nodes_of_plan}
-use Rattle.plan_reading.specs.declared.judging.PlanJudgement.{PlanJudgement}
-use Rattle.plan_reading.specs.declared.judging.PlanJudgement.TheVariants.{Legal, Illegal}
-use Rattle.running.specs.declared.Ran.{Ran}
-use Rattle.running.specs.declared.Ran.TheVariants.{Done, WrongTables, IllegalPlan, NoRoom, LongAnswer}
+use Rattle.plan_reading.specs.Judging.{PlanJudgement, plan_judgement, nodes_of_plan}
+use Rattle.running.specs.declared.Done.{Done}
+use Rattle.running.specs.declared.RunRefusal.{RunRefusal}
+use Rattle.running.specs.declared.RunRefusal.TheVariants.{WrongTables, IllegalPlan, NoRoom, LongAnswer}
 
 -- "Results after status and place: run and answer nodes, heavy, room, width, rows"
 pub record RunNumbers : Type 0 where
@@ -28,14 +27,22 @@ pub record RunNumbers : Type 0 where
 abbrev pub run_refusal : (status place : ℕ) → RunNumbers
 run_refusal status place = record { status = status; place = place; nodes = 0; heavy = 0; room = 0; width = 0; rows = 0 }
 
+abbrev pub run_status : RunRefusal → ℕ
+run_status WrongTables = 7
+run_status (IllegalPlan node) = 9
+run_status (NoRoom node) = 10
+run_status (LongAnswer node) = 11
+
+abbrev pub run_place : RunRefusal → ℕ
+run_place WrongTables = 0
+run_place (IllegalPlan node) = node
+run_place (NoRoom node) = node
+run_place (LongAnswer node) = node
+
 -- the numbers of each case of the answer
-abbrev pub run_numbers : Ran → RunNumbers
-run_numbers (Done nodes heavies words columns count) =
-    record { status = 0; place = 0; nodes = nodes; heavy = heavies; room = words; width = columns; rows = count }
-run_numbers WrongTables = run_refusal 7 0
-run_numbers (IllegalPlan place) = run_refusal 9 place
-run_numbers (NoRoom place) = run_refusal 10 place
-run_numbers (LongAnswer place) = run_refusal 11 place
+abbrev pub run_numbers : Result Done RunRefusal → RunNumbers
+run_numbers (Ok done) = record { status = 0; place = 0; nodes = done.nodes; heavy = done.heavy; room = done.room; width = done.width; rows = done.rows }
+run_numbers (Err refusal) = run_refusal (run_status refusal) (run_place refusal)
 
 pub record RunOutcome : Type 0 where
   pub numbers : RunNumbers
@@ -106,8 +113,8 @@ module _ (catalogue tables plan work output : List ℕ) where
   refused status place = record { numbers = run_refusal status place; work = work; output = output }
 
   abbrev pub judged_outcome : PlanJudgement → RunOutcome
-  judged_outcome (Illegal place) = refused 9 place
-  judged_outcome (Legal count) = ran_outcome catalogue tables (nodes_of_plan plan) (cleared work) output (fit_within catalogue tables (nodes_of_plan plan) (capacity_of work))
+  judged_outcome (Err illegal) = refused 9 illegal.0
+  judged_outcome (Ok count) = ran_outcome catalogue tables (nodes_of_plan plan) (cleared work) output (fit_within catalogue tables (nodes_of_plan plan) (capacity_of work))
 
   -- "Run: 7, 9, 10, 11"
   unfoldable pub run_outcome : RunOutcome

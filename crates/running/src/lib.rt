@@ -1,45 +1,82 @@
 // A plan from anyone, judged and run over lent tables.
 #![tactic(auto)]
 
-ghost use Rattle.std.specs.Prelude.{◌≡◌, true, length, replicate};
+ghost use Rattle.std.specs.Prelude.{◌≡◌, true, Ok, length, replicate};
 ghost use Rattle.catalogue.specs.Judging.{tables_ok};
 ghost use Rattle.plan_reading.specs.Judging.{plan_judgement, nodes_of_plan};
 ghost use Rattle.values.specs.Building.{Blank};
-ghost use Rattle.running.specs.RunCall.{run_numbers, run_outcome, capacity_of, fit_within, ran_outcome};
+ghost use Rattle.running.specs.RunCall.{run_status, run_place, run_numbers, run_outcome, capacity_of, fit_within, ran_outcome};
 ghost use Rattle.running.specs.PlanRun.{PlanRun};
+ghost use Rattle.running.specs.declared.RunRefusal.TheVariants.{IllegalPlan};
 
 use catalogue::judging::tables_ok;
-use node_values::node::{Made, run_node};
-use plan_reading::judging::{PlanJudgement, judge_plan};
+use node_values::node::{NO_VALUE, run_node};
+use plan_reading::judging::{IllegalNode, judge_plan};
 use relations::limits::{PLAN_NODE_WORDS, PLAN_NODES, WORDS};
 use values::clearing::clear_from;
 use values::placing::write_row;
 use values::rows::Value;
 
-#[derive(Clone, Copy)]
-pub enum Ran {
-    Done {
-        nodes: usize,
-        heavy: usize,
-        room: usize,
-        width: usize,
-        rows: usize,
-    },
+// What a run of a plan took, and the size of its answer.
+#[derive(Clone, Copy, PartialEq, Eq)]
+pub struct Done {
+    pub nodes: usize,
+    pub heavy: usize,
+    pub room: usize,
+    pub width: usize,
+    pub rows: usize,
+}
+
+// Why a plan is not run, or its answer not handed out, and at which node.
+#[derive(Clone, Copy, PartialEq, Eq)]
+pub enum RunRefusal {
     WrongTables,
     IllegalPlan(usize),
     NoRoom(usize),
     LongAnswer(usize),
 }
 
-// The answer of a plan whose values all have room, and what it took; or the node whose value has none.
+impl RunRefusal {
+    // Its number in document 01.
+    pub fn status(self) -> u32
+        ensures { result ≡ run_status self }
+    {
+        match self {
+            RunRefusal::WrongTables => 7,
+            RunRefusal::IllegalPlan(_) => 9,
+            RunRefusal::NoRoom(_) => 10,
+            RunRefusal::LongAnswer(_) => 11,
+        }
+    }
+
+    pub fn place(self) -> usize
+        ensures { result ≡ run_place self }
+    {
+        match self {
+            RunRefusal::WrongTables => 0,
+            RunRefusal::IllegalPlan(node)
+            | RunRefusal::NoRoom(node)
+            | RunRefusal::LongAnswer(node) => node,
+        }
+    }
+}
+
+impl From<IllegalNode> for RunRefusal {
+    ghost from_gives = { λ illegal refusal. refusal ≡ IllegalPlan illegal.0 };
+
+    fn from(illegal: IllegalNode) -> RunRefusal
+        ensures { result ≡ RunRefusal.IllegalPlan illegal.0 }
+    {
+        RunRefusal::IllegalPlan(illegal.0)
+    }
+}
+
+// The answer of a plan whose values all have room, and what it took.
 #[derive(Clone, Copy)]
-pub enum Worked {
-    Answer {
-        value: Value,
-        heavy: usize,
-        room: usize,
-    },
-    NoRoom(usize),
+pub struct Worked {
+    pub value: Value,
+    pub heavy: usize,
+    pub room: usize,
 }
 
 // The nodes of a legal plan one after another, each value behind the one before it. All of the work area is room.
@@ -49,58 +86,26 @@ fn run_nodes(
     plan: &[u32],
     nodes: usize,
     work: &mut [u32],
-) -> Worked
-    requires { (tables_ok catalogue.now tables.now ≡ true) × (plan_judgement catalogue.now plan.now ≡ PlanJudgement.Legal nodes) × Blank 0 work.old }
+) -> Result<Worked, RunRefusal>
+    requires { (tables_ok catalogue.now tables.now ≡ true) × (plan_judgement catalogue.now plan.now ≡ Ok nodes) × Blank 0 work.old }
     ensures { PlanRun catalogue.now tables.now (nodes_of_plan plan.now) work.new result }
 {
-    let mut widths = [0usize; PLAN_NODES];
-    let mut rows = [0usize; PLAN_NODES];
-    let mut bases = [0usize; PLAN_NODES];
+    let mut values = [NO_VALUE; PLAN_NODES];
     let mut heavy = 0;
     let mut out = 0;
-    let mut place = 0;
-    let mut at = 0;
-    while place < nodes {
-        let next = at + PLAN_NODE_WORDS;
-        match run_node(
-            catalogue,
-            tables,
-            &plan[at..next],
-            work,
-            &widths[..place],
-            &rows[..place],
-            &bases[..place],
-            out,
-        ) {
-            Made::Value {
-                width,
-                rows: count,
-                heavy: more,
-            } => {
-                widths[place] = width;
-                rows[place] = count;
-                bases[place] = out;
-                out += count * width;
-                heavy += more;
-            }
-            Made::NoRoom => {
-                return Worked::NoRoom(place);
-            }
-        }
-        place += 1;
-        at = next;
+    for (place, words) in plan.chunks_exact(PLAN_NODE_WORDS).enumerate() {
+        let made = run_node(catalogue, tables, words, work, &values[..place], out).ok_or(
+            RunRefusal::NoRoom(place),
+        )?;
+        values[place] = made.value;
+        out += made.value.rows * made.value.width;
+        heavy += made.heavy;
     }
-    let last = nodes - 1;
-    let value = Value {
-        base: bases[last],
-        rows: rows[last],
-        width: widths[last],
-    };
-    Worked::Answer {
-        value,
+    Ok(Worked {
+        value: values[nodes - 1],
         heavy,
         room: out,
-    }
+    })
 }
 
 // A legal plan run in the work area, and its answer handed out.
@@ -111,29 +116,24 @@ fn hand_out(
     nodes: usize,
     work: &mut [u32],
     output: &mut [u32],
-) -> Ran
-    requires { (tables_ok catalogue.now tables.now ≡ true) × (plan_judgement catalogue.now plan.now ≡ PlanJudgement.Legal nodes) × Blank 0 work.old }
+) -> Result<Done, RunRefusal>
+    requires { (tables_ok catalogue.now tables.now ≡ true) × (plan_judgement catalogue.now plan.now ≡ Ok nodes) × Blank 0 work.old }
     ensures { record { numbers = run_numbers result; work = work.new; output = output.new } ≡ ran_outcome catalogue.now tables.now (nodes_of_plan plan.now) work.new output.old (fit_within catalogue.now tables.now (nodes_of_plan plan.now) (length work.old)) }
 {
-    match run_nodes(catalogue, tables, plan, nodes, work) {
-        Worked::Answer { value, heavy, room } => {
-            let rows = value.rows;
-            let width = value.width;
-            let words = rows * width;
-            if output.len() < words {
-                return Ran::LongAnswer(nodes - 1);
-            }
-            write_row(work, output, false, value.base, words, 0);
-            Ran::Done {
-                nodes,
-                heavy,
-                room,
-                width,
-                rows,
-            }
-        }
-        Worked::NoRoom(place) => Ran::NoRoom(place),
+    let worked = run_nodes(catalogue, tables, plan, nodes, work)?;
+    let Value { base, rows, width } = worked.value;
+    let words = rows * width;
+    if output.len() < words {
+        return Err(RunRefusal::LongAnswer(nodes - 1));
     }
+    write_row(work, output, false, base, words, 0);
+    Ok(Done {
+        nodes,
+        heavy: worked.heavy,
+        room: worked.room,
+        width,
+        rows,
+    })
 }
 
 // The words of the work area are 0 when running starts, and all of them are 0 afterwards, whatever the outcome.
@@ -144,8 +144,8 @@ fn run_legal(
     nodes: usize,
     work: &mut [u32],
     output: &mut [u32],
-) -> Ran
-    requires { (tables_ok catalogue.now tables.now ≡ true) × (plan_judgement catalogue.now plan.now ≡ PlanJudgement.Legal nodes) }
+) -> Result<Done, RunRefusal>
+    requires { (tables_ok catalogue.now tables.now ≡ true) × (plan_judgement catalogue.now plan.now ≡ Ok nodes) }
     ensures { record { numbers = run_numbers result; work = work.new; output = output.new } ≡ ran_outcome catalogue.now tables.now (nodes_of_plan plan.now) (replicate (length work.old) 0) output.old (fit_within catalogue.now tables.now (nodes_of_plan plan.now) (length work.old)) }
 {
     clear_from(work, 0);
@@ -158,37 +158,30 @@ fn run_legal(
 fn capacity_of(work: &[u32]) -> usize
     ensures { result ≡ capacity_of work.now }
 {
-    if work.len() < WORDS {
-        work.len()
-    } else {
-        WORDS
-    }
+    work.len().min(WORDS)
 }
 
+// The buffers stay parameters of their own: `run_outcome` and the C interface (desk_c) name each of them.
 pub fn run(
     catalogue: &[u32],
     tables: &[u32],
     plan: &[u32],
     work: &mut [u32],
     output: &mut [u32],
-) -> Ran
+) -> Result<Done, RunRefusal>
     ensures { record { numbers = run_numbers result; work = work.new; output = output.new } ≡ run_outcome catalogue.now tables.now plan.now work.old output.old }
 {
     if !tables_ok(catalogue, tables) {
-        return Ran::WrongTables;
+        return Err(RunRefusal::WrongTables);
     }
-    match judge_plan(catalogue, plan) {
-        PlanJudgement::Legal(nodes) => {
-            let capacity = capacity_of(work);
-            run_legal(
-                catalogue,
-                tables,
-                plan,
-                nodes,
-                &mut work[..capacity],
-                output,
-            )
-        }
-        PlanJudgement::Illegal(place) => Ran::IllegalPlan(place),
-    }
+    let nodes = judge_plan(catalogue, plan)?;
+    let capacity = capacity_of(work);
+    run_legal(
+        catalogue,
+        tables,
+        plan,
+        nodes,
+        &mut work[..capacity],
+        output,
+    )
 }

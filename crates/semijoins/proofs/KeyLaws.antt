@@ -1,13 +1,13 @@
 -- Keys: a left row meets renumbered triples with the named columns of a right row exactly when it meets the triples with that row. Assumes nothing.
-use mathlib.Core.Path.{◌≡◌, refl, ap, ap₂, ◌∙◌}
+use mathlib.Core.Path.{◌≡◌, refl, sym, ap, ap₂, ◌∙◌}
 use mathlib.Core.Bool.{Bool, true, false, not, ◌&&◌, cond, So}
 use mathlib.Core.List.{List, [], ◌∷◌, map}
-use Prim.Native.Nat.{ℕ, zero, suc, ◌+◌, ◌-◌, ◌<◌}
+use Prim.Native.Nat.{ℕ, zero, suc, ◌+◌, ◌-◌, ◌*◌, ◌/◌, ◌<◌}
 use native.Mathlib.Omega.{arith}
 use lib.Dec.{eqb}
-use lib.ListN.{get_or, drop}
+use lib.ListN.{length, get_or, drop}
 use lib.Seq.{drop-drop}
-use borrow.Author.Tests.{eqb-true, eq-eqb, ne_eqb}
+use borrow.Author.Tests.{eqb-true}
 use Rattle.relations.specs.Lists.{any}
 use Rattle.relations.specs.Rows.{Row}
 use Rattle.relations.specs.Values.{Rows, canonical}
@@ -17,14 +17,10 @@ use Rattle.relations.specs.Columns.{Triple, attribute, column, word_at, pick, me
 use Rattle.relations.proofs.BoolLaws.{and_left, and_right}
 use Rattle.relations.proofs.ListLaws.{any-map, any_same, filter_same}
 use Rattle.relations.proofs.ValueLaws.{any-canonical}
-use Rattle.operations.specs.Lists.{triples_in}
+use Rattle.operations.specs.Lists.{triples_in, triples_of}
 use Rattle.wanted_rows.specs.Wanted.{wanted_row, wanted_rows}
 use Rattle.semijoins.specs.Keys.{renumbers}
 use Rattle.operations.proofs.ListLaws.{first_word, next_word}
-
-and_false : (b : Bool) → (b && false) ≡ false
-and_false true = refl
-and_false false = refl
 
 -- a column of picked columns is the column that is named there
 picked_word : (columns : List ℕ) (s : Row) (place : ℕ) → get_or (pick (map attribute columns) s) place 0 ≡ word_at s (get_or columns place 0)
@@ -61,7 +57,7 @@ wanted_canonical wanted triples left rows =
     filter_same (wanted_row wanted triples (canonical rows)) (wanted_row wanted triples rows) (λ t. ap (λ b. cond wanted b (not b)) (any-canonical (meets triples t) rows)) left
 
 -- those that are wanted of the named columns by renumbered triples are those that are wanted
-pub wanted_by_key : (wanted : Bool) (count : ℕ) (columns list other : List ℕ) (left right : Rows) → renumbers count columns list other ≡ true
+wanted_by_key : (wanted : Bool) (count : ℕ) (columns list other : List ℕ) (left right : Rows) → renumbers count columns list other ≡ true
     → wanted_rows wanted (triples_in count other) left (project_candidates (map attribute columns) right) ≡ wanted_rows wanted (triples_in count list) left right
 wanted_by_key wanted count columns list other left right e =
     filter_same (wanted_row wanted (triples_in count other) (project_candidates (map attribute columns) right)) (wanted_row wanted (triples_in count list) right) (λ t. ap (λ b. cond wanted b (not b)) (same t)) left
@@ -71,32 +67,24 @@ wanted_by_key wanted count columns list other left right e =
         any-map (meets (triples_in count other) t) (pick (map attribute columns)) right
         ∙ any_same (λ s. meets (triples_in count other) t (pick (map attribute columns) s)) (meets (triples_in count list) t) (λ s. renumbered_meets count columns list other t s e) right
 
+-- the same of all triples of both
+pub wanted_by_keys : (wanted : Bool) (columns list other : List ℕ) (left right : Rows) → length list ≡ length other → renumbers (length list / 3) columns list other ≡ true
+    → wanted_rows wanted (triples_of other) left (project_candidates (map attribute columns) right) ≡ wanted_rows wanted (triples_of list) left right
+wanted_by_keys wanted columns list other left right e h =
+    ap (λ (n : ℕ). wanted_rows wanted (triples_in (n / 3) other) left (project_candidates (map attribute columns) right)) (sym e) ∙ wanted_by_key wanted (length list / 3) columns list other left right h
+
 -- a turn of the loop that compares the triples
-module _ (columns list other : List ℕ) (at more : ℕ) (some_left : 0 < more) where
-  renumbers_step : renumbers more columns (drop at list) (drop at other)
-      ≡ (eqb (get_or other at 0) (get_or list at 0) && (eqb (get_or other (at + 1) 0) (get_or list (at + 1) 0) && (eqb (word_at columns (get_or other (at + 2) 0)) (get_or list (at + 2) 0) && renumbers (more - 1) columns (drop (at + 3) list) (drop (at + 3) other))))
-  renumbers_step = go more some_left
-    where
-      go : (n : ℕ) → 0 < n → renumbers n columns (drop at list) (drop at other)
-          ≡ (eqb (get_or other at 0) (get_or list at 0) && (eqb (get_or other (at + 1) 0) (get_or list (at + 1) 0) && (eqb (word_at columns (get_or other (at + 2) 0)) (get_or list (at + 2) 0) && renumbers (n - 1) columns (drop (at + 3) list) (drop (at + 3) other))))
-      go zero h = absurd (omega arith)
-      go (suc n) h =
-          let e : suc n - 1 ≡ n = omega arith in
-          rw (e, first_word other at, first_word list at, next_word other at 1, next_word list at 1, next_word other at 2, next_word list at 2, drop-drop 3 at list, drop-drop 3 at other)
+all_three : (a b c d : Bool) → (a && (b && (c && d))) ≡ ((a && (b && c)) && d)
+all_three true true c d = refl
+all_three true false c d = refl
+all_three false b c d = refl
 
-  pub renumbers-left : (get_or other at 0 ≡ get_or list at 0 → ⊥) → renumbers more columns (drop at list) (drop at other) ≡ false
-  renumbers-left h = renumbers_step ∙ rw (ne_eqb (get_or other at 0) (get_or list at 0) h)
-
-  pub renumbers-operator : (get_or other (at + 1) 0 ≡ get_or list (at + 1) 0 → ⊥) → renumbers more columns (drop at list) (drop at other) ≡ false
-  renumbers-operator h = renumbers_step ∙ rw (ne_eqb (get_or other (at + 1) 0) (get_or list (at + 1) 0) h) (and_false (eqb (get_or other at 0) (get_or list at 0)))
-
-  pub renumbers-right : (word_at columns (get_or other (at + 2) 0) ≡ get_or list (at + 2) 0 → ⊥) → renumbers more columns (drop at list) (drop at other) ≡ false
-  renumbers-right h =
-      renumbers_step
-      ∙ rw (ne_eqb (word_at columns (get_or other (at + 2) 0)) (get_or list (at + 2) 0) h, and_false (eqb (get_or other (at + 1) 0) (get_or list (at + 1) 0))) (and_false (eqb (get_or other at 0) (get_or list at 0)))
-
-  pub renumbers_on : get_or other at 0 ≡ get_or list at 0 → get_or other (at + 1) 0 ≡ get_or list (at + 1) 0 → word_at columns (get_or other (at + 2) 0) ≡ get_or list (at + 2) 0
-      → renumbers more columns (drop at list) (drop at other) ≡ renumbers (more - 1) columns (drop (at + 3) list) (drop (at + 3) other)
-  renumbers_on a b d =
-      renumbers_step
-      ∙ rw (eq-eqb (get_or other at 0) (get_or list at 0) a, eq-eqb (get_or other (at + 1) 0) (get_or list (at + 1) 0) b, eq-eqb (word_at columns (get_or other (at + 2) 0)) (get_or list (at + 2) 0) d)
+pub renumbers_turn : (columns list other : List ℕ) (n k : ℕ) {same : Bool} → k < n
+    → same ≡ (eqb (get_or other (k * 3) 0) (get_or list (k * 3) 0) && (eqb (get_or other (k * 3 + 1) 0) (get_or list (k * 3 + 1) 0) && eqb (word_at columns (get_or other (k * 3 + 2) 0)) (get_or list (k * 3 + 2) 0)))
+    → renumbers (n - k) columns (drop (k * 3) list) (drop (k * 3) other) ≡ (same && renumbers (n - (k + 1)) columns (drop ((k + 1) * 3) list) (drop ((k + 1) * 3) other))
+renumbers_turn columns list other n k h e =
+    let at : ℕ = k * 3 in
+    let more : n - k ≡ suc (n - (k + 1)) = omega arith in
+    let next : (k + 1) * 3 ≡ k * 3 + 3 = omega arith in
+    rw (e, more, next, first_word other at, first_word list at, next_word other at 1, next_word list at 1, next_word other at 2, next_word list at 2, drop-drop 3 at list, drop-drop 3 at other)
+    (all_three (eqb (get_or other at 0) (get_or list at 0)) (eqb (get_or other (at + 1) 0) (get_or list (at + 1) 0)) (eqb (word_at columns (get_or other (at + 2) 0)) (get_or list (at + 2) 0)) (renumbers (n - (k + 1)) columns (drop (at + 3) list) (drop (at + 3) other)))

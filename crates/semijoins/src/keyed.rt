@@ -1,338 +1,247 @@
 // Semijoin and antijoin. A left row's partners are sought by halving where the triples equate or compare the first right columns. Where they name others, these are
 // made a value of their own, the keys, equated columns first; where there is no room for that, the right value itself is searched.
-ghost use Rattle.std.specs.Prelude.{◌≡◌, map, ◌+◌, ◌*◌, ◌≤◌, ◌<◌, length};
+ghost use Rattle.std.specs.Prelude.{◌≡◌, map, ◌&&◌, ◌+◌, ◌*◌, ◌/◌, ◌≤◌, ◌<◌, eqb, length, slice_index, MatchOption};
 ghost use Rattle.relations.specs.Limits.{column_limit, triple_limit};
 ghost use Rattle.relations.specs.Values.{Ascending};
-ghost use Rattle.relations.specs.Columns.{attribute};
+ghost use Rattle.relations.specs.Columns.{attribute, word_at};
 ghost use Rattle.relations.specs.Operations.{project_candidates, semijoin_candidates, antijoin_candidates};
 ghost use Rattle.values.specs.Words.{rows_of, end};
 ghost use Rattle.values.specs.Building.{Blank, Makes};
-ghost use Rattle.operations.specs.Lists.{triples_in};
+ghost use Rattle.operations.specs.Lists.{triples_in, triples_of};
 ghost use Rattle.wanted_rows.specs.Wanted.{wanted_rows};
-ghost use Rattle.semijoins.specs.Keys.{renumbers, Tried};
+ghost use Rattle.semijoins.specs.Keys.{renumbers, Keyed, Tried};
 
-use operations::columns::column_of;
+use operations::columns::{Triple, column_of, triple_at};
 use ordering::sorted::project;
-use relations::limits::{ATTRIBUTES, COLUMNS};
+use partners::words::Words;
+use relations::limits::{ATTRIBUTES, TRIPLES};
 use terms::attribute::Attribute;
+use terms::operator::Operator;
 use values::clearing::{clear_from, clear_words, finish};
-use values::placing::{Placed, move_down};
+use values::placing::move_down;
 use values::rows::Value;
 use wanted_rows::keep_by_rows;
 
-// Some right columns, by their numbers.
-#[derive(Clone, Copy)]
-struct Columns {
-    numbers: [u32; COLUMNS],
-    count: usize,
-}
+// The words of a triple, and of the most triples.
+const TRIPLE: usize = 3;
+
+const TRIPLES_WORDS: usize = TRIPLE * TRIPLES;
 
 // When a triple's right column comes among the keys' columns: equated ones first, then those that are compared by order.
-fn rank(operator: u32) -> usize {
+fn rank(operator: Operator) -> usize {
     match operator {
-        1 => 0,
-        2 => 2,
+        Operator::Equal => 0,
+        Operator::NotEqual => 2,
         _ => 1,
     }
 }
 
-// Where a number stands among the columns, or how many they are.
-fn place_among(columns: Columns, number: u32) -> usize
-    requires { columns.count ≤ column_limit }
-    ensures { result ≤ columns.count }
-{
-    let numbers = columns.numbers;
-    let count = columns.count;
-    let mut i: usize = 0;
-    while i < count {
-        if numbers[i] == number {
-            return i;
+// The right columns that the triples name, by their numbers, each once.
+fn named_columns(triples: &[u32]) -> Words {
+    let mut columns = Words::new();
+    for now in 0..3 {
+        for words in triples.chunks_exact(TRIPLE) {
+            let triple = triple_at(words, 0);
+            let number = triple.right.0;
+            let named = columns.as_slice();
+            if rank(triple.operator) == now && named.len() < TRIPLES && !named.contains(&number) {
+                columns.push(number);
+            }
         }
-        i += 1;
     }
-    count
+    columns
 }
 
-// A triple's right column put behind the columns, if the triple is of the rank and the column is not there.
-fn with_triple(list: &[u32], triple: usize, columns: Columns, wanted: usize) -> Columns
-    requires { (triple * 3 + 3 ≤ length list.now) × (columns.count ≤ column_limit) }
-    ensures { result.count ≤ column_limit }
+// A column's number among the columns, 0 where it is none of them.
+fn number_among(columns: &[u32], number: u32) -> u32
+    requires { length columns.now ≤ triple_limit }
 {
-    let number = list[triple * 3 + 2];
-    let mut numbers = columns.numbers;
-    let count = columns.count;
-    if rank(list[triple * 3 + 1]) != wanted {
-        return columns;
-    }
-    if place_among(columns, number) < count {
-        return columns;
-    }
-    if COLUMNS <= count {
-        return columns;
-    }
-    numbers[count] = number;
-    Columns {
-        numbers,
-        count: count + 1,
+    match columns.iter().position(|column| *column == number) {
+        Some(place) => place as u32 + 1,
+        None => 0,
     }
 }
 
-// The right columns of the triples of a rank, behind the columns that there are.
-fn with_rank(list: &[u32], count: usize, columns: Columns, wanted: usize) -> Columns
-    requires { (count * 3 ≤ length list.now) × (columns.count ≤ column_limit) }
-    ensures { result.count ≤ column_limit }
+// The triples, with the numbers of their right attributes among the columns.
+fn renumbered(triples: &[u32], columns: &[u32]) -> [u32; TRIPLES_WORDS]
+    requires { (length triples.now ≤ TRIPLES_WORDS) × (length columns.now ≤ triple_limit) }
 {
-    let mut all = columns;
-    let mut i: usize = 0;
-    while i < count {
-        all = with_triple(list, i, all, wanted);
-        i += 1;
-    }
-    all
-}
-
-// The columns that the triples name.
-fn named_columns(list: &[u32], count: usize) -> Columns
-    requires { count * 3 ≤ length list.now }
-    ensures { result.count ≤ column_limit }
-{
-    let none = Columns {
-        numbers: [0u32; COLUMNS],
-        count: 0,
-    };
-    let equated = with_rank(list, count, none, 0);
-    let ordered = with_rank(list, count, equated, 1);
-    with_rank(list, count, ordered, 2)
-}
-
-// The columns' numbers alone.
-fn numbers_of(columns: Columns) -> [u32; COLUMNS] {
-    columns.numbers
-}
-
-// The triples, with the places of their right attributes among the columns.
-fn renumbered(list: &[u32], count: usize, columns: Columns) -> [u32; COLUMNS]
-    requires { (count * 3 ≤ length list.now) × (count * 3 ≤ column_limit) × (columns.count ≤ column_limit) }
-{
-    let mut made = [0u32; COLUMNS];
-    let mut i: usize = 0;
-    while i < count {
-        let at = i * 3;
-        made[at] = list[at];
-        made[at + 1] = list[at + 1];
-        made[at + 2] = place_among(columns, list[at + 2]) as u32 + 1;
-        i += 1;
+    let mut made = [0; TRIPLES_WORDS];
+    made[..triples.len()].copy_from_slice(triples);
+    for words in made.chunks_exact_mut(TRIPLE) {
+        words[2] = number_among(columns, words[2]);
     }
     made
 }
 
-// Whether other triples are those of the list, with places among the columns as their right attributes.
-fn are_renumbered(list: &[u32], count: usize, columns: &[u32], other: &[u32]) -> bool
-    requires { (count * 3 ≤ length list.now) × (count * 3 ≤ length other.now) }
-    ensures { result ≡ renumbers count columns.now list.now other.now }
+// Whether the other triple that starts at the word `at` is that of the list, with a number among the columns as its right attribute.
+fn is_renumbered(triples: &[u32], columns: &[u32], other: &[u32], at: usize) -> bool
+    requires { (at + 3 ≤ length triples.now) × (at + 3 ≤ length other.now) }
+    ensures { result ≡ (eqb (slice_index other.now at) (slice_index triples.now at) && (eqb (slice_index other.now (at + 1)) (slice_index triples.now (at + 1)) && eqb (word_at columns.now (slice_index other.now (at + 2))) (slice_index triples.now (at + 2)))) }
 {
-    let mut at: usize = 0;
-    let mut more = count;
-    while 0 < more {
-        if other[at] != list[at] {
+    other[at] == triples[at]
+        && other[at + 1] == triples[at + 1]
+        && column_of(columns, Attribute(other[at + 2])) == triples[at + 2]
+}
+
+// Whether all are.
+fn are_renumbered(triples: &[u32], columns: &[u32], other: &[u32]) -> bool
+    requires { length triples.now ≡ length other.now }
+    ensures { result ≡ renumbers (length triples.now / 3) columns.now triples.now other.now }
+{
+    for k in 0..triples.len() / TRIPLE {
+        if !is_renumbered(triples, columns, other, k * TRIPLE) {
             return false;
         }
-        if other[at + 1] != list[at + 1] {
-            return false;
-        }
-        if column_of(columns, Attribute(other[at + 2])) != list[at + 2] {
-            return false;
-        }
-        at += 3;
-        more -= 1;
     }
     true
 }
 
+// The keys, as a value from `out` on; without room for them all is as it was.
+fn make_keys(columns: &[u32], work: &mut [u32], right: Value, out: usize) -> Option<Value>
+    requires { (0 < length columns.now) × (length columns.now ≤ column_limit) × (end right ≤ out) × (out ≤ length work.old) × Blank out work.old }
+    ensures { MatchOption result (work.new ≡ work.old) (Keyed columns.now right out work.old work.new) }
+{
+    let width = columns.len();
+    let rows = project(columns, width, work, right, out)?;
+    Some(Value {
+        base: out,
+        rows,
+        width,
+    })
+}
+
 // The wanted left rows by keys, the listed right columns, if these and the rows have room together: the rows are made behind the
 // keys and moved down. Where they have none, all is as it was.
+#[tactic(auto, using(values::proofs::FillLaws::made_fits))]
 fn keep_by_key(
-    list: &[u32],
-    count: usize,
+    triples: &[u32],
     columns: &[u32],
     work: &mut [u32],
     left: Value,
     right: Value,
     wanted: bool,
     out: usize,
-) -> Placed
-    requires { (count * 3 ≤ length list.now) × (0 < length columns.now) × (length columns.now ≤ column_limit) × (0 < left.width) × (end left ≤ out) × (end right ≤ out) × (out ≤ length work.old) × Blank out work.old × (count ≤ triple_limit) }
-    ensures { Tried left.width out (wanted_rows wanted (triples_in count list.now) (rows_of left work.old) (project_candidates (map attribute columns.now) (rows_of right work.old))) work.old work.new result }
+) -> Option<usize>
+    requires { (0 < length columns.now) × (length columns.now ≤ column_limit) × (0 < left.width) × (end left ≤ out) × (end right ≤ out) × (out ≤ length work.old) × Blank out work.old × (length triples.now / 3 ≤ triple_limit) }
+    ensures { Tried left.width out (wanted_rows wanted (triples_of triples.now) (rows_of left work.old) (project_candidates (map attribute columns.now) (rows_of right work.old))) work.old work.new result }
 {
-    let width = left.width;
-    let key_width = columns.len();
-    match project(columns, key_width, work, right, out) {
-        Placed::Rows(keys) => {
-            let behind = out + keys * key_width;
-            let value = Value {
-                base: out,
-                rows: keys,
-                width: key_width,
-            };
-            match keep_by_rows(list, count, work, left, value, wanted, behind) {
-                Placed::Rows(rows) => {
-                    let words = rows * width;
-                    let end = out + words;
-                    let last = behind + words;
-                    move_down(work, behind, words, out);
-                    clear_words(work, end, last);
-                    Placed::Rows(rows)
-                }
-                Placed::Full => {
-                    clear_from(work, out);
-                    Placed::Full
-                }
-            }
-        }
-        Placed::Full => Placed::Full,
-    }
+    let keys = make_keys(columns, work, right, out)?;
+    let behind = out + keys.rows * keys.width;
+    let Some(rows) = keep_by_rows(triples, work, left, keys, wanted, behind) else {
+        clear_from(work, out);
+        return None;
+    };
+    let words = rows * left.width;
+    move_down(work, behind, words, out);
+    clear_words(work, out + words, behind + words);
+    Some(rows)
 }
 
-// The number, from 0, of the first of so many triples that has the operator and the right attribute, or `count`. It only says what is quicker.
-fn triple_with(list: &[u32], count: usize, operator: u32, right: u32) -> usize
-    requires { count * 3 ≤ length list.now }
+// Whether a triple passes a test. It only says what is quicker.
+fn some_triple<F: Fn(Triple) -> bool>(triples: &[u32], test: F) -> bool
+    requires { F.IsAlwaysCallable test }
 {
-    let mut i: usize = 0;
-    while i < count {
-        let at = i * 3;
-        if list[at + 1] == operator {
-            if list[at + 2] == right {
-                return i;
-            }
-        }
-        i += 1;
-    }
-    count
-}
-
-// How many of the first right columns are equated.
-fn equated(list: &[u32], count: usize) -> u32
-    requires { count * 3 ≤ length list.now }
-    ensures { result ≤ column_limit }
-{
-    let mut number: u32 = 0;
-    while number < ATTRIBUTES {
-        if count <= triple_with(list, count, 1, number + 1) {
-            return number;
-        }
-        number += 1;
-    }
-    number
-}
-
-// Whether the columns are all those of a value of that width, in their order.
-fn are_all(columns: Columns, width: usize) -> bool
-    requires { columns.count ≤ column_limit }
-{
-    let numbers = columns.numbers;
-    let count = columns.count;
-    let mut number: u32 = 1;
-    let mut i: usize = 0;
-    while i < count {
-        if numbers[i] != number {
-            return false;
-        }
-        number += 1;
-        i += 1;
-    }
-    count == width
-}
-
-// Whether the triples name a right column beyond the one behind those that are equated, or differ from that one where it is not the
-// last; but not where keys would be the right value itself.
-fn names_others(list: &[u32], count: usize, width: usize) -> bool
-    requires { count * 3 ≤ length list.now }
-{
-    if are_all(named_columns(list, count), width) {
-        return false;
-    }
-    let next = equated(list, count) + 1;
-    let mut i: usize = 0;
-    while i < count {
-        if next < list[i * 3 + 2] {
+    for words in triples.chunks_exact(TRIPLE) {
+        if test(triple_at(words, 0)) {
             return true;
         }
-        i += 1;
-    }
-    if (next as usize) < width {
-        return triple_with(list, count, 2, next) < count;
     }
     false
 }
 
+// How many of the first right columns are equated.
+fn equated(triples: &[u32]) -> u32
+    ensures { result ≤ column_limit }
+{
+    for number in 0..ATTRIBUTES {
+        let equates = |triple: Triple| {
+            matches!(triple.operator, Operator::Equal) && triple.right.0 == number + 1
+        };
+        if !some_triple(triples, equates) {
+            return number;
+        }
+    }
+    ATTRIBUTES
+}
+
+// Whether the columns are all those of a value of that width, in their order.
+fn are_all(columns: &[u32], width: usize) -> bool {
+    for (i, number) in columns.iter().enumerate() {
+        if *number as usize != i + 1 {
+            return false;
+        }
+    }
+    columns.len() == width
+}
+
+// Whether the triples name a right column beyond the one behind those that are equated, or differ from that one where it is not the
+// last; but not where keys would be the right value itself.
+fn names_others(triples: &[u32], columns: &[u32], width: usize) -> bool {
+    if are_all(columns, width) {
+        return false;
+    }
+    let next = equated(triples) + 1;
+    if some_triple(triples, |triple| next < triple.right.0) {
+        return true;
+    }
+    (next as usize) < width
+        && some_triple(triples, |triple| {
+            matches!(triple.operator, Operator::NotEqual) && triple.right.0 == next
+        })
+}
+
 // The wanted left rows by keys, where these are worth their making.
 fn try_keys(
-    list: &[u32],
-    count: usize,
+    triples: &[u32],
     work: &mut [u32],
     left: Value,
     right: Value,
     wanted: bool,
     out: usize,
-) -> Placed
-    requires { (count * 3 ≤ length list.now) × (0 < left.width) × (end left ≤ out) × (end right ≤ out) × (out ≤ length work.old) × Blank out work.old × (count ≤ triple_limit) }
-    ensures { Tried left.width out (wanted_rows wanted (triples_in count list.now) (rows_of left work.old) (rows_of right work.old)) work.old work.new result }
+) -> Option<usize>
+    requires { (0 < left.width) × (end left ≤ out) × (end right ≤ out) × (out ≤ length work.old) × Blank out work.old × (length triples.now ≤ TRIPLES_WORDS) }
+    ensures { Tried left.width out (wanted_rows wanted (triples_of triples.now) (rows_of left work.old) (rows_of right work.old)) work.old work.new result }
 {
     if left.rows < 4 {
-        return Placed::Full;
+        return None;
     }
-    if COLUMNS < count * 3 {
-        return Placed::Full;
+    let words = named_columns(triples);
+    let columns = words.as_slice();
+    if columns.is_empty() || !names_others(triples, columns, right.width) {
+        return None;
     }
-    if !names_others(list, count, right.width) {
-        return Placed::Full;
+    let made = renumbered(triples, columns);
+    let other = &made[..triples.len()];
+    if !are_renumbered(triples, columns, other) {
+        return None;
     }
-    let columns = named_columns(list, count);
-    let other = renumbered(list, count, columns);
-    let numbers = numbers_of(columns);
-    let key_width = columns.count;
-    if key_width == 0 {
-        return Placed::Full;
-    }
-    if are_renumbered(list, count, &numbers[..key_width], &other) {
-        keep_by_key(
-            &other,
-            count,
-            &numbers[..key_width],
-            work,
-            left,
-            right,
-            wanted,
-            out,
-        )
-    } else {
-        Placed::Full
-    }
+    keep_by_key(other, columns, work, left, right, wanted, out)
 }
 
 // The wanted left rows.
 fn keep_wanted(
-    list: &[u32],
-    count: usize,
+    triples: &[u32],
     work: &mut [u32],
     left: Value,
     right: Value,
     wanted: bool,
     out: usize,
-) -> Placed
-    requires { (0 < left.width) × (end left ≤ out) × (out ≤ length work.old) × (end right ≤ out) × (count * 3 ≤ length list.now) × Ascending (rows_of right work.old) × Blank out work.old × (count ≤ triple_limit) }
-    ensures { Makes left.width out (wanted_rows wanted (triples_in count list.now) (rows_of left work.old) (rows_of right work.old)) work.old work.new result }
+) -> Option<usize>
+    requires { (0 < left.width) × (end left ≤ out) × (out ≤ length work.old) × (end right ≤ out) × Ascending (rows_of right work.old) × Blank out work.old × (length triples.now ≤ TRIPLES_WORDS) }
+    ensures { Makes left.width out (wanted_rows wanted (triples_of triples.now) (rows_of left work.old) (rows_of right work.old)) work.old work.new result }
 {
-    match try_keys(list, count, work, left, right, wanted, out) {
-        Placed::Rows(rows) => Placed::Rows(rows),
-        Placed::Full => finish(
-            keep_by_rows(list, count, work, left, right, wanted, out),
+    match try_keys(triples, work, left, right, wanted, out) {
+        Some(rows) => Some(rows),
+        None => finish(
+            keep_by_rows(triples, work, left, right, wanted, out),
             work,
             out,
         ),
     }
 }
 
+// Two functions and no flag: each promises its own operation of relations (`semijoin_candidates`, `antijoin_candidates`).
 // Operation 6: the rows that meet the triples with some right row.
 pub fn semijoin(
     list: &[u32],
@@ -341,11 +250,11 @@ pub fn semijoin(
     left: Value,
     right: Value,
     out: usize,
-) -> Placed
+) -> Option<usize>
     requires { (0 < left.width) × (end left ≤ out) × (out ≤ length work.old) × (end right ≤ out) × (count * 3 ≤ length list.now) × Ascending (rows_of right work.old) × Blank out work.old × (count ≤ triple_limit) }
     ensures { Makes left.width out (semijoin_candidates (triples_in count list.now) (rows_of left work.old) (rows_of right work.old)) work.old work.new result }
 {
-    keep_wanted(list, count, work, left, right, true, out)
+    keep_wanted(&list[..count * TRIPLE], work, left, right, true, out)
 }
 
 // Operation 7: the rows that meet them with none.
@@ -356,9 +265,9 @@ pub fn antijoin(
     left: Value,
     right: Value,
     out: usize,
-) -> Placed
+) -> Option<usize>
     requires { (0 < left.width) × (end left ≤ out) × (out ≤ length work.old) × (end right ≤ out) × (count * 3 ≤ length list.now) × Ascending (rows_of right work.old) × Blank out work.old × (count ≤ triple_limit) }
     ensures { Makes left.width out (antijoin_candidates (triples_in count list.now) (rows_of left work.old) (rows_of right work.old)) work.old work.new result }
 {
-    keep_wanted(list, count, work, left, right, false, out)
+    keep_wanted(&list[..count * TRIPLE], work, left, right, false, out)
 }

@@ -18,26 +18,6 @@ use Rattle.relations.specs.Lists.{filter, flat}
 use Rattle.calculus.specs.Question as calculus
 use Rattle.calculus.specs.Scope.{Scope, column_number}
 
-pub not_false : (b : Bool) → not b ≡ false → b ≡ true
-not_false true h = refl
-not_false false h = sym h
-
-pub three : {a b c d e f : ℕ} → a ≡ d → b ≡ e → c ≡ f → a ∷ b ∷ c ∷ [] ≡ d ∷ e ∷ f ∷ []
-three {a} {b} {c} {d} {e} {f} p q r = ap (λ x. x ∷ b ∷ c ∷ []) p ∙ ap (λ x. d ∷ x ∷ c ∷ []) q ∙ ap (λ x. d ∷ e ∷ x ∷ []) r
-
--- a triple from its parts
-
-module _ (s : Scope) (x v : ℕ) (a : Attribute) (o : Operator) where
-  pub triple_turned : (operand : calculus.Operand) → compares_with_other x (calculus.compare v a o operand) ≡ true → v ≡ x
-      → flat triple_words (triples_of s x (calculus.compare v a o operand ∷ [])) ≡ column_number s (other_variable x (calculus.compare v a o operand)) (other_attribute x (calculus.compare v a o operand)).number ∷ operator_number (turned o) ∷ (own_attribute x (calculus.compare v a o operand)).number ∷ []
-  triple_turned (calculus.fixed c) h e = absurd (false≢true h)
-  triple_turned (calculus.of_variable w b) h e = let t : eqb v x ≡ true = eq-eqb v x e in rw (h, t)
-
-  pub triple_straight : (operand : calculus.Operand) → compares_with_other x (calculus.compare v a o operand) ≡ true → (v ≡ x → ⊥)
-      → flat triple_words (triples_of s x (calculus.compare v a o operand ∷ [])) ≡ column_number s (other_variable x (calculus.compare v a o operand)) (other_attribute x (calculus.compare v a o operand)).number ∷ operator_number o ∷ (own_attribute x (calculus.compare v a o operand)).number ∷ []
-  triple_straight (calculus.fixed c) h e = absurd (false≢true h)
-  triple_straight (calculus.of_variable w b) h e = let t : eqb v x ≡ false = ne_eqb v x e in rw (h, t)
-
 pub triple_none : (s : Scope) (x : ℕ) (a : calculus.Atom) → compares_with_other x a ≡ false → flat triple_words (triples_of s x (a ∷ [])) ≡ []
 triple_none s x a h = rw h
 

@@ -1,9 +1,8 @@
 -- When the short rules fit, by their names. Assumes nothing.
-use Rattle.std.specs.Prelude.{ℕ, Bool, true, false, ◌||◌}
+use Rattle.std.specs.Prelude.{ℕ, Bool, true, false, ◌||◌, Option, Some, None}
 use Rattle.calculus.specs.Question.{Condition}
 use Rattle.calculus.specs.ShortRules.{short_rule2_fits, short_rule3_fits, short_rule4_fits, short_rule5_fits, short_rule6_fits}
-use Rattle.relations.specs.Limits.{variable_count}
-use Rattle.nodes.specs.declared.node.Quantifier.TheVariants.{Some, Every, AtLeast}
+use Rattle.nodes.specs.declared.node.Quantifier.TheVariants as quantifier
 use Rattle.nodes.specs.declared.node.Binder.TheVariants.{Binding, Quantifies}
 use Rattle.nodes.specs.declared.node.Form.{Form}
 use Rattle.nodes.specs.declared.node.Form.TheVariants.{Table, Alpha, Target, Binds, Combines, Compares, Connects, IllFormed}
@@ -17,19 +16,19 @@ rule_fits S3 x f = short_rule3_fits f || short_rule6_fits f
 rule_fits S4 x f = short_rule4_fits x f
 rule_fits S5 x f = short_rule5_fits x f
 
--- the variable of a "some"; none is one past the last
-abbrev pub some_variable : Form → ℕ
-some_variable (Table relation) = variable_count
-some_variable Alpha = variable_count
-some_variable (Target variable attribute) = variable_count
-some_variable (Binds variable Binding) = variable_count
-some_variable (Binds variable (Quantifies Some)) = variable
-some_variable (Binds variable (Quantifies Every)) = variable_count
-some_variable (Binds variable (Quantifies (AtLeast least))) = variable_count
-some_variable (Combines combination) = variable_count
-some_variable (Compares atom) = variable_count
-some_variable (Connects connective) = variable_count
-some_variable IllFormed = variable_count
+-- the variable of a "some"
+abbrev pub some_variable : Form → Option ℕ
+some_variable (Table relation) = None
+some_variable Alpha = None
+some_variable (Target variable attribute) = None
+some_variable (Binds variable Binding) = None
+some_variable (Binds variable (Quantifies quantifier.Some)) = Some variable
+some_variable (Binds variable (Quantifies quantifier.Every)) = None
+some_variable (Binds variable (Quantifies (quantifier.AtLeast least))) = None
+some_variable (Combines combination) = None
+some_variable (Compares atom) = None
+some_variable (Connects connective) = None
+some_variable IllFormed = None
 
 abbrev pub is_atom : Form → Bool
 is_atom (Table relation) = false

@@ -1,5 +1,5 @@
 // When each of the short rules fits.
-ghost use Rattle.std.specs.Prelude.{◌≡◌, false, cond, ◌&&◌, ◌≤◌};
+ghost use Rattle.std.specs.Prelude.{◌≡◌, false, ◌&&◌, ◌≤◌};
 ghost use Rattle.relations.specs.Limits.{question_node_limit};
 ghost use Rattle.calculus.specs.Question as calculus;
 ghost use Rattle.calculus.specs.Leaves.{leaves};
@@ -9,65 +9,43 @@ ghost use Rattle.conditions.specs.Leaves.{is_tree, atoms_of, LeavesFit};
 ghost use Rattle.short_rules.specs.Fits.{rule_fits, some_variable, is_atom};
 
 use conditions::atom::{alone_on, compares_with_other, equates_outside, equates_with};
-use conditions::leaves::{LEAF_WORDS, collect, leaf};
+use conditions::leaves::{Leaves, collect, leaf};
 use nodes::node::{Binder, Form, Quantifier, decode};
-use relations::limits::{PAIRS, TRIPLES, VARIABLES};
-
-const MOST_TRIPLES: u32 = TRIPLES as u32;
-
-const MOST_PAIRS: u32 = PAIRS as u32;
-
-// 1 where the test holds, for counting.
-pub fn once(test: bool) -> u32
-    ensures { (result ≡ cond test 1 0) × (result ≤ 1) }
-{
-    if test {
-        return 1;
-    }
-    0
-}
+use relations::limits::{PAIRS, TRIPLES};
 
 // The atoms that S2 and S4 ask for: each on x alone or comparing x with another variable, the latter at most 8.
-fn short_rule_2_atoms(words: &[u32], x: u32, leaves: &[u32; LEAF_WORDS]) -> bool
+fn short_rule_2_atoms(words: &[u32], x: u32, leaves: &[u32]) -> bool
     requires { LeavesFit words.now leaves.now }
     ensures { result ≡ short_rule2_atoms x (atoms_of words.now false leaves.now) }
 {
     let mut fits = true;
-    let mut comparing: u32 = 0;
-    let mut i: usize = 0;
-    let mut left = leaves[0];
-    while 0 < left {
-        let atom = leaf(words, leaves, false, i);
+    let mut comparing = 0;
+    for number in leaves {
+        let atom = leaf(words, *number, false);
         let compares = compares_with_other(x, atom);
-        fits = fits & (alone_on(x, atom) | compares);
-        comparing += once(compares);
-        i += 1;
-        left -= 1;
+        fits &= alone_on(x, atom) | compares;
+        comparing += usize::from(compares);
     }
-    fits & (comparing <= MOST_TRIPLES)
+    fits & (comparing <= TRIPLES)
 }
 
 // The atoms that S5 asks for: each on z alone, or one of the two kinds of equations, of which there are 1 to 8 each.
-fn short_rule_5_atoms(words: &[u32], z: u32, y: u32, leaves: &[u32; LEAF_WORDS]) -> bool
+fn short_rule_5_atoms(words: &[u32], z: u32, y: u32, leaves: &[u32]) -> bool
     requires { LeavesFit words.now leaves.now }
     ensures { result ≡ short_rule5_atoms z y (atoms_of words.now false leaves.now) }
 {
     let mut fits = true;
-    let mut shared: u32 = 0;
-    let mut outside: u32 = 0;
-    let mut i: usize = 0;
-    let mut left = leaves[0];
-    while 0 < left {
-        let atom = leaf(words, leaves, false, i);
+    let mut shared = 0;
+    let mut outside = 0;
+    for number in leaves {
+        let atom = leaf(words, *number, false);
         let with_y = equates_with(z, y, atom);
         let with_other = equates_outside(z, y, atom);
-        fits = fits & (alone_on(z, atom) | (with_y | with_other));
-        shared += once(with_y);
-        outside += once(with_other);
-        i += 1;
-        left -= 1;
+        fits &= alone_on(z, atom) | (with_y | with_other);
+        shared += usize::from(with_y);
+        outside += usize::from(with_other);
     }
-    fits & ((1 <= shared) & (shared <= MOST_PAIRS) & ((1 <= outside) & (outside <= MOST_TRIPLES)))
+    fits & ((1..=PAIRS).contains(&shared) & (1..=TRIPLES).contains(&outside))
 }
 
 // S2, or S4 where it is asked of a tree of "or"s.
@@ -75,56 +53,28 @@ fn tree_fits(words: &[u32], disjoined: bool, x: u32, reference: u32) -> bool
     requires { Names words.now reference × (calculus.condition_nodes (condition_at words.now reference) ≤ question_node_limit) }
     ensures { result ≡ (is_tree disjoined (condition_at words.now reference) && short_rule2_atoms x (leaves (condition_at words.now reference))) }
 {
-    let mut leaves = [0u32; LEAF_WORDS];
-    let tree = collect(words, disjoined, reference, &mut leaves);
-    tree & short_rule_2_atoms(words, x, &leaves)
+    let mut leaves = Leaves::new();
+    collect(words, disjoined, reference, &mut leaves)
+        & short_rule_2_atoms(words, x, leaves.numbers())
 }
 
-// The variable of a "some"; none is one past the last.
-pub fn some_variable(form: Form) -> u32
+// The variable of a "some".
+pub fn some_variable(form: Form) -> Option<u32>
     ensures { result ≡ some_variable form }
 {
     match form {
-        Form::Table(_) => VARIABLES,
-        Form::Alpha => VARIABLES,
-        Form::Target {
-            variable: _,
-            attribute: _,
-        } => VARIABLES,
-        Form::Binds { variable, binder } => match binder {
-            Binder::Binding => VARIABLES,
-            Binder::Quantifies(quantifier) => match quantifier {
-                Quantifier::Some => variable,
-                Quantifier::Every => VARIABLES,
-                Quantifier::AtLeast(_) => VARIABLES,
-            },
-        },
-        Form::Combines(_) => VARIABLES,
-        Form::Compares(_) => VARIABLES,
-        Form::Connects(_) => VARIABLES,
-        Form::IllFormed => VARIABLES,
+        Form::Binds {
+            variable,
+            binder: Binder::Quantifies(Quantifier::Some),
+        } => Some(variable),
+        _ => None,
     }
 }
 
 fn is_atom(form: Form) -> bool
     ensures { result ≡ is_atom form }
 {
-    match form {
-        Form::Table(_) => false,
-        Form::Alpha => false,
-        Form::Target {
-            variable: _,
-            attribute: _,
-        } => false,
-        Form::Binds {
-            variable: _,
-            binder: _,
-        } => false,
-        Form::Combines(_) => false,
-        Form::Compares(_) => true,
-        Form::Connects(_) => false,
-        Form::IllFormed => false,
-    }
+    matches!(form, Form::Compares(_))
 }
 
 // S5 fits an "every y" above the condition that a reference names.
@@ -133,14 +83,14 @@ fn division_fits(words: &[u32], y: u32, reference: u32) -> bool
     ensures { result ≡ short_rule5_fits y (condition_at words.now reference) }
 {
     let node = decode(words, (reference - 1) as usize);
-    let form = node.form;
-    let z = some_variable(form);
-    if z < VARIABLES {
-        let mut leaves = [0u32; LEAF_WORDS];
-        let tree = collect(words, false, node.c, &mut leaves);
-        return tree & short_rule_5_atoms(words, z, y, &leaves);
+    match some_variable(node.form) {
+        Some(z) => {
+            let mut leaves = Leaves::new();
+            collect(words, false, node.c, &mut leaves)
+                & short_rule_5_atoms(words, z, y, leaves.numbers())
+        }
+        None => false,
     }
-    false
 }
 
 // The short rules that stand above a condition, by their names in document 01. S3 answers for S6 too: both stand under a "not".
@@ -162,12 +112,10 @@ pub fn rule_fits(words: &[u32], rule: ShortRule, x: u32, reference: u32) -> bool
         ShortRule::S2 => tree_fits(words, false, x, reference),
         ShortRule::S3 => {
             let node = decode(words, (reference - 1) as usize);
-            let form = node.form;
-            let z = some_variable(form);
-            if z < VARIABLES {
-                return rule_fits(words, ShortRule::S2, z, node.c);
+            match some_variable(node.form) {
+                Some(z) => rule_fits(words, ShortRule::S2, z, node.c),
+                None => is_atom(node.form),
             }
-            is_atom(form)
         }
         ShortRule::S4 => tree_fits(words, true, x, reference),
         ShortRule::S5 => division_fits(words, x, reference),

@@ -1,59 +1,68 @@
 // Standard input, or another reader, read as a bundle into lent buffers.
 #![tactic(auto)]
 
+ghost use Rattle.std.specs.Prelude.{MatchResult, IfOk};
 ghost use Rattle.io.specs.Counts.{IsPrefixLen};
+ghost use Rattle.standard_input.specs.Placed.{PlaceFits};
 
-use bundle_reading::Reading;
+use bundle_reading::ReadRefusal;
 use relations::limits::{QUESTION_NODE_WORDS, TEXT_BYTES};
+use std::io;
 use std::io::Read;
 
-// How many bytes were read, and whether they ended in a read that failed.
-#[derive(Clone, Copy)]
-pub struct TextRead {
-    pub bytes: usize,
-    pub failed: bool,
-}
-
-// What the input was read as: a read that failed; a refusal's status and place; or a bundle's mode and how many words of each buffer are its own.
-#[derive(Clone, Copy)]
+// A bundle's mode, and how many words of each buffer are its own. No slices of the buffers in their place: of a `&mut` from which a
+// result borrows no clause can speak, and what `read_bundle` promises of the buffers (`IsPrefixLen`) stays.
+#[derive(Clone, Copy, PartialEq, Eq, Debug)]
 pub struct Input {
-    pub failed: bool,
-    pub status: u32,
-    pub place: u32,
     pub mode: u32,
     pub catalogue: usize,
     pub tables: usize,
     pub question: usize,
 }
 
-// Reads until the text is full or the input ends. A read that a signal interrupts counts as one that failed.
-fn read_text<R: Read>(input: &mut R, text: &mut [u8]) -> TextRead
-    ensures { IsPrefixLen result.bytes text.new }
+// Why there is no bundle: a read failed, or what was read is refused.
+#[derive(Clone, Copy, PartialEq, Eq, Debug)]
+pub enum InputError {
+    Unreadable,
+    Refused(ReadRefusal),
+}
+
+impl From<io::Error> for InputError {
+    ghost use Rattle.std.specs.Prelude.{◌≡◌};
+    ghost use Rattle.standard_input.specs.declared.InputError.TheVariants.{Unreadable};
+
+    ghost from_gives = { λ _ failed. failed ≡ Unreadable };
+
+    fn from(_error: io::Error) -> InputError {
+        InputError::Unreadable
+    }
+}
+
+impl From<ReadRefusal> for InputError {
+    ghost use Rattle.std.specs.Prelude.{◌≡◌};
+    ghost use Rattle.standard_input.specs.declared.InputError.TheVariants.{Refused};
+
+    ghost from_gives = { λ refusal failed. failed ≡ Refused refusal };
+
+    fn from(refusal: ReadRefusal) -> InputError {
+        InputError::Refused(refusal)
+    }
+}
+
+// Reads until the text is full or the input ends: how many bytes. A read that a signal interrupts counts as one that failed.
+fn read_text<R: Read>(input: &mut R, text: &mut [u8]) -> io::Result<usize>
+    ensures { IfOk result (λ bytes. IsPrefixLen bytes text.new) }
 {
     let mut bytes = 0;
+    // No `for`: each read says how far it went.
     while bytes < text.len() {
-        match input.read(&mut text[bytes..]) {
-            Ok(0) => {
-                return TextRead {
-                    bytes,
-                    failed: false,
-                };
-            }
-            Ok(more) => {
-                bytes += more;
-            }
-            Err(_) => {
-                return TextRead {
-                    bytes,
-                    failed: true,
-                };
-            }
+        let more = input.read(&mut text[bytes..])?;
+        if more == 0 {
+            break;
         }
+        bytes += more;
     }
-    TextRead {
-        bytes,
-        failed: false,
-    }
+    Ok(bytes)
 }
 
 // Reads a bundle into the three buffers. One byte more than a text may have is asked for, so that `read` can tell an over-long one.
@@ -62,43 +71,16 @@ pub fn read_bundle<R: Read>(
     catalogue: &mut [u32],
     tables: &mut [u32],
     question: &mut [u32],
-) -> Input
-    ensures { IsPrefixLen result.catalogue catalogue.new × IsPrefixLen result.tables tables.new × IsPrefixLen result.question question.new }
+) -> Result<Input, InputError>
+    ensures { MatchResult result (λ input. IsPrefixLen input.catalogue catalogue.new × IsPrefixLen input.tables tables.new × IsPrefixLen input.question question.new) PlaceFits }
 {
     let mut text = [0u8; TEXT_BYTES + 1];
-    let taken = read_text(from, &mut text);
-    let bytes = taken.bytes;
-    let mut input = Input {
-        failed: taken.failed,
-        status: 0,
-        place: 0,
-        mode: 0,
-        catalogue: 0,
-        tables: 0,
-        question: 0,
-    };
-    if input.failed {
-        return input;
-    }
-    match bundle_reading::read(&text[..bytes], catalogue, tables, question) {
-        Reading::Bundle {
-            mode,
-            pairs,
-            words,
-            nodes,
-        } => {
-            input.mode = mode;
-            input.catalogue = 2 * pairs;
-            input.tables = words;
-            input.question = QUESTION_NODE_WORDS * nodes;
-        }
-        Reading::WrongLine(line) => {
-            input.status = 12;
-            input.place = line as u32;
-        }
-        Reading::SmallBuffer => {
-            input.status = 14;
-        }
-    }
-    input
+    let bytes = read_text(from, &mut text)?;
+    let bundle = bundle_reading::read(&text[..bytes], catalogue, tables, question)?;
+    Ok(Input {
+        mode: bundle.mode,
+        catalogue: 2 * bundle.pairs,
+        tables: bundle.words,
+        question: QUESTION_NODE_WORDS * bundle.nodes,
+    })
 }

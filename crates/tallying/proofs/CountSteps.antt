@@ -1,25 +1,24 @@
 -- The right rows counted for one left row, a right row at a time. Assumes nothing.
 use mathlib.Core.Path.{◌≡◌, refl, sym, ap, ◌∙◌, subst}
-use mathlib.Core.Bool.{Bool, true, false, ◌&&◌, So}
-use mathlib.Core.Logic.{◌⊎◌, inl, inr}
+use mathlib.Core.Bool.{Bool, true, false, So}
 use mathlib.Core.List.{List, [], ◌∷◌}
 use Prim.Native.Nat.{ℕ, ◌+◌, ◌-◌, ◌*◌, ◌≤◌, ◌<◌}
 use native.Mathlib.Nat.{add-zero, zero-add}
 use native.Mathlib.Omega.{arith}
-use lib.Dec.{leb, ltb}
+use lib.Dec.{leb}
 use lib.ListN.{length, take, drop}
 use lib.Seq.{take-take}
-use borrow.Author.Tests.{le-leb, lt-leb, ltb-true, ltb-false}
+use borrow.Author.Tests.{le-leb, lt-leb}
 use Rattle.relations.specs.Lists.{filter, how_many}
 use Rattle.relations.specs.Rows.{Row, same_row, row_before, begins}
 use Rattle.relations.specs.Values.{Rows, Ascending}
-use Rattle.relations.proofs.BoolLaws.{true-and-false, true_or_false, not_so, and_left, and_right}
+use Rattle.relations.proofs.BoolLaws.{true-and-false, not_so}
 use Rattle.relations.proofs.RowLaws.{same_row-itself, same_row-equal, row_before_trans, Trichotomy, before, same, after, trichotomy, before_differs, after_differs}
 use Rattle.values.specs.Words.{row_in, rows_at, rows_of, end}
 use Rattle.values.specs.Orders.{order_of}
 use Rattle.values.specs.declared.rows.Value.{Value}
-use Rattle.values.specs.declared.rows.Order.{Order}
-use Rattle.values.specs.declared.rows.Order.TheVariants.{Less, Equal, Greater}
+use Rattle.std.specs.declared.cmp.Ordering.{Ordering}
+use Rattle.std.specs.declared.cmp.Ordering.TheVariants.{Less, Equal, Greater}
 use Rattle.values.specs.Places.{NoneBehind}
 use Rattle.values.proofs.RowsLaws.{row_inside, rows_at_row, rows_at_none, times_step}
 use Rattle.values.proofs.BoundLaws.{filter-behind-words}
@@ -73,7 +72,7 @@ none_behind left w = record { most = λ row l s. not_so (row_before left (take (
 
 -- the same of right rows in words, of which the first is compared by its first words
 module _ (w rows from : ℕ) (work : List ℕ) {left : Row} {right : Rows} {count : ℕ} (c : Counting left right count (rows_at w rows from work)) (some_left : 0 < rows) (inside : from + rows * w ≤ length work) (short : length left ≤ w)
-    {front : Row} {order : Order} (seen : front ≡ row_in work from (length left)) (compared : order ≡ order_of left front) where
+    {front : Row} {order : Ordering} (seen : front ≡ row_in work from (length left)) (compared : order ≡ order_of left front) where
   front-words : front ≡ take (length left) (row_in work from w)
   front-words =
       seen ∙ row_inside work from (length left) (omega (arith, times_step rows w some_left)) ∙ sym (take-take (length left) w (drop from work) short)
@@ -95,25 +94,16 @@ module _ (w rows from : ℕ) (work : List ℕ) {left : Row} {right : Rows} {coun
       let none : filter (begins left) (rows_at w rows from work) ≡ [] = filter-behind-words w rows from work inside (none_behind left w) short some_left a b in
       sym (ap (leb least) (c.all ∙ rw none (add-zero count)) ∙ lt-leb least count few)
 
--- the loop's test
-pub both_less : (rows count least : ℕ) → So (ltb 0 rows && ltb count least) → (0 < rows) × (count < least)
-both_less rows count least h = (ltb-true 0 rows (and_left (ltb 0 rows) (ltb count least) h), ltb-true count least (and_right (ltb 0 rows) (ltb count least) h))
+-- the loop ends with enough of them, or with none to come
+pub counting_enough : {left : Row} {right rest : Rows} {count : ℕ} → Counting left right count rest → (least : ℕ) → least ≤ count → leb least count ≡ leb least (how_many (begins left) right)
+counting_enough {left} {right} {rest} {count} c least enough = le-leb least count enough ∙ sym (le-leb least (how_many (begins left) right) (omega (arith, c.all)))
 
-pub counting_ended : (w rows from : ℕ) (work : List ℕ) {left : Row} {right : Rows} {count : ℕ} → Counting left right count (rows_at w rows from work) → (least : ℕ) → (ltb 0 rows && ltb count least) ≡ false
-    → leb least count ≡ leb least (how_many (begins left) right)
-counting_ended w rows from work {left} {right} {count} c least h = go (true_or_false (ltb 0 rows))
-  where
-    go : (ltb 0 rows ≡ true) ⊎ (ltb 0 rows ≡ false) → leb least count ≡ leb least (how_many (begins left) right)
-    go (inl e) =
-        let f : ltb count least ≡ false = rw e at h in
-        let enough : least ≤ count = ltb-false count least f in
-        le-leb least count enough ∙ sym (le-leb least (how_many (begins left) right) (omega (arith, c.all)))
-    go (inr e) =
-        let z : rows ≡ 0 = omega (arith, ltb-false 0 rows e) in
-        let none : rows_at w rows from work ≡ [] = rw z (rows_at_none w from work) in
-        sym (ap (leb least) (c.all ∙ rw none (add-zero count)))
+pub counting_through : (rest : Value) (work : List ℕ) {left : Row} {right : Rows} {count : ℕ} → Counting left right count (rows_of rest work) → (least : ℕ) → rest.rows ≡ 0 → leb least count ≡ leb least (how_many (begins left) right)
+counting_through rest work {left} {right} {count} c least z =
+    let none : rows_of rest work ≡ [] = rw z (rows_at_none rest.width rest.base work) in
+    sym (ap (leb least) (c.all ∙ rw none (add-zero count)))
 
 -- what a return of the loop leaves; `left` is the row behind a reference
-pub counts_made : (least : ℕ) {left row : Row} (right : Value) (work : List ℕ) {count : ℕ} {enough : Bool} (from rows : ℕ) → left ≡ row → from + rows * right.width ≡ end right → Ascending (rows_at right.width rows from work)
-    → Counting left (rows_of right work) count (rows_at right.width rows from work) → enough ≡ leb least (how_many (begins left) (rows_of right work)) → Counts least row right work (record { enough = enough; from = from; rows = rows })
-counts_made least right work {enough} from rows e ends a c says = subst (λ row. Counts least row right work (record { enough = enough; from = from; rows = rows })) e (record { enough = says; ends = ends; ascending = a; later = c.later })
+pub counts_made : (least : ℕ) {left row : Row} (right rest : Value) (work : List ℕ) {count : ℕ} {enough : Bool} → left ≡ row → rest.width ≡ right.width → end rest ≡ end right → Ascending (rows_of rest work)
+    → Counting left (rows_of right work) count (rows_of rest work) → enough ≡ leb least (how_many (begins left) (rows_of right work)) → Counts least row right work enough rest
+counts_made least right rest work {enough = enough} e w ends a c says = subst (λ row. Counts least row right work enough rest) e (record { enough = says; wide = w; ends = ends; ascending = a; later = c.later })

@@ -10,84 +10,53 @@ ghost use Rattle.values.specs.Building.{Builds};
 ghost use Rattle.tallying.specs.Counts.{Counts};
 
 use operations::keep::keep_if;
-use values::placing::Placed;
-use values::rows::{Order, Value, compare_rows, row};
+use std::cmp::Ordering;
+use values::rows::{Value, compare_rows, row};
 
-// Whether a left row begins enough right rows; and the right rows that are left for the next one: from where, and how many.
-#[derive(Clone, Copy)]
-pub struct Counted {
-    pub enough: bool,
-    pub from: usize,
-    pub rows: usize,
-}
-
+// Whether a left row begins enough of the right rows that are left, of which those are left then that the next left row may begin.
 // The right rows in front of those that the left row begins are passed, and those are counted until there are enough. One that it stands before ends the count:
 // it and all behind it are for later left rows.
-fn count_begun(work: &[u32], at: usize, width: usize, right: Value, least: usize) -> Counted
-    requires { (at + width ≤ length work.now) × (width < right.width) × (end right ≤ length work.now) × Ascending (rows_of right work.now) }
-    ensures { Counts least (row_in work.now at width) right work.now result }
+fn count_begun(work: &[u32], at: usize, width: usize, rest: &mut Value, least: usize) -> bool
+    requires { (at + width ≤ length work.now) × (width < rest.old.width) × (end rest.old ≤ length work.now) × Ascending (rows_of rest.old work.now) }
+    ensures { Counts least (row_in work.now at width) rest.old work.now result rest.new }
 {
     let left = row(work, work, true, at, width);
-    let step = right.width;
-    let mut from = right.base;
-    let mut rows = right.rows;
     let mut count: usize = 0;
-    while (0 < rows) & (count < least) {
-        match compare_rows(left, row(work, work, true, from, width)) {
-            Order::Less => {
-                return Counted {
-                    enough: false,
-                    from,
-                    rows,
-                };
+    // No `for`: the caller goes on with the rows that are left here.
+    while 0 < rest.rows && count < least {
+        match compare_rows(left, row(work, work, true, rest.base, width)) {
+            Ordering::Less => {
+                return false;
             }
-            Order::Equal => {
+            Ordering::Equal => {
                 count += 1;
             }
-            Order::Greater => {}
+            Ordering::Greater => {}
         }
-        from += step;
-        rows -= 1;
+        rest.base += rest.width;
+        rest.rows -= 1;
     }
-    Counted {
-        enough: least <= count,
-        from,
-        rows,
-    }
+    least <= count
 }
 
 // The left rows that begin at least so many right rows, as a value from `out` on. A comparison with a right row passes it for good, or is the last for its left row:
 // so there are at most as many as left and right rows together.
-pub fn tally(work: &mut [u32], least: usize, left: Value, right: Value, out: usize) -> Placed
+pub fn tally(work: &mut [u32], least: usize, left: Value, right: Value, out: usize) -> Option<usize>
     requires { (0 < left.width) × (left.width < right.width) × (end left ≤ out) × (out ≤ length work.old) × (end right ≤ out) × Ascending (rows_of left work.old) × Ascending (rows_of right work.old) }
     ensures { Builds left.width out 0 (tally_candidates least (rows_of left work.old) (rows_of right work.old)) work.old work.new result }
 {
     let width = left.width;
-    let step = right.width;
-    let mut at = left.base;
-    let mut more = left.rows;
-    let mut from = right.base;
-    let mut rows = right.rows;
-    let mut made: usize = 0;
-    while 0 < more {
-        let rest = Value {
-            base: from,
+    let mut rest = right;
+    let mut rows: usize = 0;
+    for i in 0..left.rows {
+        let at = left.base + i * width;
+        let enough = count_begun(work, at, width, &mut rest, least);
+        let made = Value {
+            base: out,
             rows,
-            width: step,
+            width,
         };
-        let counted = count_begun(work, at, width, rest, least);
-        from = counted.from;
-        rows = counted.rows;
-        match keep_if(work, counted.enough, at, width, out, made) {
-            Placed::Rows(placed) => {
-                made = placed;
-            }
-            Placed::Full => {
-                return Placed::Full;
-            }
-        }
-        at += width;
-        more -= 1;
+        rows = keep_if(work, enough, at, made)?;
     }
-    Placed::Rows(made)
+    Some(rows)
 }

@@ -1,36 +1,35 @@
 // What no bundle on standard input can show: buffers that are one word or one byte too small, and calls that `write` refuses.
 #![tactic(auto)]
 
-use bundle_reading::{Reading, read};
-use bundle_writing::{Writing, write};
+use bundle_reading::{Bundle, ReadRefusal, read};
+use bundle_writing::{WriteRefusal, write};
 use relations::limits::{CATALOGUE_WORDS, QUESTION_WORDS, WORDS};
 use std::io;
 
-fn show(rt: &HostRuntime, case: &str, status: u64, place: usize) -> io::Result<()> {
+fn show(rt: &HostRuntime, case: &str, status: u32, place: usize) -> io::Result<()> {
     println!(rt; "{case} status={status}")?;
-    println!(rt; "place={place}")?;
-    Ok(())
+    println!(rt; "place={place}")
 }
 
-fn show_reading(rt: &HostRuntime, case: &str, reading: Reading) -> io::Result<()> {
-    match reading {
-        Reading::Bundle {
-            mode: _,
-            pairs: _,
-            words: _,
-            nodes: _,
-        } => show(rt, case, 0, 0),
-        Reading::WrongLine(line) => show(rt, case, 12, line),
-        Reading::SmallBuffer => show(rt, case, 14, 0),
+fn show_reading(
+    rt: &HostRuntime,
+    case: &str,
+    answer: Result<Bundle, ReadRefusal>,
+) -> io::Result<()> {
+    match answer {
+        Ok(_) => show(rt, case, 0, 0),
+        Err(refusal) => show(rt, case, refusal.status(), refusal.place()),
     }
 }
 
-fn show_writing(rt: &HostRuntime, case: &str, writing: Writing) -> io::Result<()> {
-    match writing {
-        Writing::Bytes(bytes) => show(rt, case, 0, bytes),
-        Writing::WrongTables => show(rt, case, 7, 0),
-        Writing::WrongNodes => show(rt, case, 1, 0),
-        Writing::SmallBuffer => show(rt, case, 13, 0),
+fn show_writing(
+    rt: &HostRuntime,
+    case: &str,
+    answer: Result<usize, WriteRefusal>,
+) -> io::Result<()> {
+    match answer {
+        Ok(bytes) => show(rt, case, 0, bytes),
+        Err(refusal) => show(rt, case, refusal.status(), 0),
     }
 }
 

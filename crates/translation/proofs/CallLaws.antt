@@ -19,28 +19,32 @@ use Rattle.relations.proofs.BoolLaws.{and_right}
 use Rattle.calculus.specs.Claims.{TranslationRight}
 use Rattle.calculus.proofs.Theorems.{translation_right}
 use Rattle.catalogue.specs.Judging.{catalogue_words, catalogue_ok, CatalogueNumbers, catalogue_numbers, judged_catalogue}
-use Rattle.catalogue.specs.declared.judging.Judged.TheVariants.{Words, Wrong}
+use Rattle.std.specs.Prelude.{Result, Ok, Err, IsErrAnd}
+use Rattle.translation.specs.declared.call.Translated.{Translated}
+use Rattle.translation.specs.declared.call.NotTranslated.{NotTranslated}
+use Rattle.translation.specs.declared.call.NotTranslated.TheVariants.{WrongQuestion, WrongCatalogue}
+use Rattle.catalogue.proofs.PairLaws.{refused}
 use Rattle.catalogue.specs.Stored.{relations_of, columns_of}
 use Rattle.catalogue.proofs.TableLaws.{known_columns}
 use Rattle.judgements.specs.Accepted.{QuestionRight}
 use Rattle.nodes.specs.Nodes.{node_count}
-use Rattle.question.specs.Judgement.{count_ok, judge_count}
+use Rattle.question.specs.Judgement.{Judgement, count_ok, judge_count, status_of, refused_at}
 use Rattle.question.specs.Walk.{judged_by_walk}
 use Rattle.question.specs.Trees.{question_of}
-use Rattle.question.specs.declared.judgement.Judgement.{Judgement}
-use Rattle.question.specs.declared.judgement.Judgement.TheVariants.{Accepted, Refused}
+use Rattle.question.specs.declared.judgement.Refusal.{Refusal}
+use Rattle.question.specs.declared.judgement.Refusal.TheVariants.{WrongCount}
 use Rattle.judgements.proofs.Accepted.{accepted-right, accepted-passed}
 use Rattle.judgements.specs.Faults.{judged_question}
 use Rattle.judgements.proofs.FaultsDecide.{faults_decide}
 use Rattle.question.proofs.Counts.{counted}
-use Rattle.translation.specs.TranslateCall.{TranslateOutcome, plan_of, plan_buffer_words, unwritten, written, judged_outcome, behind_catalogue, is_short, translate_outcome}
+use Rattle.translation.specs.TranslateCall.{TranslateOutcome, translate_numbers, translate_refusal, plan_of, plan_buffer_words, unwritten, written, judged_outcome, behind_catalogue, is_short, translate_outcome}
 use Rattle.emission.specs.HeavyCount.{heavy_in}
 use Rattle.plan_steps.specs.Ranges.{RangeDone}
 use Rattle.plan_writing.specs.Translating.{RangeReady}
 use Rattle.plan_steps.specs.declared.ranges.MadeRange.{MadeRange}
 use Rattle.emission.proofs.HeavyLaws.{heavy-written}
 
-module _ (catalogue question : List ℕ) (ok : catalogue_ok catalogue ≡ true) (accepted : judged_by_walk catalogue question ≡ Accepted) where
+module _ (catalogue question : List ℕ) (ok : catalogue_ok catalogue ≡ true) (accepted : judged_by_walk catalogue question ≡ Ok tt) where
   right : QuestionRight catalogue question
   right = accepted-right catalogue question (known_columns catalogue ok) accepted
 
@@ -84,53 +88,75 @@ module _ (catalogue question : List ℕ) (ok : catalogue_ok catalogue ≡ true) 
           let heavy_is : heavies ≡ heavy nodes = e ∙ ap₂ heavy_in counted-nodes done.written.words ∙ heavy-written (columns_of catalogue) (relations_of catalogue) plan nodes room legal in
           rw (counted-nodes, heavy_is, done.written.words)
 
+abbrev left_by : Result Translated NotTranslated → List ℕ → TranslateOutcome
+left_by answer after = record { numbers = translate_numbers answer; plan = after }
+
+-- What a `?` hands on: the refusal that it was given, as translation's own.
+module _ (after : List ℕ) where
+  pub handed_catalogue : (answer : Result Translated NotTranslated) → IsErrAnd answer (λ refusal. refusal ≡ WrongCatalogue) → left_by answer after ≡ record { numbers = translate_refusal 7 0; plan = after }
+  handed_catalogue (Ok _) h = absurd h
+  handed_catalogue (Err refusal) h = ap (λ (r : NotTranslated). left_by (Err r) after) h
+
+  pub handed_question : (refusal : Refusal) (answer : Result Translated NotTranslated) → IsErrAnd answer (λ given. given ≡ WrongQuestion refusal) → left_by answer after ≡ record { numbers = translate_refusal (status_of refusal) (refused_at refusal); plan = after }
+  handed_question refusal (Ok _) h = absurd h
+  handed_question refusal (Err given) h = ap (λ (r : NotTranslated). left_by (Err r) after) h
+
 -- Each return is the case of the definition that the tests before it decide.
 
-module _ (catalogue question : List ℕ) (mode : ℕ) (plan : List ℕ) where
-  pub count-refused : {status place : ℕ} → Refused status place ≡ judge_count question → unwritten catalogue question mode plan status place ≡ behind_catalogue catalogue question mode plan
-  count-refused {status} {place} e = go (count_ok question) e
+-- the answer of `judge_catalogue`
+module _ (catalogue : List ℕ) where
+  pub catalogue-good : {words : ℕ} → catalogue_numbers (Ok words) ≡ judged_catalogue catalogue → catalogue_ok catalogue ≡ true
+  catalogue-good {words} e = go (catalogue_ok catalogue) e
     where
-      go : (good : Bool) → Refused status place ≡ cond good Accepted (Refused 1 0)
-          → unwritten catalogue question mode plan status place ≡ cond (not good) (unwritten catalogue question mode plan 1 0) (cond (ltb (length plan) plan_buffer_words) (unwritten catalogue question mode plan 8 0) (judged_outcome catalogue question mode plan (judged_question catalogue question)))
-      go true h = let never : ◌≡◌ {A = ℕ} 0 1 = cc in absurd (omega arith)
-      go false h = let one : status ≡ 1 = cc in let first : place ≡ 0 = cc in rw (one, first)
+      go : (good : Bool) → catalogue_numbers (Ok words) ≡ cond good (catalogue_numbers (Ok (catalogue_words catalogue))) refused → good ≡ true
+      go true h = refl
+      go false h = let never : ◌≡◌ {A = ℕ} 0 7 = ap (λ (n : CatalogueNumbers). n.status) h in absurd (omega arith)
 
-  module _ (counted : Accepted ≡ judge_count question) where
-    count-good : count_ok question ≡ true
-    count-good = go (count_ok question) counted
-      where
-        go : (good : Bool) → Accepted ≡ cond good Accepted (Refused 1 0) → good ≡ true
-        go true h = refl
-        go false h = let never : ◌≡◌ {A = ℕ} 0 1 = cc in absurd (omega arith)
+  catalogue-wrong : refused ≡ judged_catalogue catalogue → catalogue_ok catalogue ≡ false
+  catalogue-wrong e = go (catalogue_ok catalogue) e
+    where
+      go : (good : Bool) → refused ≡ cond good (catalogue_numbers (Ok (catalogue_words catalogue))) refused → good ≡ false
+      go true h = let never : ◌≡◌ {A = ℕ} 7 0 = ap (λ (n : CatalogueNumbers). n.status) h in absurd (omega arith)
+      go false h = refl
 
-    pub plan_short : length plan < plan_buffer_words → unwritten catalogue question mode plan 8 0 ≡ behind_catalogue catalogue question mode plan
-    plan_short h = rw (count-good, lt-ltb (length plan) plan_buffer_words h)
+-- the answer of `judge_count`
+module _ (question : List ℕ) where
+  count-good : Ok tt ≡ judge_count question → count_ok question ≡ true
+  count-good e = go (count_ok question) e
+    where
+      go : (good : Bool) → ◌≡◌ {A = Judgement} (Ok tt) (cond good (Ok tt) (Err WrongCount)) → good ≡ true
+      go true h = refl
+      go false h = absurd cc
 
-    pub question_judged : catalogue_ok catalogue ≡ true → plan_buffer_words ≤ length plan → (judgement : Judgement) → judgement ≡ judged_by_walk catalogue question → judged_outcome catalogue question mode plan judgement ≡ behind_catalogue catalogue question mode plan
-    question_judged ok h judgement e =
-        rw (count-good, le-ltb (length plan) plan_buffer_words h) (ap (judged_outcome catalogue question mode plan) (e ∙ faults_decide catalogue question (known_columns catalogue ok)))
-
--- Refusal 7.
-
-pub catalogue-good : (catalogue : List ℕ) {words : ℕ} → catalogue_numbers (Words words) ≡ judged_catalogue catalogue → catalogue_ok catalogue ≡ true
-catalogue-good catalogue {words} e = go (catalogue_ok catalogue) e
-  where
-    go : (good : Bool) → catalogue_numbers (Words words) ≡ cond good (catalogue_numbers (Words (catalogue_words catalogue))) (catalogue_numbers Wrong) → good ≡ true
-    go true h = refl
-    go false h = let never : ◌≡◌ {A = ℕ} 0 7 = ap (λ (n : CatalogueNumbers). n.status) h in absurd (omega arith)
-
-catalogue-wrong : (catalogue : List ℕ) → catalogue_numbers Wrong ≡ judged_catalogue catalogue → catalogue_ok catalogue ≡ false
-catalogue-wrong catalogue e = go (catalogue_ok catalogue) e
-  where
-    go : (good : Bool) → catalogue_numbers Wrong ≡ cond good (catalogue_numbers (Words (catalogue_words catalogue))) (catalogue_numbers Wrong) → good ≡ false
-    go true h = let never : ◌≡◌ {A = ℕ} 7 0 = ap (λ (n : CatalogueNumbers). n.status) h in absurd (omega arith)
-    go false h = refl
+  count-wrong : (refusal : Refusal) → Err refusal ≡ judge_count question → count_ok question ≡ false
+  count-wrong refusal e = go (count_ok question) e
+    where
+      go : (good : Bool) → ◌≡◌ {A = Judgement} (Err refusal) (cond good (Ok tt) (Err WrongCount)) → good ≡ false
+      go true h = absurd cc
+      go false h = refl
 
 module _ (catalogue question : List ℕ) (mode : ℕ) (plan : List ℕ) where
-  pub wrong-refused : catalogue_numbers Wrong ≡ judged_catalogue catalogue → unwritten catalogue question mode plan 7 0 ≡ translate_outcome catalogue question mode plan
+  pub refused_catalogue : refused ≡ judged_catalogue catalogue → unwritten catalogue question mode plan 7 0 ≡ translate_outcome catalogue question mode plan
   unfolding translate_outcome
-  wrong-refused e = rw (catalogue-wrong catalogue e)
+  refused_catalogue e = rw (catalogue-wrong catalogue e)
 
-  pub good_translated : {words : ℕ} {outcome : TranslateOutcome} → catalogue_numbers (Words words) ≡ judged_catalogue catalogue → outcome ≡ behind_catalogue catalogue question mode plan → outcome ≡ translate_outcome catalogue question mode plan
-  unfolding translate_outcome
-  good_translated e g = rw (catalogue-good catalogue e) g
+  module _ (good : catalogue_ok catalogue ≡ true) where
+    pub refused_count : (refusal : Refusal) → Err refusal ≡ judge_count question → unwritten catalogue question mode plan (status_of refusal) (refused_at refusal) ≡ translate_outcome catalogue question mode plan
+    unfolding translate_outcome
+    refused_count refusal e =
+        let wrong : count_ok question ≡ false = count-wrong question refusal e in
+        let first : refusal ≡ WrongCount = only (rw wrong at e) in
+        rw (good, wrong, first)
+      where
+        only : ◌≡◌ {A = Judgement} (Err refusal) (Err WrongCount) → refusal ≡ WrongCount
+        only h = cc
+
+    module _ (counted : Ok tt ≡ judge_count question) where
+      pub refused_short : length plan < plan_buffer_words → unwritten catalogue question mode plan 8 0 ≡ translate_outcome catalogue question mode plan
+      unfolding translate_outcome
+      refused_short h = rw (good, count-good question counted, lt-ltb (length plan) plan_buffer_words h)
+
+      pub question_judged : plan_buffer_words ≤ length plan → (judgement : Judgement) → judgement ≡ judged_by_walk catalogue question → judged_outcome catalogue question mode plan judgement ≡ translate_outcome catalogue question mode plan
+      unfolding translate_outcome
+      question_judged h judgement e =
+          rw (good, count-good question counted, le-ltb (length plan) plan_buffer_words h) (ap (judged_outcome catalogue question mode plan) (e ∙ faults_decide catalogue question (known_columns catalogue good)))

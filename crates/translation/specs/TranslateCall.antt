@@ -1,5 +1,5 @@
 -- Document 01, "Translation" and "Refusal numbers": what a call of `translate` leaves: its numbers and the plan buffer afterwards. Assumes nothing.
-use Rattle.std.specs.Prelude.{ℕ, ◌*◌, List, Bool, cond, not, length, ltb, eqb}
+use Rattle.std.specs.Prelude.{ℕ, ◌*◌, List, Bool, cond, not, length, ltb, eqb, Result, Ok, Err}
 use Rattle.std.proofs.lemmas.List.Edits.{sets}
 use Rattle.relations.specs.Limits.{plan_node_limit, plan_node_words}
 use Rattle.relations.specs.Lists.{flat}
@@ -10,12 +10,11 @@ use Rattle.calculus.specs.Translation as calculus
 use Rattle.catalogue.specs.Judging.{catalogue_ok}
 use Rattle.catalogue.specs.Stored.{columns_of}
 use Rattle.question.specs.Trees.{question_of}
-use Rattle.question.specs.Judgement.{count_ok}
+use Rattle.question.specs.Judgement.{Judgement, count_ok, status_of, refused_at}
 use Rattle.judgements.specs.Faults.{judged_question}
-use Rattle.question.specs.declared.judgement.Judgement.{Judgement}
-use Rattle.question.specs.declared.judgement.Judgement.TheVariants.{Accepted, Refused as NotAccepted}
 use Rattle.translation.specs.declared.call.Translated.{Translated}
-use Rattle.translation.specs.declared.call.Translated.TheVariants.{Done, WrongCatalogue, ShortPlan, Refused}
+use Rattle.translation.specs.declared.call.NotTranslated.{NotTranslated}
+use Rattle.translation.specs.declared.call.NotTranslated.TheVariants.{WrongCatalogue, ShortPlan, WrongQuestion}
 
 -- "Results after status and place: translate nodes, heavy"
 pub record TranslateNumbers : Type 0 where
@@ -29,11 +28,22 @@ abbrev pub translate_refusal : (status place : ℕ) → TranslateNumbers
 translate_refusal status place = record { status = status; place = place; nodes = 0; heavy = 0 }
 
 -- the numbers of each case of the answer
-abbrev pub translate_numbers : Translated → TranslateNumbers
-translate_numbers (Done nodes heavies) = record { status = 0; place = 0; nodes = nodes; heavy = heavies }
-translate_numbers WrongCatalogue = translate_refusal 7 0
-translate_numbers ShortPlan = translate_refusal 8 0
-translate_numbers (Refused status place) = translate_refusal status place
+abbrev pub translate_status : NotTranslated → ℕ
+translate_status WrongCatalogue = 7
+translate_status ShortPlan = 8
+translate_status (WrongQuestion refusal) = status_of refusal
+
+abbrev pub translate_place : NotTranslated → ℕ
+translate_place WrongCatalogue = 0
+translate_place ShortPlan = 0
+translate_place (WrongQuestion refusal) = refused_at refusal
+
+abbrev pub written_numbers : Translated → TranslateNumbers
+written_numbers translated = record { status = 0; place = 0; nodes = translated.nodes; heavy = translated.heavy }
+
+abbrev pub translate_numbers : Result Translated NotTranslated → TranslateNumbers
+translate_numbers (Ok translated) = written_numbers translated
+translate_numbers (Err refusal) = translate_refusal (translate_status refusal) (translate_place refusal)
 
 pub record TranslateOutcome : Type 0 where
   pub numbers : TranslateNumbers
@@ -65,8 +75,8 @@ module _ (catalogue question : List ℕ) (mode : ℕ) (plan : List ℕ) where
       }
 
   abbrev pub judged_outcome : Judgement → TranslateOutcome
-  judged_outcome (NotAccepted status place) = unwritten status place
-  judged_outcome Accepted = written
+  judged_outcome (Err refusal) = unwritten (status_of refusal) (refused_at refusal)
+  judged_outcome (Ok accepted) = written
 
   -- "1, 8, 2, 3, 4, 5, 6"
   abbrev pub behind_catalogue : TranslateOutcome

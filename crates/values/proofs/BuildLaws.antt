@@ -14,7 +14,7 @@ use Rattle.relations.specs.Values.{Rows, Wide, Ascending, insert_row, place_rows
 use Rattle.relations.proofs.ValueLaws.{ascending-insert_row, all_insert_row}
 use Rattle.values.specs.Words.{words_of}
 use Rattle.values.specs.Building.{Built, done, stopped, build, answer_of, left_of}
-use Rattle.values.specs.declared.placing.Placed.TheVariants.{Rows as Made, Full}
+use Rattle.std.specs.Prelude.{Some, None}
 
 -- one row
 
@@ -54,25 +54,25 @@ build-fits room [] v h = refl
 build-fits room (r ∷ rs) v h =
     build_put room r rs v (omega (arith, place_rows_grows rs (insert_row r v))) ∙ build-fits room rs (insert_row r v) h
 
-pub build-over : (room : ℕ) (rs v : Rows) → length (words_of v) ≤ room → room < length (words_of (place_rows rs v)) → answer_of (build room rs v) ≡ Full
+pub build-over : (room : ℕ) (rs v : Rows) → length (words_of v) ≤ room → room < length (words_of (place_rows rs v)) → answer_of (build room rs v) ≡ None
 unfolding build
 build-over room [] v k h = absurd (omega arith)
 build-over room (r ∷ rs) v k h = go (leb (length (words_of (insert_row r v))) room) refl (λ x. build-over room rs (insert_row r v) x h)
   where
-    go : (b : Bool) → leb (length (words_of (insert_row r v))) room ≡ b → (length (words_of (insert_row r v)) ≤ room → answer_of (build room rs (insert_row r v)) ≡ Full)
-        → answer_of (cond (leb (length (words_of (insert_row r v))) room) (build room rs (insert_row r v)) (stopped v)) ≡ Full
+    go : (b : Bool) → leb (length (words_of (insert_row r v))) room ≡ b → (length (words_of (insert_row r v)) ≤ room → answer_of (build room rs (insert_row r v)) ≡ None)
+        → answer_of (cond (leb (length (words_of (insert_row r v))) room) (build room rs (insert_row r v)) (stopped v)) ≡ None
     go true q ih = rw q (ih (leb-true _ _ q))
     go false q ih = rw q
 
-pub build_cases : (room : ℕ) (rs v : Rows) → (build room rs v ≡ done (place_rows rs v)) ⊎ (answer_of (build room rs v) ≡ Full)
+pub build_cases : (room : ℕ) (rs v : Rows) → (build room rs v ≡ done (place_rows rs v)) ⊎ (answer_of (build room rs v) ≡ None)
 unfolding build
 build_cases room [] v = inl refl
 build_cases room (r ∷ rs) v = go (leb (length (words_of (insert_row r v))) room) refl (build_cases room rs (insert_row r v))
   where
     go : (b : Bool) → leb (length (words_of (insert_row r v))) room ≡ b
-        → (build room rs (insert_row r v) ≡ done (place_rows rs (insert_row r v))) ⊎ (answer_of (build room rs (insert_row r v)) ≡ Full)
+        → (build room rs (insert_row r v) ≡ done (place_rows rs (insert_row r v))) ⊎ (answer_of (build room rs (insert_row r v)) ≡ None)
         → (cond (leb (length (words_of (insert_row r v))) room) (build room rs (insert_row r v)) (stopped v) ≡ done (place_rows rs (insert_row r v)))
-        ⊎ (answer_of (cond (leb (length (words_of (insert_row r v))) room) (build room rs (insert_row r v)) (stopped v)) ≡ Full)
+        ⊎ (answer_of (cond (leb (length (words_of (insert_row r v))) room) (build room rs (insert_row r v)) (stopped v)) ≡ None)
     go true q ih = rw q ih
     go false q ih = inr (rw q)
 
@@ -113,11 +113,11 @@ build-room room (x ∷ xs) v h = go (leb (length (words_of (insert_row x v))) ro
     go false q ih = rw q h
 
 -- what an answer says of what was built
-pub went : (b : Built) (n : ℕ) → Made n ≡ answer_of b → (b ≡ done (left_of b)) × (n ≡ length (left_of b))
+pub went : (b : Built) (n : ℕ) → Some n ≡ answer_of b → (b ≡ done (left_of b)) × (n ≡ length (left_of b))
 went (done u) n e = (refl, cc)
 went (stopped u) n e = let y : ◌≡◌ {A = ℕ} 0 1 = cc in absurd (omega arith)
 
-pub refused : (b : Built) → Full ≡ answer_of b → b ≡ stopped (left_of b)
+pub refused : (b : Built) → None ≡ answer_of b → b ≡ stopped (left_of b)
 refused (done u) e = let y : ◌≡◌ {A = ℕ} 0 1 = cc in absurd (omega arith)
 refused (stopped u) e = refl
 

@@ -2,25 +2,12 @@
 use mathlib.Core.Path.{◌≡◌, refl, sym, ap, ap₂, ◌∙◌}
 use Prim.Native.Nat.{ℕ, zero, suc, ◌+◌, ◌-◌, ◌≤◌, ◌<◌}
 use native.Mathlib.Omega.{arith}
-use mathlib.Core.List.{List, [], ◌∷◌, ◌++◌, append-nil}
-use lib.ListN.{length, get_or, set, take, drop, replicate, length-drop, length-replicate, get_or-replicate, drop_of_length-le, take-append-drop, replicate-append-replicate}
+use mathlib.Core.List.{List, [], ◌++◌, append-nil}
+use lib.ListN.{length, get_or, take, drop, replicate, length-drop, length-replicate, get_or-replicate, drop_of_length-le, take-append-drop}
 use lib.Seq.{sets, length-sets, sets-eq, length-take-le, drop_at, get_or-drop, ext_get_or}
-use Rattle.relations.proofs.StoreLaws.{sets-append}
 use Rattle.values.specs.Words.{part}
 use Rattle.values.specs.Building.{cleared_from, Blank}
 use Rattle.values.proofs.WordLaws.{take-sets, get_d_sets_above, length_part, get_d_part, sets-part}
-
--- a turn of the loop that clears
-pub clear_turn : (l now : List ℕ) (from i : ℕ) → from ≤ i → now ≡ sets l from (replicate (i - from) 0) → set now i 0 ≡ sets l from (replicate (i + 1 - from) 0)
-clear_turn l now from i h e =
-    let n : ℕ = i - from in
-    let more : i + 1 - from ≡ n + 1 = omega arith in
-    let size : length {A = ℕ} (replicate n 0) ≡ n = length-replicate {A = ℕ} n 0 in
-    let here : from + length {A = ℕ} (replicate n 0) ≡ i = omega arith in
-    ap (λ (u : List ℕ). set u i 0) e
-    ∙ ap (λ (k : ℕ). set (sets l from (replicate n 0)) k 0) (sym here)
-    ∙ sym (sets-append l from (replicate n 0) (0 ∷ []))
-    ∙ ap (sets l from) (replicate-append-replicate n 1 0 ∙ ap (λ (k : ℕ). replicate k 0) (sym more))
 
 -- all words from a place on
 pub clear_all : (l : List ℕ) (place : ℕ) → place ≤ length l → sets l place (replicate (length l - place) 0) ≡ cleared_from place l

@@ -14,8 +14,7 @@ use Rattle.relations.specs.Values.{Rows, Ascending, canonical, place_rows}
 use Rattle.relations.proofs.PlaceLaws.{place_rows-canonical}
 use Rattle.values.specs.Words.{part, rows_at, words_of}
 use Rattle.values.specs.Building.{Built, done, stopped, build, answer_of, left_of, Builds}
-use Rattle.values.specs.declared.placing.Placed.{Placed}
-use Rattle.values.specs.declared.placing.Placed.TheVariants.{Rows as Made, Full}
+use Rattle.std.specs.Prelude.{Option, Some, None}
 use Rattle.values.proofs.WordLaws.{sets_again, part-before}
 use Rattle.values.proofs.RowsLaws.{rows_at-wide, length-rows_at, length-words, rows_at-before, rows_at-sets, rows_at_none, value-words, length-value}
 use Rattle.values.proofs.BuildLaws.{build-fits, build_cases, build-append, then_build, build_grows, build-room, build-ascending, went, refused}
@@ -56,24 +55,24 @@ module _ {w out rows made : ℕ} {all todo : Rows} {before now : List ℕ} (f : 
   filled_rows z n a h = ap (rows_at z n a) f.words ∙ rows_at-before z n a out before (words_of (rows_at w made out now)) h inside
 
   -- no candidate is left
-  pub filled_end : todo ≡ [] → Builds w out rows all before now (Made made)
+  pub filled_end : todo ≡ [] → Builds w out rows all before now (Some made)
   unfolding build
   filled_end e =
       let b : build (length before - out) all (rows_at w rows out before) ≡ done (rows_at w made out now) =
       f.next ∙ ap (λ (t : Rows). build (length before - out) t (rows_at w made out now)) e in
       record {
-        answers = rw b (ap Made (sym (length-rows_at w made out now)));
+        answers = rw b (ap Some (sym (length-rows_at w made out now)));
         words = rw b f.words;
         wide = rw b (rows_at-wide w made out now f.fits);
       }
 
 -- nothing is put in
-pub filled_still : (w out made : ℕ) (l : List ℕ) → out + made * w ≤ length l → Ascending (rows_at w made out l) → Builds w out made [] l l (Made made)
+pub filled_still : (w out made : ℕ) (l : List ℕ) → out + made * w ≤ length l → Ascending (rows_at w made out l) → Builds w out made [] l l (Some made)
 filled_still w out made l h a = filled_end (filled_start w out made [] l h a) refl
 
 -- A turn of a loop: the candidates `some` come first of those to come, and a callee put them in, or had no room.
 module _ {w out rows made : ℕ} {all todo : Rows} {before now : List ℕ} (f : Filled w out rows made all todo before now)
-    {some : Rows} (rest : Rows) {after : List ℕ} {r : Placed} (e : todo ≡ some ++ rest) (g : Builds w out made some now after r) where
+    {some : Rows} (rest : Rows) {after : List ℕ} {r : Option ℕ} (e : todo ≡ some ++ rest) (g : Builds w out made some now after r) where
   abbrev value : Rows
   value = rows_at w made out now
 
@@ -90,7 +89,7 @@ module _ {w out rows made : ℕ} {all todo : Rows} {before now : List ℕ} (f : 
       g.words ∙ ap (λ (y : List ℕ). sets y out (words_of (left_of built))) f.words
       ∙ sets_again before out (words_of value) (words_of (left_of built)) (build_grows (length now - out) some value)
 
-  pub filled_on : (n : ℕ) → r ≡ Made n → Filled w out rows n all rest before after
+  pub filled_on : (n : ℕ) → r ≡ Some n → Filled w out rows n all rest before after
   filled_on n q =
       let u : Rows = left_of built in
       let t = went built n (sym q ∙ g.answers) in
@@ -108,14 +107,14 @@ module _ {w out rows made : ℕ} {all todo : Rows} {before now : List ℕ} (f : 
         ascending = rw back (build-ascending (length now - out) some value f.ascending);
       }
 
-  pub filled_off : r ≡ Full → Builds w out rows all before after Full
+  pub filled_off : r ≡ None → Builds w out rows all before after None
   filled_off q =
       let u : Rows = left_of built in
       let b : build (length before - out) all (rows_at w rows out before) ≡ stopped u = in_all (stopped u) (refused built (sym q ∙ g.answers)) in
       record { answers = rw b; words = rw b stored; wide = rw b g.wide }
 
 -- What a caller learns of any function that makes a value: what is in front of `out` is as it was.
-module _ {w out rows : ℕ} {cs : Rows} {before after : List ℕ} {r : Placed} (g : Builds w out rows cs before after r) where
+module _ {w out rows : ℕ} {cs : Rows} {before after : List ℕ} {r : Option ℕ} (g : Builds w out rows cs before after r) where
   pub made_length : length after ≡ length before
   made_length = ap length g.words ∙ length-sets before out (words_of (left_of (build (length before - out) cs (rows_at w rows out before))))
 
@@ -126,7 +125,7 @@ module _ {w out rows : ℕ} {cs : Rows} {before after : List ℕ} {r : Placed} (
   made_rows z n a h k = ap (rows_at z n a) g.words ∙ rows_at-before z n a out before (words_of (left_of (build (length before - out) cs (rows_at w rows out before)))) h k
 
 -- What a caller learns of a value that was made from no row: it is the canonical value of the candidates.
-module _ {w out n : ℕ} {cs : Rows} {before after : List ℕ} (inside : out ≤ length before) (g : Builds w out 0 cs before after (Made n)) where
+module _ {w out n : ℕ} {cs : Rows} {before after : List ℕ} (inside : out ≤ length before) (g : Builds w out 0 cs before after (Some n)) where
   made_filled : Filled w out 0 n cs [] before after
   made_filled = filled_on (filled_none w out cs before inside) [] (sym (append-nil cs)) g n refl
 
@@ -140,19 +139,19 @@ module _ {w out n : ℕ} {cs : Rows} {before after : List ℕ} (inside : out ≤
   unfolding build rows_at
   made_value = go (build_cases (length before - out) cs [])
     where
-      go : (build (length before - out) cs [] ≡ done (place_rows cs [])) ⊎ (answer_of (build (length before - out) cs []) ≡ Full) → rows_at w n out after ≡ canonical cs
+      go : (build (length before - out) cs [] ≡ done (place_rows cs [])) ⊎ (answer_of (build (length before - out) cs []) ≡ None) → rows_at w n out after ≡ canonical cs
       go (inl e) = let z : done (rows_at w n out after) ≡ done (place_rows cs []) = sym made_filled.next ∙ e in let y : rows_at w n out after ≡ place_rows cs [] = cc in y ∙ place_rows-canonical cs
-      go (inr e) = let z : Made n ≡ Full = g.answers ∙ e in let y : ◌≡◌ {A = ℕ} 0 1 = cc in absurd (omega arith)
+      go (inr e) = let z : Some n ≡ None = g.answers ∙ e in let y : ◌≡◌ {A = ℕ} 0 1 = cc in absurd (omega arith)
 
 -- It is refused exactly when the whole of it has no room.
-pub made_full : {w out : ℕ} {cs : Rows} {before after : List ℕ} → Builds w out 0 cs before after Full → length before - out < length (words_of (canonical cs))
+pub made_full : {w out : ℕ} {cs : Rows} {before after : List ℕ} → Builds w out 0 cs before after None → length before - out < length (words_of (canonical cs))
 unfolding rows_at
 made_full {w} {out} {cs} {before} {after} g =
     rw (ap (λ (rows : Rows). length (words_of rows)) (place_rows-canonical cs)) at (go (leb (length (words_of (place_rows cs []))) (length before - out)) refl)
   where
     go : (b : Bool) → leb (length (words_of (place_rows cs []))) (length before - out) ≡ b → length before - out < length (words_of (place_rows cs []))
     go true q =
-        let z : Full ≡ Made (length (place_rows cs [])) = rw (build-fits (length before - out) cs [] (leb-true _ _ q)) at g.answers in
+        let z : None ≡ Some (length (place_rows cs [])) = rw (build-fits (length before - out) cs [] (leb-true _ _ q)) at g.answers in
         let y : ◌≡◌ {A = ℕ} 0 1 = cc in absurd (omega arith)
     go false q = leb-false _ _ q
 

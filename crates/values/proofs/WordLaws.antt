@@ -1,12 +1,13 @@
 -- Laws of the words of a buffer: a part of it, and a run of words stored over it (`sets`). Assumes nothing.
 use mathlib.Core.Path.{◌≡◌, refl, sym, ap, ap₂, ◌∙◌}
-use Prim.Native.Nat.{ℕ, zero, suc, ◌+◌, ◌-◌, ◌≤◌, ◌<◌}
-use native.Mathlib.Nat.{suc-add}
-use native.Mathlib.Numerals.{add-one}
+use Prim.Native.Nat.{ℕ, suc, ◌+◌, ◌-◌, ◌≤◌, ◌<◌}
 use native.Mathlib.Omega.{arith}
 use mathlib.Core.List.{List, [], ◌∷◌, ◌++◌, append_assoc}
 use lib.ListN.{length, get_or, set, take, drop, length-drop, take-append-drop}
-use lib.Seq.{sets, length-sets, sets-eq, take-set-le, get_or-set_other, set_comm, set-set, take_at, drop_at, length-take-le, take-suc, drop-cons, get_or-drop, get_or-take, drop-drop, take-add, ext_get_or}
+use lib.Seq.{paste, take_all, sets, length-sets, sets-eq, take-set-le, get_or-set_other, set_comm, set-set, take_at, drop_at, length-take-le, drop-cons, get_or-drop, get_or-take, drop-drop, take-add, ext_get_or}
+use borrow.Rule.Slice.PartMut.{put_mid}
+use Rattle.std.specs.List.{copy_within}
+use Rattle.std.proofs.lemmas.Slice.{put_mid-paste}
 use Rattle.relations.proofs.StoreLaws.{sets-append}
 use Rattle.values.specs.Words.{part}
 
@@ -33,6 +34,10 @@ pub get_d_sets_below : (l : List ℕ) (i : ℕ) (vs : List ℕ) (j : ℕ) → j 
 get_d_sets_below l i [] j h = refl
 get_d_sets_below l i (v ∷ vs) j h =
     get_d_sets_below (set l i v) (suc i) vs j (omega arith) ∙ get_or-set_other l i j v 0 (omega arith)
+
+pub get_d_sets_above : (l : List ℕ) (i : ℕ) (vs : List ℕ) (j : ℕ) → i + length vs ≤ j → get_or (sets l i vs) j 0 ≡ get_or l j 0
+get_d_sets_above l i [] j h = refl
+get_d_sets_above l i (v ∷ vs) j h = get_d_sets_above (set l i v) (suc i) vs j (omega arith) ∙ get_or-set_other l i j v 0 (omega arith)
 
 -- a store in front of the run
 pub set-sets : (l : List ℕ) (p i : ℕ) (x : ℕ) (vs : List ℕ) → p < i → set (sets l i vs) p x ≡ sets (set l p x) i vs
@@ -81,37 +86,21 @@ sets_again l i (u ∷ us) (v ∷ vs) h =
     (set-sets (set l i u) i (suc i) v us (omega arith) ∙ ap (λ (r : List ℕ). sets r (suc i) us) (set-set l i u v))
     ∙ sets_again (set l i v) (suc i) us vs (omega arith)
 
--- a turn of the loop that copies a row
-pub sets_suc : (l : List ℕ) (a : ℕ) (r : List ℕ) (i : ℕ) → i < length r
-    → set (sets l a (take i r)) (a + i) (get_or r i 0) ≡ sets l a (take (i + 1) r)
-sets_suc l a r i h =
-    let t : take (i + 1) r ≡ take i r ++ (get_or r i 0 ∷ []) = rw add-one (take-suc r i 0 h) in
-    ap (λ (k : ℕ). set (sets l a (take i r)) (a + k) (get_or r i 0)) (sym (length-take-le i r (omega arith)))
-    ∙ sym (sets-append l a (take i r) (get_or r i 0 ∷ []))
-    ∙ ap (sets l a) (sym t)
+-- what the slices' copies leave is a run of stores
+paste-sets : (l vs : List ℕ) (a n : ℕ) → n ≡ length vs → a + n ≤ length l → paste l a vs n ≡ sets l a vs
+paste-sets l vs a n e h = ap₂ (λ (u : List ℕ) (k : ℕ). take a l ++ u ++ drop (a + k) l) (take_all n vs (omega arith)) e ∙ sym (sets-eq vs l a (omega arith))
 
--- the same of a row that stands elsewhere, or in front of where it is written
-pub in_turn : (words l now : List ℕ) (start count at i : ℕ) → start + count ≤ length words → i < count → now ≡ sets l at (take i (part start count words))
-    → set now (at + i) (get_or words (start + i) 0) ≡ sets l at (take (i + 1) (part start count words))
-in_turn words l now start count at i h m e =
-    let row : List ℕ = part start count words in
-    ap₂ (λ (u : List ℕ) (v : ℕ). set u (at + i) v) e (sym (get_d_part start count words i m)) ∙ sets_suc l at row i (omega (arith, length_part start count words h))
+pub put_mid-sets : (l vs : List ℕ) (a n : ℕ) {now : List ℕ} → now ≡ vs → length vs ≡ n → a + n ≤ length l → put_mid a n l now ≡ sets l a vs
+put_mid-sets l vs a n {now} e k h = put_mid-paste a n l now vs n e refl (sym k) ∙ paste-sets l vs a n (sym k) h
 
-pub up_turn : (l now : List ℕ) (start count at i : ℕ) → start + count ≤ at → at ≤ length l → i < count → now ≡ sets l at (take i (part start count l))
-    → set now (at + i) (get_or now (start + i) 0) ≡ sets l at (take (i + 1) (part start count l))
-up_turn l now start count at i h k m e =
-    let x : get_or now (start + i) 0 ≡ get_or l (start + i) 0 = ap (λ (u : List ℕ). get_or u (start + i) 0) e ∙ get_d_sets_below l at (take i (part start count l)) (start + i) (omega arith) in
-    ap (set now (at + i)) x ∙ in_turn l l now start count at i (omega arith) m e
+pub copied_within : (l : List ℕ) (i j a : ℕ) → i ≤ j → j ≤ length l → a + (j - i) ≤ length l → copy_within l i j a ≡ sets l a (part i (j - i) l)
+copied_within l i j a h k m =
+    let size : length (part i (j - i) l) ≡ j - i = length_part i (j - i) l (omega arith) in
+    ap (λ (n : ℕ). take a l ++ part i (j - i) l ++ drop (a + n) l) (sym size) ∙ sym (sets-eq (part i (j - i) l) l a (omega arith))
 
--- a turn of the loop that moves words up, from the last to the first
-pub shift_suc : (l : List ℕ) (j to w : ℕ) → 0 < j → j ≤ to → to + w ≤ length l
-    → set (sets l (j + w) (part j (to - j) l)) (j - 1 + w) (get_or (sets l (j + w) (part j (to - j) l)) (j - 1) 0) ≡ sets l (j - 1 + w) (part (j - 1) (to - (j - 1)) l)
-shift_suc l zero to w p h k = absurd (omega arith)
-shift_suc l (suc j) to w p h k =
-    let e : suc j - 1 ≡ j = omega arith in
-    let f : to - j ≡ suc (to - suc j) = omega arith in
-    let vs : List ℕ = part (suc j) (to - suc j) l in
-    rw (e, f, part_cons j (to - suc j) l (omega arith), get_d_sets_below l (suc j + w) vs j (omega arith), set-sets l (j + w) (suc j + w) (get_or l j 0) vs (omega arith), suc-add)
+-- the same of so many words
+pub copied_count : (l : List ℕ) (i n a : ℕ) → i + n ≤ length l → a + n ≤ length l → copy_within l i (i + n) a ≡ sets l a (part i n l)
+copied_count l i n a h k = let e : i + n - i ≡ n = omega arith in copied_within l i (i + n) a (omega arith) h (omega arith) ∙ ap (λ (m : ℕ). sets l a (part i m l)) e
 
 -- a row put in behind the first k of n words, and those after them moved up
 pub sets_into : (l row : List ℕ) (a n k : ℕ) → k ≤ n → a + n + length row ≤ length l
@@ -129,17 +118,3 @@ sets_into l row a n k h fits =
     ∙ ap₂ (λ (x : List ℕ) (y : ℕ). sets x (a + y) (row ++ vs)) (sets-part k l a (omega arith)) lk
     ∙ sets-append l (a + k) row vs
     ∙ sym (sets-sets l (a + k) (a + k + length row) row vs (omega arith))
-
--- a turn of the loop that moves words down, from the first to the last
-pub get_d_sets_above : (l : List ℕ) (i : ℕ) (vs : List ℕ) (j : ℕ) → i + length vs ≤ j → get_or (sets l i vs) j 0 ≡ get_or l j 0
-get_d_sets_above l i [] j h = refl
-get_d_sets_above l i (v ∷ vs) j h = get_d_sets_above (set l i v) (suc i) vs j (omega arith) ∙ get_or-set_other l i j v 0 (omega arith)
-
-pub down_turn : (l now : List ℕ) (from count to i : ℕ) → to ≤ from → from + count ≤ length l → i < count → now ≡ sets l to (take i (part from count l))
-    → set now (to + i) (get_or now (from + i) 0) ≡ sets l to (take (i + 1) (part from count l))
-down_turn l now from count to i h k m e =
-    let row : List ℕ = part from count l in
-    let size : length row ≡ count = length_part from count l k in
-    let some : length (take i row) ≡ i = length-take-le i row (omega arith) in
-    let x : get_or now (from + i) 0 ≡ get_or row i 0 = ap (λ (u : List ℕ). get_or u (from + i) 0) e ∙ get_d_sets_above l to (take i row) (from + i) (omega arith) ∙ sym (get_d_part from count l i m) in
-    ap₂ (λ (u : List ℕ) (v : ℕ). set u (to + i) v) e x ∙ sets_suc l to row i (omega arith)

@@ -3,18 +3,12 @@ ghost use Rattle.std.specs.Prelude.{◌≡◌, ◌-◌, ◌≤◌, length, repli
 ghost use Rattle.std.proofs.lemmas.List.Edits.{sets};
 ghost use Rattle.values.specs.Building.{cleared_from, finished};
 
-use crate::placing::Placed;
-
 // The words from `from` to `to`.
 pub fn clear_words(work: &mut [u32], from: usize, to: usize)
     requires { (from ≤ to) × (to ≤ length work.old) }
     ensures { work.new ≡ sets work.old from (replicate (to - from) 0) }
 {
-    let mut i = from;
-    while i < to {
-        work[i] = 0;
-        i += 1;
-    }
+    work[from..to].fill(0);
 }
 
 // All words from `out` on.
@@ -22,20 +16,16 @@ pub fn clear_from(work: &mut [u32], out: usize)
     requires { out ≤ length work.old }
     ensures { work.new ≡ cleared_from out work.old }
 {
-    let end = work.len();
-    clear_words(work, out, end);
+    work[out..].fill(0);
 }
 
 // A value that was built from `out` on, or had no room: then what was built of it goes.
-pub fn finish(placed: Placed, work: &mut [u32], out: usize) -> Placed
+pub fn finish(placed: Option<usize>, work: &mut [u32], out: usize) -> Option<usize>
     requires { out ≤ length work.old }
     ensures { (result ≡ placed) × (work.new ≡ finished out placed work.old) }
 {
-    match placed {
-        Placed::Rows(rows) => Placed::Rows(rows),
-        Placed::Full => {
-            clear_from(work, out);
-            Placed::Full
-        }
+    if placed.is_none() {
+        clear_from(work, out);
     }
+    placed
 }

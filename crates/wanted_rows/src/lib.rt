@@ -1,7 +1,7 @@
 // The left rows that meet triples with some right row, or with none: each has a sieve, and right rows between its bounds are tried.
 #![tactic(auto)]
 
-ghost use Rattle.std.specs.Prelude.{◌≡◌, ◌&&◌, [], ◌∷◌, ◌+◌, ◌-◌, ◌*◌, ◌≤◌, ◌<◌, eqb, length};
+ghost use Rattle.std.specs.Prelude.{◌≡◌, ◌&&◌, [], ◌∷◌, ◌+◌, ◌-◌, ◌*◌, ◌/◌, ◌≤◌, ◌<◌, eqb, length};
 ghost use Rattle.relations.specs.Limits.{triple_limit};
 ghost use Rattle.relations.specs.Lists.{any};
 ghost use Rattle.relations.specs.Rows.{row_before};
@@ -10,14 +10,14 @@ ghost use Rattle.relations.specs.Values.{Ascending};
 ghost use Rattle.values.specs.Words.{row_in, rows_at, rows_of, end};
 ghost use Rattle.values.specs.Places.{NoneBehind};
 ghost use Rattle.values.specs.Building.{Builds};
-ghost use Rattle.operations.specs.Lists.{triples_in};
+ghost use Rattle.operations.specs.Lists.{triples_of};
 ghost use Rattle.partners.specs.Sieves.{sifts};
 ghost use Rattle.wanted_rows.specs.Wanted.{wanted_row, wanted_rows};
 
 use operations::keep::keep_if;
 use partners::finding::partners_of;
-use partners::sieve::{SIEVE_WORDS, fill, lets_through};
-use values::placing::Placed;
+use partners::sieve::{Entry, NO_ENTRY, fill, lets_through};
+use relations::limits::TRIPLES;
 use values::rows::{Value, row};
 use values::search::stands_behind;
 
@@ -25,11 +25,7 @@ use values::search::stands_behind;
 fn is_past(work: &[u32], at: usize, high: &[u32], wait: usize) -> bool
     ensures { result ≡ (eqb wait 0 && row_before high.now (row_in work.now at (length high.now))) }
 {
-    if wait == 0 {
-        stands_behind(work, at, high)
-    } else {
-        false
-    }
+    wait == 0 && stands_behind(work, at, high)
 }
 
 // After a look at the bound as many rows are tried without one as were tried before.
@@ -39,114 +35,87 @@ fn next_wait(wait: usize, tried: usize) -> usize {
 
 // Whether the sieve lets some right row from that number on through. The right rows ascend, so one that the bound stands before ends the search. So long as there are
 // such rows, most are tried without a look at the bound, and at most as many are tried in vain as stand inside it.
-fn some_through(
-    sieve: &[usize],
-    entries: usize,
-    work: &[u32],
-    right: Value,
-    number: usize,
-    high: &[u32],
-) -> bool
-    requires { (entries * 4 ≤ length sieve.now) × (end right ≤ length work.now) × Ascending (rows_of right work.now) × (number ≤ right.rows) × (length high.now ≤ right.width) × NoneBehind right.width high.now (sifts entries sieve.now) }
-    ensures { result ≡ any (sifts entries sieve.now) (rows_at right.width (right.rows - number) (right.base + number * right.width) work.now) }
+fn some_through(sieve: &[Entry], work: &[u32], right: Value, number: usize, high: &[u32]) -> bool
+    requires { (end right ≤ length work.now) × Ascending (rows_of right work.now) × (number ≤ right.rows) × (length high.now ≤ right.width) × NoneBehind right.width high.now (sifts sieve.now) }
+    ensures { result ≡ any (sifts sieve.now) (rows_at right.width (right.rows - number) (right.base + number * right.width) work.now) }
 {
-    let width = right.width;
-    let rows = right.rows - number;
-    let mut at = right.base + number * width;
-    let mut left = rows;
     let mut wait: usize = 0;
-    while 0 < left {
+    for i in number..right.rows {
+        let at = right.base + i * right.width;
         if is_past(work, at, high, wait) {
             return false;
         }
-        if lets_through(sieve, entries, row(work, work, true, at, width)) {
+        if lets_through(sieve, row(work, work, true, at, right.width)) {
             return true;
         }
-        wait = next_wait(wait, rows - left);
-        at += width;
-        left -= 1;
+        wait = next_wait(wait, i - number);
     }
     false
 }
 
-// Whether a row meets so many triples with some right row.
-fn meets_some(list: &[u32], count: usize, work: &[u32], sought: &[u32], right: Value) -> bool
-    requires { (count * 3 ≤ length list.now) × (end right ≤ length work.now) × Ascending (rows_of right work.now) × (count ≤ triple_limit) }
-    ensures { result ≡ any (meets (triples_in count list.now) sought.now) (rows_of right work.now) }
+// Whether a row meets the triples with some right row.
+fn meets_some(triples: &[u32], work: &[u32], sought: &[u32], right: Value) -> bool
+    requires { (end right ≤ length work.now) × Ascending (rows_of right work.now) × (length triples.now / 3 ≤ triple_limit) }
+    ensures { result ≡ any (meets (triples_of triples.now) sought.now) (rows_of right work.now) }
 {
-    let mut sieve = [0usize; SIEVE_WORDS];
-    let entries = fill(list, count, sought, &mut sieve);
-    let found = partners_of(&sieve, entries, work, right);
-    let number = found.number;
-    let most = found.most;
-    let highs = found.highs;
-    some_through(&sieve, entries, work, right, number, &highs[..most])
+    let mut room = [NO_ENTRY; TRIPLES];
+    let sieve = fill(triples, sought, &mut room);
+    let found = partners_of(sieve, work, right);
+    some_through(sieve, work, right, found.number, found.highs.as_slice())
 }
 
 // Whether the left row that starts at `at` is wanted: whether it meets the triples with some right row, or, where that is not wanted, with none.
 fn is_wanted(
-    list: &[u32],
-    count: usize,
+    triples: &[u32],
     work: &[u32],
     at: usize,
     width: usize,
     right: Value,
     wanted: bool,
 ) -> bool
-    requires { (count * 3 ≤ length list.now) × (end right ≤ length work.now) × Ascending (rows_of right work.now) × (count ≤ triple_limit) }
-    ensures { result ≡ wanted_row wanted (triples_in count list.now) (rows_of right work.now) (row_in work.now at width) }
+    requires { (end right ≤ length work.now) × Ascending (rows_of right work.now) × (length triples.now / 3 ≤ triple_limit) }
+    ensures { result ≡ wanted_row wanted (triples_of triples.now) (rows_of right work.now) (row_in work.now at width) }
 {
-    let met = meets_some(list, count, work, row(work, work, true, at, width), right);
-    if wanted { met } else { !met }
+    meets_some(triples, work, row(work, work, true, at, width), right) == wanted
 }
 
-// The left row that starts at `at` is put into the value at `out`, if it is wanted.
+// The left row that starts at `at` is put into the value of the left rows' width, if it is wanted.
 fn keep_row(
-    list: &[u32],
-    count: usize,
+    triples: &[u32],
     work: &mut [u32],
     at: usize,
-    width: usize,
     right: Value,
     wanted: bool,
-    out: usize,
-    made: usize,
-) -> Placed
-    requires { (0 < width) × (at + width ≤ out) × (count * 3 ≤ length list.now) × (end right ≤ out) × (out + made * width ≤ length work.old) × Ascending (rows_at width made out work.old) × Ascending (rows_of right work.old) × (count ≤ triple_limit) }
-    ensures { Builds width out made (wanted_rows wanted (triples_in count list.now) (row_in work.old at width ∷ []) (rows_of right work.old)) work.old work.new result }
+    value: Value,
+) -> Option<usize>
+    requires { (0 < value.width) × (at + value.width ≤ value.base) × (end right ≤ value.base) × (end value ≤ length work.old) × Ascending (rows_of value work.old) × Ascending (rows_of right work.old) × (length triples.now / 3 ≤ triple_limit) }
+    ensures { Builds value.width value.base value.rows (wanted_rows wanted (triples_of triples.now) (row_in work.old at value.width ∷ []) (rows_of right work.old)) work.old work.new result }
 {
-    let kept = is_wanted(list, count, work, at, width, right, wanted);
-    keep_if(work, kept, at, width, out, made)
+    let kept = is_wanted(triples, work, at, value.width, right, wanted);
+    keep_if(work, kept, at, value)
 }
 
 // The wanted left rows, as a value from `out` on.
 pub fn keep_by_rows(
-    list: &[u32],
-    count: usize,
+    triples: &[u32],
     work: &mut [u32],
     left: Value,
     right: Value,
     wanted: bool,
     out: usize,
-) -> Placed
-    requires { (0 < left.width) × (end left ≤ out) × (out ≤ length work.old) × (end right ≤ out) × (count * 3 ≤ length list.now) × Ascending (rows_of right work.old) × (count ≤ triple_limit) }
-    ensures { Builds left.width out 0 (wanted_rows wanted (triples_in count list.now) (rows_of left work.old) (rows_of right work.old)) work.old work.new result }
+) -> Option<usize>
+    requires { (0 < left.width) × (end left ≤ out) × (out ≤ length work.old) × (end right ≤ out) × Ascending (rows_of right work.old) × (length triples.now / 3 ≤ triple_limit) }
+    ensures { Builds left.width out 0 (wanted_rows wanted (triples_of triples.now) (rows_of left work.old) (rows_of right work.old)) work.old work.new result }
 {
     let width = left.width;
-    let mut at = left.base;
-    let mut more = left.rows;
-    let mut made: usize = 0;
-    while 0 < more {
-        match keep_row(list, count, work, at, width, right, wanted, out, made) {
-            Placed::Rows(rows) => {
-                made = rows;
-            }
-            Placed::Full => {
-                return Placed::Full;
-            }
-        }
-        at += width;
-        more -= 1;
+    let mut rows = 0;
+    for i in 0..left.rows {
+        let made = Value {
+            base: out,
+            rows,
+            width,
+        };
+        rows = keep_row(triples, work, left.base + i * width, right, wanted, made)?;
     }
-    Placed::Rows(made)
+    Some(rows)
 }

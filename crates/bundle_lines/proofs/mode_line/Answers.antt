@@ -2,29 +2,31 @@ use mathlib.Core.Path.{◌≡◌, refl, sym, ◌∙◌}
 use mathlib.Core.List.{List}
 use mathlib.Core.Bool.{true}
 use Prim.Native.Nat.{ℕ, ◌+◌, ◌≤◌}
+use native.Mathlib.Omega.{arith}
 use lib.ListN.{length, drop, length-drop}
 use Rattle.lines.specs.Marks.{plain_line, short_line}
 use Rattle.lines.specs.Reading.{begins}
-use Rattle.lines.specs.Answers.{Placed}
-use Rattle.bundle_lines.proofs.OneLine.{line_read, line-wrong, mode_plain, mode-short, mode_none}
+use Rattle.bundle_lines.proofs.OneLine.{line_read, mode_plain, mode-short}
 use Rattle.lines.proofs.ReadingSteps.{begins-room}
-use native.Mathlib.Omega.{arith}
 use Rattle.bundle_lines.proofs.mode_line.Goals as goal
+use Rattle.bundle_lines.proofs.mode_line.Goals.{then-begins_with, else-begins_with+then-begins_with-2}
 
--- `bundle_lines::mode_line` meets its contract. Each test is one of the definition, and a line found has room for its bytes.
--- Assumes nothing.
 -- a mode's line that begins there ends in the text
-behind : (text key : List ℕ) (at line : ℕ) → length key ≡ 11 → begins key (drop at text) ≡ true → at ≤ length text → line ≤ at + 1 → Placed text (record { at = at + 11; line = line + 1 })
-behind text key at line long b fits few = (omega (arith, length-drop at text, begins-room key (drop at text) b), omega arith)
+inside : (text key : List ℕ) (at : ℕ) → length key ≡ 11 → begins key (drop at text) ≡ true → at ≤ length text → at + 11 ≤ length text
+inside text key at long b fits = omega (arith, length-drop at text, begins-room key (drop at text) b)
 
-pub returns-then-begins_with : goal.returns-then-begins_with
-returns-then-begins_with c = let b = sym c.begins_with.ensures ∙ c.if-begins_with.true in
-    line_read _ (mode_plain c.args.text.now c.args.start.at c.args.start.line b) (behind c.args.text.now plain_line c.args.start.at c.args.start.line refl b c.requires.0 c.requires.1) c.keep.ensures
-
-pub returns-then-begins_with-2 : goal.returns-then-begins_with-2
-returns-then-begins_with-2 c = let b = sym c.begins_with-2.ensures ∙ c.if-begins_with-2.true in
-    line_read _ (mode-short c.args.text.now c.args.start.at c.args.start.line (sym c.begins_with.ensures ∙ c.if-begins_with.false) b) (behind c.args.text.now short_line c.args.start.at c.args.start.line refl b c.requires.0 c.requires.1) c.keep-then-begins_with-2.ensures
+pub go_on-requires : goal.go_on-requires
+go_on-requires c = let s = c.args.reader.now in
+    let fits : s.at + 11 ≤ length s.text.now = elim c.if-begins_with.branch [
+      | then-begins_with w ↦ inside s.text.now plain_line s.at refl (sym c.begins_with.ensures ∙ w.if-begins_with.true) s.placed.0
+      | else-begins_with+then-begins_with-2 w ↦ inside s.text.now short_line s.at refl (sym w.begins_with-else-begins_with.ensures ∙ w.if-begins_with-2.true) s.placed.0
+    ] in
+    (omega arith, fits)
 
 pub returns : goal.returns
-returns c =
-    line-wrong (mode_none c.args.text.now c.args.start.at c.args.start.line (sym c.begins_with.ensures ∙ c.if-begins_with.false) (sym c.begins_with-2.ensures ∙ c.if-begins_with-2.false))
+returns c = let s = c.args.reader.now in
+    elim c.if-begins_with.branch [
+      | then-begins_with w ↦ line_read (mode_plain s.text.now s.at s.line (sym c.begins_with.ensures ∙ w.if-begins_with.true)) c.go_on.ensures (c.keep.ensures ∙ rw w.mode-is)
+      | else-begins_with+then-begins_with-2 w ↦
+          line_read (mode-short s.text.now s.at s.line (sym c.begins_with.ensures ∙ w.if-begins_with.false) (sym w.begins_with-else-begins_with.ensures ∙ w.if-begins_with-2.true)) c.go_on.ensures (c.keep.ensures ∙ rw w.mode-is)
+    ]

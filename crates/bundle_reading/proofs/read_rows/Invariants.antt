@@ -1,16 +1,12 @@
 use Rattle.lines.proofs.Carries.{Carries}
 use Rattle.lines.specs.Marks.{row_key}
 use Rattle.lines.specs.Reading.{keyed_lines}
-use lib.ListN.{length, drop}
+use lib.ListN.{drop}
 use mathlib.Core.Path.{◌≡◌}
-use Prim.Native.Nat.{◌≤◌, ◌+◌, ◌*◌}
+use Prim.Native.Nat.{◌-◌, ◌+◌, ◌*◌}
 use Rattle.bundle_reading.proofs.read_rows.Given as goal
 
--- `bundle_reading::read_rows` meets its contract. The loop carries the reading of the rows that are left (`Carries`), `columns` words further for each.
--- Assumes nothing.
-abbrev pub invariant-loop-left : goal.invariant-loop-left
-invariant-loop-left l = (l.left ≤ l.rows) × (l.place + l.columns * l.left ≡ l.to + l.columns * l.rows) × (l.at ≤ length l.text) × (l.line ≤ l.at + 1) × (length l.tables ≡ length l.initial.tables)
-    × Carries (keyed_lines row_key l.columns l.rows l.initial.line (drop l.initial.at l.text)) (keyed_lines row_key l.columns l.left l.line (drop l.at l.text)) l.to l.place l.initial.tables l.tables
-
-abbrev pub decreases-loop-left : goal.decreases-loop-left
-decreases-loop-left l = l.left
+-- The loop carries the reading of the rows that are left (`Carries`), `columns` words further for each. Assumes nothing.
+abbrev pub invariant-loop-row : goal.invariant-loop-row
+invariant-loop-row l = (l.reader.text.now ≡ l.initial.reader.text.now)
+    × Carries (keyed_lines row_key l.columns l.rows l.initial.reader.line (drop l.initial.reader.at l.initial.reader.text.now)) (keyed_lines row_key l.columns (l.rows - l.row) l.reader.line (drop l.reader.at l.reader.text.now)) l.to (l.to + l.columns * l.row) l.initial.tables l.tables

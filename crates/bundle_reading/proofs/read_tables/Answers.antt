@@ -1,72 +1,58 @@
-use Rattle.lines.specs.declared.reading.Step.TheVariants.{Next as Onward}
-use Rattle.bundle_reading.proofs.CarriesTables.{carries_tables, last_table, next-table, wrong-table}
+use Rattle.lines.proofs.Answered.{passed_on}
+use Rattle.bundle_reading.proofs.CarriesTables.{last_table, next-table, wrong-table}
+use Rattle.bundle_reading.specs.Answers.{TablesCounted, TablesFound}
+use Rattle.bundle_reading.specs.declared.TablesRead.{TablesRead}
 use Rattle.bundles.proofs.ReadingLaws.{TableAsText, table_of-text}
 use Rattle.bundle_reading.proofs.ReadingSteps.{tables_step, tables-done}
-use Rattle.lines.specs.Answers.{standing, PlacedStep}
+use Rattle.lines.specs.declared.reader.Reader.{Reader}
+use Rattle.lines.specs.declared.reader.WrongLine.{WrongLine}
+use Rattle.std.specs.Prelude.{Result, Ok}
+use Rattle.lines.specs.Answers.{standing}
+use Rattle.lines.specs.Marks.{relation_key}
+use Rattle.lines.specs.Reading.{begins}
 use Rattle.bundles.specs.Reading.{table_of, tables_of}
 use Rattle.catalogue.specs.Judging.{catalogue_words}
 use Rattle.relations.specs.Limits.{catalogue_pair_limit}
 use lib.ListN.{length, drop}
-use mathlib.Core.Path.{◌≡◌, refl, sym, ap, ◌∙◌}
-use Prim.Native.Nat.{◌-◌, ◌+◌}
+use mathlib.Core.Path.{◌≡◌, sym, ap, ◌∙◌}
+use mathlib.Core.List.{List}
+use mathlib.Core.Bool.{true}
+use Prim.Native.Nat.{ℕ, ◌-◌, ◌+◌}
 use native.Mathlib.Omega.{arith}
 use Rattle.bundle_reading.proofs.read_tables.Goals as goal
 
-pub loop-pairs-init : goal.loop-pairs-init
-loop-pairs-init c = (omega arith, omega arith, c.requires.0, c.requires.1, refl, refl, carries_tables _ _ _)
+-- a table that was read is the text of one, and one pair more
+table_read : (line : ℕ) (bytes : List ℕ) {here stop : Reader} {before read : TablesRead} {catalogue₀ catalogue₁ tables₀ tables₁ : List ℕ} {answer : Result TablesRead WrongLine}
+    → TablesFound here (table_of before.words line bytes) before catalogue₀ catalogue₁ tables₀ tables₁ stop answer → begins relation_key bytes ≡ true → answer ≡ Ok read
+    → TableAsText before.words bytes (table_of before.words line bytes) (drop stop.at stop.text.now) × (read.pairs ≡ before.pairs + 1) × TablesCounted before (table_of before.words line bytes) (Ok read)
+table_read line bytes {stop = stop} {before} {read} found key e =
+    let table : TableAsText before.words bytes (table_of before.words line bytes) (drop stop.at stop.text.now) = table_of-text before.words line bytes stop.line (drop stop.at stop.text.now) key (found.means ∙ ap (standing stop) e) in
+    let counted : TablesCounted before (table_of before.words line bytes) (Ok read) = rw e at found.counted in
+    (table, omega (arith, counted.0, ap length table.pair), counted)
 
-pub read_table-read-requires : goal.read_table-read-requires
-read_table-read-requires c = let l = c.loop-pairs in (omega arith, l.invariant.1, (l.invariant.2, l.invariant.3), sym c.begins_with.ensures ∙ c.if-begins_with.true)
+pub returns-in_err-read : goal.returns-in_err-read
+returns-in_err-read c = let l = c.loop-read in let r = l.reader in let bytes = drop r.at r.text.now in
+    rw (passed_on c.from_residual.result c.in_err-read.field-0.0 c.from_residual.ensures)
+    (wrong-table l.invariant.3 (λ after rest. tables_of (catalogue_pair_limit - l.read.pairs - 1) (l.read.words + catalogue_words (table_of l.read.words r.line bytes).catalogue) after rest)
+    (tables_step (catalogue_pair_limit - l.read.pairs) l.read.words r.line bytes (omega arith) ∙ rw (sym c.begins_with.ensures ∙ c.if-begins_with.true))
+    c.read_table.ensures c.in_err-read.was l.invariant.2)
 
-pub loop-pairs-smaller : goal.loop-pairs-smaller
-loop-pairs-smaller c = omega (
-  arith,
-  (let the-fact : length (table_of c.loop-pairs.words c.loop-pairs.line (drop c.loop-pairs.at c.args.text.now)).catalogue ≡ 2 = ap length ((let the-fact : TableAsText c.loop-pairs.words (drop c.loop-pairs.at c.args.text.now) (table_of c.loop-pairs.words c.loop-pairs.line (drop c.loop-pairs.at c.args.text.now)) (drop c.in-Next.next.at c.args.text.now) = table_of-text c.loop-pairs.words c.loop-pairs.line (drop c.loop-pairs.at c.args.text.now) _ _
-      (sym c.begins_with.ensures ∙ c.if-begins_with.true) (c.read_table-read.ensures.means ∙ ap (standing c.args.text.now) c.in-Next.is) in the-fact)).pair in the-fact),
-  c.read_table-read.ensures.pairs_read,
-  c.loop-pairs.invariant.0,
-)
+pub loop-read-smaller : goal.loop-read-smaller
+loop-read-smaller c = let l = c.loop-read in let r = l.reader in
+    omega (arith, (table_read r.line (drop r.at r.text.now) c.read_table.ensures (sym c.begins_with.ensures ∙ c.if-begins_with.true) c.in_ok-read.was).1)
 
-pub loop-pairs-preserved : goal.loop-pairs-preserved
-loop-pairs-preserved c = let l = c.loop-pairs in let t = c.args.text.now in let bytes = drop l.at t in
-    let r = c.read_table-read.ensures in let e = c.in-Next.is in
-    let placed : PlacedStep t (Onward c.in-Next.next) = rw e at r.placed in
-    let left : catalogue_pair_limit - l.pairs - 1 ≡ catalogue_pair_limit - c.read_table-read.result.pairs = omega (
-      arith,
-      (let the-fact : length (table_of c.loop-pairs.words c.loop-pairs.line (drop c.loop-pairs.at c.args.text.now)).catalogue ≡ 2 = ap length ((let the-fact : TableAsText c.loop-pairs.words (drop c.loop-pairs.at c.args.text.now) (table_of c.loop-pairs.words c.loop-pairs.line (drop c.loop-pairs.at c.args.text.now)) (drop c.in-Next.next.at c.args.text.now) = table_of-text c.loop-pairs.words c.loop-pairs.line (drop c.loop-pairs.at c.args.text.now) _ _
-          (sym c.begins_with.ensures ∙ c.if-begins_with.true) (c.read_table-read.ensures.means ∙ ap (standing c.args.text.now) c.in-Next.is) in the-fact)).pair in the-fact),
-      r.pairs_read,
-    ) in
-    let carried = next-table l.invariant.6 (λ after rest. tables_of (catalogue_pair_limit - l.pairs - 1) (l.words + catalogue_words (table_of l.words l.line bytes).catalogue) after rest)
-    (tables_step (catalogue_pair_limit - l.pairs) l.words l.line bytes (omega arith) ∙ rw (sym c.begins_with.ensures ∙ c.if-begins_with.true)) r e ((let the-fact : TableAsText c.loop-pairs.words (drop c.loop-pairs.at c.args.text.now) (table_of c.loop-pairs.words c.loop-pairs.line (drop c.loop-pairs.at c.args.text.now)) (drop c.in-Next.next.at c.args.text.now) = table_of-text c.loop-pairs.words c.loop-pairs.line (drop c.loop-pairs.at c.args.text.now) _ _
-    (sym c.begins_with.ensures ∙ c.if-begins_with.true) (c.read_table-read.ensures.means ∙ ap (standing c.args.text.now) c.in-Next.is) in the-fact)) in (
-      omega (
-        arith,
-        (let the-fact : length (table_of c.loop-pairs.words c.loop-pairs.line (drop c.loop-pairs.at c.args.text.now)).catalogue ≡ 2 = ap length ((let the-fact : TableAsText c.loop-pairs.words (drop c.loop-pairs.at c.args.text.now) (table_of c.loop-pairs.words c.loop-pairs.line (drop c.loop-pairs.at c.args.text.now)) (drop c.in-Next.next.at c.args.text.now) = table_of-text c.loop-pairs.words c.loop-pairs.line (drop c.loop-pairs.at c.args.text.now) _ _
-            (sym c.begins_with.ensures ∙ c.if-begins_with.true) (c.read_table-read.ensures.means ∙ ap (standing c.args.text.now) c.in-Next.is) in the-fact)).pair in the-fact),
-        r.pairs_read,
-      ),
-      r.within,
-      placed.0,
-      placed.1,
-      c.read_table-read.auto.catalogue ∙ l.invariant.4,
-      c.read_table-read.auto.tables ∙ l.invariant.5,
-      rw (left, sym r.words_read) at carried,
-    )
-
-pub returns-in-Wrong : goal.returns-in-Wrong
-returns-in-Wrong c = let l = c.loop-pairs in let bytes = drop l.at c.args.text.now in
-    wrong-table l.invariant.6 (λ after rest. tables_of (catalogue_pair_limit - l.pairs - 1) (l.words + catalogue_words (table_of l.words l.line bytes).catalogue) after rest)
-    (tables_step (catalogue_pair_limit - l.pairs) l.words l.line bytes (omega arith) ∙ rw (sym c.begins_with.ensures ∙ c.if-begins_with.true))
-    c.read_table-read.ensures c.in-Wrong.is
+pub loop-read-preserved : goal.loop-read-preserved
+loop-read-preserved c = let l = c.loop-read in let r = l.reader in let bytes = drop r.at r.text.now in
+    let t = table_read r.line bytes c.read_table.ensures (sym c.begins_with.ensures ∙ c.if-begins_with.true) c.in_ok-read.was in
+    let left : catalogue_pair_limit - l.read.pairs - 1 ≡ catalogue_pair_limit - c.in_ok-read.read.pairs = omega (arith, t.1) in
+    let carried = next-table l.invariant.3 (λ after rest. tables_of (catalogue_pair_limit - l.read.pairs - 1) (l.read.words + catalogue_words (table_of l.read.words r.line bytes).catalogue) after rest)
+    (tables_step (catalogue_pair_limit - l.read.pairs) l.read.words r.line bytes (omega arith) ∙ rw (sym c.begins_with.ensures ∙ c.if-begins_with.true)) c.read_table.ensures c.in_ok-read.was t.0 in
+    (omega (arith, t.1), t.2.2, c.read_table.ensures.text ∙ l.invariant.2, rw (left, ← t.2.1) at carried)
 
 pub returns-else-begins_with : goal.returns-else-begins_with
-returns-else-begins_with c = let l = c.loop-pairs in let bytes = drop l.at c.args.text.now in
-    last_table l.invariant.6 (record { at = l.at; line = l.line })
-    (tables_step (catalogue_pair_limit - l.pairs) l.words l.line bytes (omega arith) ∙ rw (sym c.begins_with.ensures ∙ c.if-begins_with.false))
-    (l.invariant.2, l.invariant.3) l.invariant.1
+returns-else-begins_with c = let l = c.loop-read in let r = l.reader in
+    last_table l.invariant.3 r (tables_step (catalogue_pair_limit - l.read.pairs) l.read.words r.line (drop r.at r.text.now) (omega arith) ∙ rw (sym c.begins_with.ensures ∙ c.if-begins_with.false)) l.invariant.2 l.invariant.1
 
-pub returns : goal.returns
-returns c = let l = c.loop-pairs in
-    last_table l.invariant.6 (record { at = l.at; line = l.line })
-    (tables-done (catalogue_pair_limit - l.pairs) l.words l.line (drop l.at c.args.text.now) (omega arith)) (l.invariant.2, l.invariant.3) l.invariant.1
+pub returns-after-loop-read : goal.returns-after-loop-read
+returns-after-loop-read c = let l = c.loop-read in let r = l.reader in
+    last_table l.invariant.3 r (tables-done (catalogue_pair_limit - l.read.pairs) l.read.words r.line (drop r.at r.text.now) (omega arith)) l.invariant.2 l.invariant.1

@@ -5,10 +5,8 @@ use Rattle.listing.proofs.Lengths.{rows_reach}
 use Rattle.listing.proofs.put_listing.Goals as goal
 
 pub put_lines-requires : goal.put_lines-requires
-put_lines-requires c =
-    rw (c.wide.ensures, c.wide-2.ensures)
-    (omega (arith, c.requires.there), rows_reach c.args.nodes c.args.heavy c.args.room c.args.width c.args.rows c.args.words.now c.requires c.put_head-words_at.ensures)
+put_lines-requires c = let a = c.args.results in (omega (arith, c.requires.there), rows_reach a.nodes a.heavy a.room a.width a.rows c.args.words.now c.requires c.put_head-words_at.ensures)
 
 pub returns : goal.returns
 unfolding listing_text
-returns c = put_then c.put_head-words_at.ensures (rw (c.wide.ensures, c.wide-2.ensures) at c.put_lines.ensures)
+returns c = put_then c.put_head-words_at.ensures c.put_lines.ensures

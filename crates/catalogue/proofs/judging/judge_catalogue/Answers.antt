@@ -1,49 +1,41 @@
-use Prim.Native.Nat.{◌+◌, ◌*◌}
-use mathlib.Core.Path.{◌≡◌, refl, sym, ◌∙◌}
-use mathlib.Core.Bool.{true, false}
-use mathlib.Core.List.{◌∷◌}
-use native.Mathlib.Omega.{arith}
-use borrow.Author.Tests.{le-leb, lt-leb}
-use lib.ListN.{length, drop}
-use Rattle.relations.specs.Limits.{catalogue_pair_limit, word_limit}
-use Rattle.catalogue.specs.Judging.{pair_ok, pairs_ok, catalogue_words}
+use Rattle.std.proofs.Common.{◌≡◌, sym, ap, length, ◌∙◌, arith, true, false, slice_index_or}
+use Rattle.std.specs.Slice.Iter.{chunks_exact_rest}
+use Rattle.catalogue.specs.Judging.{pair_ok}
 use Rattle.catalogue.proofs.Judgements.{good_pair}
-use Rattle.catalogue.proofs.PairLaws.{drop_pair, pairs-good, pairs_bad, pairs_odd, pairs_end, words_pair, words_end}
+use Rattle.catalogue.proofs.PairLaws.{pair_front, none_left, pairs-good, pairs_bad, pairs_odd, pairs_end, words_pair, words_end, refused_long, refused_pairs, accepted_words, refused_words}
+use Rattle.catalogue.proofs.judging.judge_catalogue.Goals.{then-catalogue-gt-CATALOGUE_WORDS-via-then-catalogue-gt-CATALOGUE_WORDS, then-catalogue-gt-CATALOGUE_WORDS-via-else-catalogue-gt-CATALOGUE_WORDS+then-catalogue-ne0}
 use Rattle.catalogue.proofs.judging.judge_catalogue.Goals as goal
 
 pub returns-then-catalogue-gt-CATALOGUE_WORDS : goal.returns-then-catalogue-gt-CATALOGUE_WORDS
-returns-then-catalogue-gt-CATALOGUE_WORDS c = simp (lt-leb _ _ c.if-catalogue-gt-CATALOGUE_WORDS.true)
+returns-then-catalogue-gt-CATALOGUE_WORDS c = elim c.then-catalogue-gt-CATALOGUE_WORDS.branch [ then-catalogue-gt-CATALOGUE_WORDS-via-then-catalogue-gt-CATALOGUE_WORDS w ↦ refused_long c.args.catalogue.now (omega arith) | then-catalogue-gt-CATALOGUE_WORDS-via-else-catalogue-gt-CATALOGUE_WORDS+then-catalogue-ne0 w ↦ refused_pairs c.args.catalogue.now (pairs_odd c.args.catalogue.now (λ even. omega arith)) ]
 
-pub loop-at-init : goal.loop-at-init
-loop-at-init c = (omega arith, omega arith, refl, omega arith)
+pub returns-then-not-pair_ok : goal.returns-then-not-pair_ok
+returns-then-not-pair_ok c = let inv = c.loop-pair.invariant in
+    let steps = c.in-Some.ensures.steps in
+    refused_pairs c.args.catalogue.now (inv.ok ∙ pairs_bad _ _ _ _ (pair_front c.in-Some.pair.now (steps.1.1 ∙ inv.pairs) steps.1.0) (sym c.pair_ok.ensures ∙ c.if-not-pair_ok.true))
 
-pub overflow_mul-words : goal.overflow_mul-words
-overflow_mul-words c = omega (arith, (good_pair c.wide-columns.result c.wide-rows.result (sym c.pair_ok.ensures ∙ c.if-pair_ok.true)).words-few)
+pub loop-pair-preserved : goal.loop-pair-preserved
+loop-pair-preserved c = let inv = c.loop-pair.invariant in
+    let steps = c.in-Some.ensures.steps in
+    let columns = slice_index_or c.in-Some.pair.now 0 0 in
+    let rows = slice_index_or c.in-Some.pair.now 1 0 in
+    let ok : pair_ok columns rows ≡ true = sym c.pair_ok.ensures ∙ c.if-not-pair_ok.false in
+    let front = pair_front c.in-Some.pair.now (steps.1.1 ∙ inv.pairs) steps.1.0 in
+    let two = ap length front in
+    record {
+      pairs = steps.0 ∙ inv.pairs;
+      even = omega (arith, two, inv.even);
+      room = omega (arith, two, inv.room, (good_pair columns rows ok).words-few);
+      ok = inv.ok ∙ pairs-good _ _ _ _ front ok;
+      sum = omega (arith, inv.sum, words_pair _ _ _ _ front);
+    }
 
-pub overflow_add-words : goal.overflow_add-words
-overflow_add-words c = omega (arith, (good_pair c.wide-columns.result c.wide-rows.result (sym c.pair_ok.ensures ∙ c.if-pair_ok.true)).words-few)
+pub returns-then-words-le-WORDS : goal.returns-then-words-le-WORDS
+returns-then-words-le-WORDS c = let inv = c.loop-pair.invariant in
+    let none = none_left (chunks_exact_rest c.loop-pair.pair-iterator) (omega (arith, inv.pairs, c.in-None.ensures.steps.1.0)) inv.even in
+    accepted_words c.args.catalogue.now (omega arith) (inv.ok ∙ pairs_end _ none) (omega (arith, inv.sum, words_end _ none)) (omega arith)
 
-pub loop-at-preserved : goal.loop-at-preserved
-loop-at-preserved c = let inv = c.loop-at.invariant in
-    let columns = c.wide-columns.result in
-    let rows = c.wide-rows.result in
-    let ok : pair_ok columns rows ≡ true = sym c.pair_ok.ensures ∙ c.if-pair_ok.true in (
-      omega arith,
-      omega (arith, (good_pair columns rows ok).words-few),
-      inv.2 ∙ pairs-good columns rows _ _ ((let the-fact : drop c.loop-at.at c.args.catalogue.now ≡ c.wide-columns.result ∷ c.wide-rows.result ∷ drop (c.loop-at.at + 2) c.args.catalogue.now = drop_pair c.args.catalogue.now c.loop-at.at c.wide-columns.result c.wide-rows.result (omega arith) c.wide-columns.ensures c.wide-rows.ensures in the-fact)) ok,
-      omega (arith, inv.3, words_pair columns rows _ _ ((let the-fact : drop c.loop-at.at c.args.catalogue.now ≡ c.wide-columns.result ∷ c.wide-rows.result ∷ drop (c.loop-at.at + 2) c.args.catalogue.now = drop_pair c.args.catalogue.now c.loop-at.at c.wide-columns.result c.wide-rows.result (omega arith) c.wide-columns.ensures c.wide-rows.ensures in the-fact))),
-    )
-
-pub returns-else-pair_ok : goal.returns-else-pair_ok
-returns-else-pair_ok c = let bad : pair_ok c.wide-columns.result c.wide-rows.result ≡ false = sym c.pair_ok.ensures ∙ c.if-pair_ok.false in
-    simp (le-leb (length c.args.catalogue.now) (2 * catalogue_pair_limit) (omega arith), c.loop-at.invariant.2 ∙ pairs_bad c.wide-columns.result c.wide-rows.result _ _ ((let the-fact : drop c.loop-at.at c.args.catalogue.now ≡ c.wide-columns.result ∷ c.wide-rows.result ∷ drop (c.loop-at.at + 2) c.args.catalogue.now = drop_pair c.args.catalogue.now c.loop-at.at c.wide-columns.result c.wide-rows.result (omega arith) c.wide-columns.ensures c.wide-rows.ensures in the-fact)) bad)
-
-pub returns-then-at-catalogue : goal.returns-then-at-catalogue
-returns-then-at-catalogue c = let l = c.args.catalogue.now in
-    simp (le-leb (length l) (2 * catalogue_pair_limit) (omega arith), c.loop-at.invariant.2 ∙ pairs_odd l c.loop-at.at (omega arith) (omega arith))
-
-pub returns-then-words-gt-WORDS : goal.returns-then-words-gt-WORDS
-returns-then-words-gt-WORDS c = simp (le-leb (length c.args.catalogue.now) (2 * catalogue_pair_limit) (omega arith), (let the-fact : pairs_ok c.args.catalogue.now ≡ true = c.loop-at.invariant.2 ∙ pairs_end c.args.catalogue.now c.loop-at.at (omega arith) in the-fact), (let the-fact : catalogue_words c.args.catalogue.now ≡ c.loop-at.words = omega (arith, c.loop-at.invariant.3, words_end c.args.catalogue.now c.loop-at.at (omega arith)) in the-fact), lt-leb c.loop-at.words word_limit (omega arith))
-
-pub returns : goal.returns
-returns c = simp (le-leb (length c.args.catalogue.now) (2 * catalogue_pair_limit) (omega arith), (let the-fact : pairs_ok c.args.catalogue.now ≡ true = c.loop-at.invariant.2 ∙ pairs_end c.args.catalogue.now c.loop-at.at (omega arith) in the-fact), (let the-fact : catalogue_words c.args.catalogue.now ≡ c.loop-at.words = omega (arith, c.loop-at.invariant.3, words_end c.args.catalogue.now c.loop-at.at (omega arith)) in the-fact), le-leb c.loop-at.words word_limit (omega arith))
+pub returns-else-words-le-WORDS : goal.returns-else-words-le-WORDS
+returns-else-words-le-WORDS c = let inv = c.loop-pair.invariant in
+    let none = none_left (chunks_exact_rest c.loop-pair.pair-iterator) (omega (arith, inv.pairs, c.in-None.ensures.steps.1.0)) inv.even in
+    refused_words c.args.catalogue.now (omega arith) (inv.ok ∙ pairs_end _ none) {words = c.loop-pair.words} (omega (arith, inv.sum, words_end _ none)) (omega arith)

@@ -11,19 +11,10 @@ use native.Mathlib.Omega.{arith}
 use Prim.Native.Nat.{◌-◌}
 use Rattle.conditions.proofs.leaves.+collect.Goals as goal
 
-pub overflow_sub-number : goal.overflow_sub-number
-overflow_sub-number t c = c.requires.named
-
-pub decode-node-requires : goal.decode-node-requires
-decode-node-requires t c = omega (arith, c.requires.named, c.requires.inside)
-
-pub with_leaf-requires : goal.with_leaf-requires
-with_leaf-requires t c =
+pub push-requires : goal.push-requires
+push-requires t c =
     let e : made (Compares _) _ _ _ ≡ node_at c.args.words.now (c.args.reference - 1) = made_is c.args.words.now (c.args.reference - 1) c.in-Compares.is c.decode-node.ensures in
     omega (arith, c.requires.room, ap length (leaf_numbers_lem c.args.words.now c.args.reference _ c.requires.named e (condition_is c.args.words.now c.args.reference _ c.requires.named e)))
-
-pub enum_known-form : goal.enum_known-form
-enum_known-form t c = c.in-Connects.in-Connects-own.keys2
 
 pub collect-first-requires : goal.collect-first-requires
 collect-first-requires t c =
@@ -52,25 +43,25 @@ collect-second-requires-in-Or t c =
 pub returns-in-Compares : goal.returns-in-Compares
 returns-in-Compares t c =
     let e : made (Compares _) _ _ _ ≡ node_at c.args.words.now (c.args.reference - 1) = made_is c.args.words.now (c.args.reference - 1) c.in-Compares.is c.decode-node.ensures in
-    collected_leaf c.args.words.now c.requires.named c.args.disjoined c.args.leaves.now e c.with_leaf.ensures
+    collected_leaf c.args.words.now c.requires.named c.args.disjoined c.args.leaves.now e c.push.ensures
 
 pub returns-in-And : goal.returns-in-And
 returns-in-And t c =
     let e : made (Connects And) _ _ _ ≡ node_at c.args.words.now (c.args.reference - 1) = made_is c.args.words.now (c.args.reference - 1) (c.in-Connects.is ∙ ap Connects c.in-And.is) c.decode-node.ensures in
-    collected_and c.args.words.now c.requires.named _ _ _ c.args.disjoined c.args.leaves.now c.requires.whole c.collect-first.ensures c.collect-second.ensures e
+    collected_and c.args.words.now c.requires.named _ _ _ c.args.disjoined c.args.leaves.now c.collect-first.ensures c.collect-second.ensures e
 
 pub returns-in-Or : goal.returns-in-Or
 returns-in-Or t c =
     let e : made (Connects Or) _ _ _ ≡ node_at c.args.words.now (c.args.reference - 1) = made_is c.args.words.now (c.args.reference - 1) (c.in-Connects.is ∙ ap Connects c.in-Or.is) c.decode-node.ensures in
-    collected_or c.args.words.now c.requires.named _ _ _ c.args.disjoined c.args.leaves.now c.requires.whole c.collect-first-in-Or.ensures c.collect-second-in-Or.ensures e
+    collected_or c.args.words.now c.requires.named _ _ _ c.args.disjoined c.args.leaves.now c.collect-first-in-Or.ensures c.collect-second-in-Or.ensures e
 
 pub returns-in-Not : goal.returns-in-Not
 returns-in-Not t c =
     let e : made (Connects Not) _ _ _ ≡ node_at c.args.words.now (c.args.reference - 1) = made_is c.args.words.now (c.args.reference - 1) (c.in-Connects.is ∙ ap Connects c.in-Not.is) c.decode-node.ensures in
-    collected_none c.args.words.now c.requires.named c.args.disjoined c.args.leaves.now e c.requires.whole (not_leaves _)
+    collected_none c.args.words.now c.requires.named c.args.disjoined c.args.leaves.now e (not_leaves _)
 
 pub returns-in_default : goal.returns-in_default
 returns-in_default t c =
     let words = c.args.words.now in
     let node = c.decode-node.result in
-    collected_none c.args.words.now c.requires.named c.args.disjoined c.args.leaves.now c.decode-node.ensures c.requires.whole (no_leaves node.form (reading_at words node.a) (reading_at words node.b) (reading_at words node.c) c.in_default.not-Compares c.in_default.not-Connects)
+    collected_none c.args.words.now c.requires.named c.args.disjoined c.args.leaves.now c.decode-node.ensures (no_leaves node.form (reading_at words node.a) (reading_at words node.b) (reading_at words node.c) c.in_default.not-Compares c.in_default.not-Connects)

@@ -1,16 +1,18 @@
 use mathlib.Core.Path.{◌≡◌}
-use Prim.Native.Nat.{◌+◌, ◌*◌, ◌≤◌}
-use lib.ListN.{length, take, drop}
+use Prim.Native.Nat.{◌≤◌}
+use lib.ListN.{length, take}
+use Rattle.std.specs.Slice.Iter.{chunks_exact_rest, chunks_exact_size}
 use Rattle.relations.specs.Lists.{All}
 use Rattle.relations.specs.Limits.{column_limit}
 use Rattle.relations.specs.Columns.{left_numbers}
-use Rattle.relations.specs.PlanWords.{read_pairs}
-use Rattle.division.specs.Divisions.{with_pairs}
+use Rattle.division.specs.Divisions.{pairs_of, with_pairs}
 use Rattle.division.proofs.divide.partner_row.Given as goal
 
-abbrev pub invariant-loop-more : goal.invariant-loop-more
-invariant-loop-more l = (l.at + l.more * 2 ≤ length l.list) × (length l.made ≡ column_limit) × All (λ number. (1 ≤ number) × (number ≤ length l.t)) (left_numbers (read_pairs l.more (drop l.at l.list)))
-    × (with_pairs (read_pairs l.count l.list) l.t l.r ≡ with_pairs (read_pairs l.more (drop l.at l.list)) (take (length l.t) l.made) l.r)
-
-abbrev pub decreases-loop-more : goal.decreases-loop-more
-decreases-loop-more l = l.more
+abbrev pub invariant-loop-words : goal.invariant-loop-words
+invariant-loop-words l =
+    goal.iterator-loop-words.can_next l.words-iterator
+    × goal.iterator-loop-words.is_finite l.words-iterator
+    × (chunks_exact_size l.words-iterator ≡ 2)
+    × (length l.made ≡ column_limit)
+    × All (λ number. (1 ≤ number) × (number ≤ length l.t)) (left_numbers (pairs_of (chunks_exact_rest l.words-iterator)))
+    × (with_pairs (pairs_of l.pairs) l.t l.r ≡ with_pairs (pairs_of (chunks_exact_rest l.words-iterator)) (take (length l.t) l.made) l.r)

@@ -1,34 +1,29 @@
-use Rattle.division.proofs.DivisionLaws.{column_in, column_out, column-written}
-use Rattle.division.specs.Divisions.{columns_left}
-use Rattle.relations.specs.PlanWords.{read_pairs}
+use mathlib.Core.Path.{◌≡◌, sym, ap, ◌∙◌}
+use Prim.Native.Nat.{◌+◌, ◌/◌}
+use native.Mathlib.Omega.{arith}
+use lib.ListN.{length, length-set}
 use Rattle.relations.specs.Columns.{listed, left_numbers}
 use Rattle.plan_reading.proofs.ListedLaws.{pairs_lefts}
-use lib.ListN.{take, length-set}
-use Prim.Native.Nat.{◌+◌, ◌-◌}
-use mathlib.Core.List.{◌++◌, append-nil}
-use mathlib.Core.Path.{◌≡◌, refl, sym, ap, ◌∙◌}
-use native.Mathlib.Omega.{arith}
+use Rattle.division.specs.Divisions.{pairs_of}
+use Rattle.division.proofs.DivisionLaws.{column_in, column_out}
 use Rattle.division.proofs.divide.remaining_columns.Goals as goal
+use Rattle.division.proofs.divide.remaining_columns.Goals.{then-not-is_listed, else-not-is_listed}
 
-pub loop-left-init : goal.loop-left-init
-loop-left-init c = (omega arith, omega arith, refl, refl)
-
-pub is_listed-requires : goal.is_listed-requires
-is_listed-requires c = omega (arith, c.requires.0)
-
-pub loop-left-preserved-then-is_listed : goal.loop-left-preserved-then-is_listed
-loop-left-preserved-then-is_listed c = let s = c.args in let l = c.loop-left in let ns = left_numbers (read_pairs s.count s.list.now) in
-    (omega arith, omega arith, l.invariant.2, l.invariant.3 ∙ ap (λ r. take l.kept l.columns ++ r) (column_out ns l.number l.left (omega arith) (ap (listed l.number) (pairs_lefts s.count s.list.now) ∙ sym c.is_listed.ensures ∙ c.if-is_listed.true)))
-
-pub loop-left-preserved : goal.loop-left-preserved
-loop-left-preserved c = let s = c.args in let l = c.loop-left in let ns = left_numbers (read_pairs s.count s.list.now) in (
-  omega arith,
-  omega arith,
-  simp length-set l.invariant.2,
-  l.invariant.3 ∙ ap (λ r. take l.kept l.columns ++ r) (column_in ns l.number l.left (omega arith) (ap (listed l.number) (pairs_lefts s.count s.list.now) ∙ sym c.is_listed.ensures ∙ c.if-is_listed.false))
-      ∙ column-written l.columns (columns_left (l.number + 1) (l.left - 1) ns) l.kept l.number (omega arith),
-)
-
-pub returns : goal.returns
-returns c = let s = c.args in let l = c.loop-left in let ns = left_numbers (read_pairs s.count s.list.now) in let z : l.left ≡ 0 = omega arith in
-    (omega arith, sym (rw (z, append-nil) at l.invariant.3))
+pub loop-column-preserved : goal.loop-column-preserved
+loop-column-preserved c =
+    let s = c.args in
+    let l = c.loop-column in
+    let ns = left_numbers (pairs_of s.pairs.now) in
+    let told : listed (l.column + 1) ns ≡ c.is_listed.result = ap (listed (l.column + 1)) (pairs_lefts (length s.pairs.now / 2) s.pairs.now) ∙ sym c.is_listed.ensures in
+    elim c.if-not-is_listed.branch [
+      | then-not-is_listed w ↦ (
+        omega (arith, w.kept-is),
+        simp (w.columns-is, length-set) l.invariant.1,
+        rw (w.columns-is, w.kept-is) (l.invariant.2 ∙ column_in ns l.columns l.column s.width l.kept c.loop-column-test.true (told ∙ w.if-not-is_listed.true) (omega arith)),
+      )
+      | else-not-is_listed w ↦ (
+        omega (arith, w.kept-is),
+        rw w.columns-is l.invariant.1,
+        rw (w.columns-is, w.kept-is) (l.invariant.2 ∙ column_out ns l.columns l.column s.width l.kept c.loop-column-test.true (told ∙ w.if-not-is_listed.false)),
+      )
+    ]

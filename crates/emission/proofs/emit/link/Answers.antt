@@ -6,19 +6,11 @@ use Rattle.relations.specs.Limits.{list_words}
 use Rattle.emission.specs.NodeLists.{padded}
 use Rattle.emission.specs.Joins.{linking_number, linking_unit}
 use Rattle.emission.specs.declared.node_list.NodeList.{NodeList}
-use Rattle.emission.proofs.NodeListLaws.{padded_full, padded_long, linked-words, unit-some}
+use Rattle.emission.proofs.NodeListLaws.{padded_full, padded_long, linked-words}
 use Rattle.emission.proofs.WrittenLaws.{written_one}
 use native.Mathlib.Omega.{arith}
 use borrow.Author.Rules.{rules}
 use Rattle.emission.proofs.emit.link.Goals as goal
-
-pub nonzero_div-list : goal.nonzero_div-list
-nonzero_div-list c = omega (arith, c.linking_unit.ensures, unit-some c.args.how)
-
-pub push-requires : goal.push-requires
-push-requires c =
-    let l : length c.args.list.words ≡ list_words = search rules in
-    (c.requires.0, omega arith)
 
 pub returns : goal.returns
 returns c =

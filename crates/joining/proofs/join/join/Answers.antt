@@ -1,44 +1,41 @@
-use Rattle.relations.specs.Columns.{meets}
-use Rattle.joining.proofs.JoinLaws.{joined_now}
-use Rattle.operations.proofs.FillSteps.{builds_by}
-use Rattle.operations.proofs.RowSteps.{flat_step, no_rows}
-use Rattle.joining.specs.Joins.{joined}
-use Rattle.operations.specs.Lists.{triples_in}
-use Rattle.values.proofs.FillLaws.{filled_rows, filled_none, filled_on, filled_off, filled_end}
-use Rattle.values.proofs.RowsLaws.{times_step}
-use Rattle.values.specs.Words.{rows_at, rows_of}
-use Rattle.relations.specs.Operations.{join_candidates}
-use Prim.Native.Nat.{◌+◌, ◌≤◌, ◌-◌}
+use mathlib.Core.Path.{sym, ap}
+use Prim.Native.Nat.{◌+◌, ◌*◌, ◌≤◌}
 use native.Mathlib.Omega.{arith}
+use lib.ListN.{take}
+use lib.Seq.{length-take-le}
+use Rattle.relations.specs.Operations.{join_candidates}
+use Rattle.values.specs.Words.{rows_of}
+use Rattle.values.proofs.FillLaws.{filled_rows, filled_none, filled_by, filled_on, filled_off, filled_end}
+use Rattle.operations.specs.Lists.{triples_of}
+use Rattle.operations.proofs.ListLaws.{triples_alone}
+use Rattle.operations.proofs.FillSteps.{builds_by}
+use Rattle.operations.proofs.RowSteps.{rows_from, rows_from_start, rows_from_end, row_ends}
+use Rattle.joining.proofs.JoinLaws.{join_next, joined_now}
 use Rattle.joining.proofs.join.join.Goals as goal
 
-pub loop-more-init : goal.loop-more-init
-loop-more-init c = let s = c.args in
-    (omega arith, filled_none (s.left.width + s.right.width) s.out (join_candidates (triples_in s.count s.list.now) (rows_of s.left s.work.now) (rows_of s.right s.work.now)) s.work.now c.requires.5)
+pub loop-i-init : goal.loop-i-init
+loop-i-init c = let s = c.args in let ts = triples_of (take (s.count * 3) s.list.now) in
+    filled_by (filled_none (s.left.width + s.right.width) s.out (join_candidates ts (rows_of s.left s.work.now) (rows_of s.right s.work.now)) s.work.now c.requires.5) (join_candidates ts (rows_from s.left 0 s.work.now) (rows_of s.right s.work.now))
+    (ap (λ rows. join_candidates ts rows (rows_of s.right s.work.now)) (sym (rows_from_start s.left s.work.now)))
 
 pub join_row-requires : goal.join_row-requires
-join_row-requires c = let s = c.args in let l = c.loop-more in
-    (c.requires.0, c.requires.1, c.requires.2, omega (arith, times_step l.more s.left.width (omega arith)), c.requires.4, l.invariant.1.fits, l.invariant.1.ascending, rw (filled_rows l.invariant.1 s.right.width s.right.rows s.right.base c.requires.4) c.requires.6, c.requires.7)
+join_row-requires c = let s = c.args in let p = c.requires in let f = c.loop-i.invariant in
+    (p.1, p.2, omega (arith, row_ends s.left c.loop-i.i s.work.now c.loop-i-test.true (omega arith)), p.4, f.fits, f.ascending, rw (filled_rows f s.right.width s.right.rows s.right.base p.4) p.6, omega (arith, length-take-le (s.count * 3) s.list.now p.0))
 
-pub returns-in-Full : goal.returns-in-Full
-returns-in-Full c = let s = c.args in let l = c.loop-more in let w = s.left.width in let ts = triples_in s.count s.list.now in
-    let ahead : l.at + w ≤ s.out = omega (arith, times_step l.more w (omega arith)) in
-    filled_off l.invariant.1 (join_candidates ts (rows_at w (l.more - 1) (l.at + w) s.work.now) (rows_of s.right s.work.now))
-    (flat_step w l.more l.at s.work.now (omega arith) (omega arith) (λ t. joined (meets ts t) t (rows_of s.right s.work.now)))
-    (builds_by (joined_now l.invariant.1 l.at w ahead ts s.right c.requires.4) c.join_row.ensures) c.in-Full.is
+pub returns-in_err-made : goal.returns-in_err-made
+returns-in_err-made c = let s = c.args in let l = c.loop-i in let ts = triples_of (take (s.count * 3) s.list.now) in
+    let ahead : s.left.base + l.i * s.left.width + s.left.width ≤ s.out = omega (arith, row_ends s.left l.i s.work.now c.loop-i-test.true (omega arith)) in
+    rw c.from_residual.ensures (builds_by (ap (λ ts. join_candidates ts (rows_of s.left s.work.now) (rows_of s.right s.work.now)) (triples_alone s.count s.list.now c.requires.0))
+    (filled_off l.invariant (join_candidates ts (rows_from s.left (l.i + 1) s.work.now) (rows_of s.right s.work.now)) (join_next ts (rows_of s.right s.work.now) s.left l.i s.work.now c.loop-i-test.true (omega arith))
+    (builds_by (joined_now l.invariant (s.left.base + l.i * s.left.width) s.left.width ahead ts s.right c.requires.4) c.join_row.ensures) c.in_err-made.was))
 
-pub overflow_add-at : goal.overflow_add-at
-overflow_add-at c = let l = c.loop-more in let w = c.args.left.width in omega (arith, times_step l.more w (omega arith))
-
-pub loop-more-preserved : goal.loop-more-preserved
-loop-more-preserved c = let s = c.args in let l = c.loop-more in let w = s.left.width in let ts = triples_in s.count s.list.now in
-    let ahead : l.at + w ≤ s.out = omega (arith, times_step l.more w (omega arith)) in (
-      omega (arith, times_step l.more w (omega arith)),
-      filled_on l.invariant.1 (join_candidates ts (rows_at w (l.more - 1) (l.at + w) s.work.now) (rows_of s.right s.work.now))
-          (flat_step w l.more l.at s.work.now (omega arith) (omega arith) (λ t. joined (meets ts t) t (rows_of s.right s.work.now)))
-          (builds_by (joined_now l.invariant.1 l.at w ahead ts s.right c.requires.4) c.join_row.ensures) c.in-Rows.rows c.in-Rows.is,
-    )
+pub loop-i-preserved : goal.loop-i-preserved
+loop-i-preserved c = let s = c.args in let l = c.loop-i in let ts = triples_of (take (s.count * 3) s.list.now) in
+    let ahead : s.left.base + l.i * s.left.width + s.left.width ≤ s.out = omega (arith, row_ends s.left l.i s.work.now c.loop-i-test.true (omega arith)) in
+    filled_on l.invariant (join_candidates ts (rows_from s.left (l.i + 1) s.work.now) (rows_of s.right s.work.now)) (join_next ts (rows_of s.right s.work.now) s.left l.i s.work.now c.loop-i-test.true (omega arith))
+    (builds_by (joined_now l.invariant (s.left.base + l.i * s.left.width) s.left.width ahead ts s.right c.requires.4) c.join_row.ensures) c.in_ok-made.made c.in_ok-made.was
 
 pub returns : goal.returns
-returns c = let s = c.args in let l = c.loop-more in
-    filled_end l.invariant.1 (no_rows (λ rows. join_candidates (triples_in s.count s.list.now) rows (rows_of s.right s.work.now)) s.left.width l.at s.work.now (omega arith))
+returns c = let s = c.args in let l = c.loop-i in
+    builds_by (ap (λ ts. join_candidates ts (rows_of s.left s.work.now) (rows_of s.right s.work.now)) (triples_alone s.count s.list.now c.requires.0))
+    (filled_end l.invariant (ap (λ rows. join_candidates (triples_of (take (s.count * 3) s.list.now)) rows (rows_of s.right s.work.now)) (rows_from_end s.left l.i s.work.now (omega arith))))

@@ -1,4 +1,4 @@
-use mathlib.Core.Path.{◌≡◌, ◌∙◌}
+use mathlib.Core.Path.{◌≡◌}
 use Rattle.catalogue.specs.Stored.{columns_of, row_count_of}
 use Rattle.catalogue.proofs.TableLaws.{has_column, stored-inside, start_few}
 use Rattle.node_values.proofs.LoadLaws.{loaded}
@@ -10,10 +10,10 @@ start_of-base-requires c = start_few c.args.catalogue.now c.args.tables.now c.re
 
 pub load-requires : goal.load-requires
 load-requires c =
-    let width : c.wide-width.result ≡ columns_of c.args.catalogue.now c.args.relation = c.wide-width.ensures ∙ c.columns_of.ensures in
-    let rows : c.wide-rows.result ≡ row_count_of c.args.catalogue.now c.args.relation = c.wide-rows.ensures ∙ c.rows_of.ensures in
+    let width : c.columns_of-width.result ≡ columns_of c.args.catalogue.now c.args.relation = c.columns_of-width.ensures in
+    let rows : c.rows_of-rows.result ≡ row_count_of c.args.catalogue.now c.args.relation = c.rows_of-rows.ensures in
     (rw width (has_column c.args.catalogue.now c.args.tables.now c.requires.0 c.args.relation c.requires.1).0, rw (width, rows, c.start_of-base.ensures) (stored-inside c.args.catalogue.now c.args.tables.now c.requires.0 c.args.relation c.requires.1), c.requires.2, c.requires.3)
 
 pub returns : goal.returns
 returns c =
-    loaded c.args.catalogue.now c.args.tables.now c.args.relation c.start_of-base.ensures (c.wide-rows.ensures ∙ c.rows_of.ensures) (c.wide-width.ensures ∙ c.columns_of.ensures) c.load.ensures
+    loaded c.args.catalogue.now c.args.tables.now c.args.relation c.start_of-base.ensures c.rows_of-rows.ensures c.columns_of-width.ensures c.load.ensures

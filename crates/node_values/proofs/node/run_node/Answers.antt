@@ -1,34 +1,31 @@
+use mathlib.Core.Path.{refl, sym, ◌∙◌}
+use Rattle.catalogue.specs.Stored.{relations_of}
 use Rattle.relations.specs.PlanWords.{read_node}
-use Rattle.catalogue.specs.Stored.{relations_of, columns_of}
-use Rattle.node_values.proofs.NodeLaws.{width_read_lem, weight_read_lem, makes_told, no_node}
-use mathlib.Core.Path.{sym, ap, ◌∙◌}
-use Rattle.plan_reading.proofs.DecodeLaws.{stands}
-use Rattle.plan_reading.specs.Decoding.{head_decoded}
-use Rattle.plan_reading.proofs.JudgeLaws.{head_of_legal}
+use Rattle.node_values.specs.NodeRun.{Runs}
+use Rattle.node_values.specs.Standing.{widths_of}
+use Rattle.node_values.proofs.NodeLaws.{join_narrow, width_read_lem, weight_read_lem, no_node}
 use Rattle.node_values.proofs.node.run_node.Goals as goal
+use Rattle.node_values.proofs.node.run_node.Goals.{In_ok-node}
 
-pub width_of-width-requires : goal.width_of-width-requires
-width_of-width-requires c =
-    head_of_legal c.args.catalogue.now c.args.widths.now c.args.words.now c.in-Node.node (stands c.args.words.now c.in-Node.node c.requires.0 (sym c.decode_node.ensures ∙ ap head_decoded c.in-Node.is)) c.requires.2
+runs : (c : In_ok-node) → Runs c.args.catalogue.now c.args.tables.now c.args.words.now c.in_ok-node.node c.args.values.now c.args.out c.args.work.now
+runs c = record { size = c.requires.0; read = sym c.in_ok-node.ensures; judged = c.requires.1; legal = c.requires.2; stand = c.requires.3 }
+
+pub returns-in_err-node : goal.returns-in_err-node
+returns-in_err-node c = no_node (relations_of c.args.catalogue.now) (widths_of c.args.values.now) (read_node c.args.words.now) (sym c.in_err-node.ensures) c.requires.2
+
+pub width_between-width-requires : goal.width_between-width-requires
+width_between-width-requires c = join_narrow (runs (goal.at.width_between-width-requires c).In_ok-node) c.value_at-left.ensures c.value_at-beside.ensures
 
 pub make_value-requires : goal.make_value-requires
-make_value-requires c = (c.requires.0, sym c.decode_node.ensures ∙ ap head_decoded c.in-Node.is, c.requires.1, c.requires.2, c.requires.3)
+make_value-requires c = runs (goal.at.make_value-requires c).In_ok-node
 
-pub returns-in-Rows : goal.returns-in-Rows
-returns-in-Rows c =
-    let node = c.in-Node.node in
-    let stood = stands c.args.words.now node c.requires.0 (sym c.decode_node.ensures ∙ ap head_decoded c.in-Node.is) in
+pub returns : goal.returns
+returns c =
     record {
-      makes = makes_told c.in-Rows.is c.make_value.ensures;
+      makes = c.in_ok-rows.ensures;
       counts = (
-        width_read_lem c.args.words.now node stood (columns_of c.args.catalogue.now) c.args.widths.now c.width_of-width.ensures,
-        c.wide-heavy.ensures ∙ c.weight.ensures ∙ weight_read_lem c.args.words.now node stood c.requires.0,
+        refl,
+        width_read_lem (runs (goal.at.returns c).In_ok-node) c.value_at-left.ensures c.value_at-beside.ensures c.width_between-width.ensures,
+        c.weight-heavy.ensures ∙ weight_read_lem (runs (goal.at.returns c).In_ok-node),
       );
     }
-
-pub returns-in-Full : goal.returns-in-Full
-returns-in-Full c = record { makes = makes_told c.in-Full.is c.make_value.ensures; counts = tt }
-
-pub returns-in-Illegal : goal.returns-in-Illegal
-returns-in-Illegal c =
-    no_node (relations_of c.args.catalogue.now) c.args.widths.now (read_node c.args.words.now) (sym c.decode_node.ensures ∙ ap head_decoded c.in-Illegal.is) c.requires.2

@@ -1,47 +1,35 @@
-use Rattle.operations.proofs.TestLaws.{fits_now, kept_now}
-use Rattle.operations.proofs.FillSteps.{builds_by}
-use Rattle.operations.proofs.RowSteps.{filter_step, no_rows}
-use Rattle.operations.specs.Tests.{right_of, keeps}
-use Rattle.values.proofs.FillLaws.{filled_none, filled_on, filled_off, filled_end}
-use Rattle.values.proofs.RowsLaws.{times_step}
-use Rattle.values.specs.Words.{rows_at}
-use Rattle.relations.specs.Lists.{filter}
-use Prim.Native.Nat.{◌+◌, ◌≤◌, ◌-◌}
+use mathlib.Core.Path.{sym, ◌∙◌}
+use Prim.Native.Nat.{◌+◌, ◌*◌}
+use Rattle.values.specs.Words.{row_in, rows_of}
+use Rattle.std.specs.Fn.{FnReturnsAt}
+use Rattle.operations.proofs.RowSteps.{rows_from, rows_from_start, rows_from_end, rows_from_next}
+use Rattle.operations.proofs.TestLaws.{kept_start, kept_end, kept_past, kept_on, kept_off}
 use native.Mathlib.Omega.{arith}
 use Rattle.operations.proofs.keep.keep.Goals as goal
+use Rattle.operations.proofs.keep.keep.Goals.{then-passes+in_ok-rows, else-passes}
 
-pub loop-left-init : goal.loop-left-init
-loop-left-init c = let s = c.args in (omega arith, filled_none s.value.width s.out (filter (keeps s.test (right_of s.test s.work.now)) (rows_at s.value.width s.value.rows s.value.base s.work.now)) s.work.now (omega arith))
+pub loop-i-init : goal.loop-i-init
+loop-i-init g c = let s = c.args in kept_start _ s.value.width (rows_of s.value s.front.now) (rows_from s.value 0 s.front.now) s.behind.now (sym (rows_from_start s.value s.front.now))
 
-pub keep_row-requires : goal.keep_row-requires
-keep_row-requires c = let s = c.args in let l = c.loop-left in
-    (omega arith, omega (arith, times_step l.left s.value.width (omega arith)), fits_now l.invariant.1 s.test c.requires.3, l.invariant.1.fits, l.invariant.1.ascending)
+pub returns-in_err-rows : goal.returns-in_err-rows
+returns-in_err-rows g c = let s = c.args in let l = c.loop-i in let v = s.value in
+    let told : FnReturnsAt g.F.Fn s.passes (row_in s.front.now (v.base + l.i * v.width) v.width) c.passes.result = record { shown = c.row.result; shows = c.row.ensures; says = record { met = c.passes.ensures } } in
+    λ test says. rw c.from_residual.ensures
+    (kept_off l.invariant (rows_from v (l.i + 1) s.front.now) (rows_from_next v l.i s.front.now (omega arith) c.requires.2)
+    (λ t answers. sym (answers _ _ told) ∙ c.if-passes.true)
+    c.place_row.ensures c.in_err-rows.was test says)
 
-pub shape_of-work-in-Full : goal.shape_of-work-in-Full
-shape_of-work-in-Full c = omega (arith, c.keep_row.auto, c.loop-left.invariant.1.size)
-
-pub returns-in-Full : goal.returns-in-Full
-returns-in-Full c = let s = c.args in let l = c.loop-left in let w = s.value.width in
-    let ahead : l.at + w ≤ s.out = omega (arith, times_step l.left w (omega arith)) in
-    filled_off l.invariant.1 (filter (keeps s.test (right_of s.test s.work.now)) (rows_at w (l.left - 1) (l.at + w) s.work.now))
-    (filter_step w l.left l.at s.work.now (omega arith) (omega arith) (keeps s.test (right_of s.test s.work.now)))
-    (builds_by (kept_now l.invariant.1 s.test l.at w c.requires.3 ahead) c.keep_row.ensures) c.in-Full.is
-
-pub overflow_add-at : goal.overflow_add-at
-overflow_add-at c = let l = c.loop-left in let w = c.args.value.width in omega (arith, times_step l.left w (omega arith))
-
-pub loop-left-preserved : goal.loop-left-preserved
-loop-left-preserved c = let s = c.args in let l = c.loop-left in let w = s.value.width in
-    let ahead : l.at + w ≤ s.out = omega (arith, times_step l.left w (omega arith)) in (
-      omega (arith, times_step l.left w (omega arith)),
-      filled_on l.invariant.1 (filter (keeps s.test (right_of s.test s.work.now)) (rows_at w (l.left - 1) (l.at + w) s.work.now))
-          (filter_step w l.left l.at s.work.now (omega arith) (omega arith) (keeps s.test (right_of s.test s.work.now)))
-          (builds_by (kept_now l.invariant.1 s.test l.at w c.requires.3 ahead) c.keep_row.ensures) c.in-Rows.rows c.in-Rows.is,
-    )
-
-pub shape_of-work : goal.shape_of-work
-shape_of-work c = omega (arith, c.loop-left.invariant.1.size)
+pub loop-i-preserved : goal.loop-i-preserved
+loop-i-preserved g c = let s = c.args in let l = c.loop-i in let v = s.value in
+    let told : FnReturnsAt g.F.Fn s.passes (row_in s.front.now (v.base + l.i * v.width) v.width) c.passes.result = record { shown = c.row.result; shows = c.row.ensures; says = record { met = c.passes.ensures } } in
+    let next = rows_from_next v l.i s.front.now (omega arith) c.requires.2 in
+    elim c.if-passes.branch [
+      | then-passes+in_ok-rows w ↦ rw (w.behind-is, w.rows-is) (kept_on l.invariant (rows_from v (l.i + 1) s.front.now) next
+          (λ t answers. sym (answers _ _ told) ∙ w.if-passes.true)
+          w.place_row.ensures w.in_ok-rows.rows w.in_ok-rows.was)
+      | else-passes w ↦ rw (w.behind-is, w.rows-is) (kept_past l.invariant (rows_from v (l.i + 1) s.front.now) next
+          (λ t answers. sym (answers _ _ told) ∙ w.if-passes.false))
+    ]
 
 pub returns : goal.returns
-returns c = let s = c.args in let l = c.loop-left in
-    filled_end l.invariant.1 (no_rows (filter (keeps s.test (right_of s.test s.work.now))) s.value.width l.at s.work.now (omega arith))
+returns g c = let s = c.args in let l = c.loop-i in λ test says. kept_end l.invariant (rows_from_end s.value l.i s.front.now (omega arith)) test says

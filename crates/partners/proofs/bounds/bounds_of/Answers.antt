@@ -1,48 +1,27 @@
-use mathlib.Core.Path.{refl, sym}
-use Prim.Native.Nat.{◌+◌, ◌*◌}
-use lib.ListN.{get_or, length-set}
-use Rattle.partners.proofs.BoundSteps.{bounding_here, none_before-next, none_behind_here, none_behind-next, begins-next}
-use native.Mathlib.Omega.{arith}
+use Rattle.std.proofs.Common.{sym, ◌∙◌, ℕ, arith, length-append}
+use Rattle.partners.proofs.BoundSteps.{bounding_here, bounding_low, bounding_both, begins-next}
 use Rattle.partners.proofs.bounds.bounds_of.Goals as goal
 
-pub loop-k-init : goal.loop-k-init
-loop-k-init c = (omega arith, refl, refl, record { same = λ s l m. refl }, record { same = λ s l m. refl }, omega arith)
+pub returns-in_default : goal.returns-in_default
+returns-in_default c = let l = c.loop-k in bounding_here l.invariant.begins l.invariant.same (omega (arith, l.invariant.many))
 
-pub returns-then-width-k : goal.returns-then-width-k
-returns-then-width-k c = let l = c.loop-k in bounding_here (omega (arith, l.invariant.1)) (omega (arith, l.invariant.2)) l.invariant.0 l.invariant.3 l.invariant.4
+pub returns-then-span-ge-NO_WORD : goal.returns-then-span-ge-NO_WORD
+returns-then-span-ge-NO_WORD c = let l = c.loop-k in bounding_here l.invariant.begins l.invariant.same (omega (arith, l.invariant.many))
 
-pub returns-then-count-i : goal.returns-then-count-i
-returns-then-count-i c = let l = c.loop-k in bounding_here (omega (arith, l.invariant.1)) (omega (arith, l.invariant.2)) l.invariant.0 l.invariant.3 l.invariant.4
+pub returns-then-span-ge-NO_WORD-2 : goal.returns-then-span-ge-NO_WORD-2
+returns-then-span-ge-NO_WORD-2 c = let l = c.loop-k in
+    bounding_low l.invariant.begins l.invariant.many c.in-Some.i _ c.in-Some.ensures (omega arith) c.push.ensures l.invariant.same
 
-pub returns-then-sieve-at : goal.returns-then-sieve-at
-returns-then-sieve-at c = let l = c.loop-k in bounding_here (omega (arith, l.invariant.1)) (omega (arith, l.invariant.2)) l.invariant.0 l.invariant.3 l.invariant.4
-
-pub returns-then-low-ge-NO_WORD : goal.returns-then-low-ge-NO_WORD
-returns-then-low-ge-NO_WORD c = let l = c.loop-k in bounding_here (omega (arith, l.invariant.1)) (omega (arith, l.invariant.2)) l.invariant.0 l.invariant.3 l.invariant.4
-
-pub returns-then-high-ge-NO_WORD : goal.returns-then-high-ge-NO_WORD
-returns-then-high-ge-NO_WORD c = let w = c.args.sieve.now in let l = c.loop-k in let i = c.likely_entry-i.result in let low = get_or w (i * 4 + 1) 0 in let high = get_or w (i * 4 + 2) 0 in
-    record {
-      low-room = simp length-set (omega (arith, l.invariant.1));
-      high-room = omega (arith, l.invariant.2);
-      inside = l.invariant.0;
-      none_before = none_before-next l.invariant.3 i low high (omega arith) c.if-sieve-at.false refl refl (omega (arith, l.invariant.1)) (omega arith);
-      none_behind = none_behind_here l.invariant.4 (omega (arith, l.invariant.2));
-    }
-
-pub returns-then-low-high : goal.returns-then-low-high
-returns-then-low-high c = let w = c.args.sieve.now in let l = c.loop-k in let i = c.likely_entry-i.result in let low = get_or w (i * 4 + 1) 0 in let high = get_or w (i * 4 + 2) 0 in
-    record {
-      low-room = simp length-set (omega (arith, l.invariant.1));
-      high-room = simp length-set (omega (arith, l.invariant.2));
-      inside = omega arith;
-      none_before = none_before-next l.invariant.3 i low high (omega arith) c.if-sieve-at.false refl refl (omega (arith, l.invariant.1)) (omega arith);
-      none_behind = none_behind-next l.invariant.4 i low high (omega arith) c.if-sieve-at.false refl refl (omega (arith, l.invariant.2)) (omega arith) (omega arith);
-    }
+pub returns-then-span : goal.returns-then-span
+returns-then-span c = let l = c.loop-k in
+    bounding_both l.invariant.begins l.invariant.many c.in-Some.i _ c.in-Some.ensures (omega arith) c.push.ensures (c.push-in-loop-k.ensures ∙ rw l.invariant.same) (omega arith)
 
 pub loop-k-preserved : goal.loop-k-preserved
-loop-k-preserved c = let w = c.args.sieve.now in let l = c.loop-k in let i = c.likely_entry-i.result in let low = get_or w (i * 4 + 1) 0 in let high = get_or w (i * 4 + 2) 0 in
-    (omega arith, simp length-set l.invariant.1, simp length-set l.invariant.2, begins-next l.invariant.3 i low high (omega arith) c.if-sieve-at.false refl refl (omega (arith, l.invariant.1)) (omega arith) c.if-low-high.false (omega arith) low refl, begins-next l.invariant.4 i low high (omega arith) c.if-sieve-at.false refl refl (omega (arith, l.invariant.2)) (omega arith) c.if-low-high.false (omega arith) high (sym c.if-low-high.false), omega arith)
+loop-k-preserved c = let l = c.loop-k in record {
+  begins = rw c.push.ensures (begins-next l.invariant.begins l.invariant.many c.in-Some.i _ c.in-Some.ensures (omega arith) c.if-span.false (omega arith));
+  same = c.push-in-loop-k.ensures ∙ rw (l.invariant.same, sym c.if-span.false) (sym c.push.ensures);
+  many = rw c.push.ensures (omega (arith, l.invariant.many, length-append {A = ℕ}));
+}
 
 pub returns : goal.returns
-returns c = let l = c.loop-k in bounding_here (omega (arith, l.invariant.1, l.invariant.5)) (omega (arith, l.invariant.2, l.invariant.5)) l.invariant.0 l.invariant.3 l.invariant.4
+returns c = let l = c.loop-k in bounding_here l.invariant.begins l.invariant.same (omega (arith, l.invariant.many))

@@ -1,26 +1,29 @@
-use mathlib.Core.Path.{refl, ◌∙◌}
-use lib.ListN.{drop}
-use Rattle.partners.proofs.SieveLaws.{filled_step, filled_over}
-use native.Mathlib.Omega.{arith}
+use Rattle.std.proofs.Common.{◌≡◌, ◌∙◌, ◌++◌, ◌&&◌, ℕ, List, sym, ap, arith, length, length-append, take}
+use Rattle.std.proofs.lemmas.List.{length-take-le}
+use Rattle.relations.specs.Columns.{Triple, meets}
+use Rattle.operations.specs.Lists.{triples_of}
+use Rattle.operations.proofs.ListLaws.{triples_none}
+use Rattle.partners.specs.Sieves.{sifts}
+use Rattle.partners.proofs.SieveLaws.{filled_step, and_true}
 use Rattle.partners.proofs.sieve.fill.Goals as goal
 
-pub loop-more-init : goal.loop-more-init
-loop-more-init c = (omega arith, omega arith, refl, λ right. refl)
-
-pub narrow-made-requires : goal.narrow-made-requires
-narrow-made-requires c = omega (arith, c.loop-more.invariant.2)
-
-pub loop-more-preserved : goal.loop-more-preserved
-loop-more-preserved c = let s = c.args in let l = c.loop-more in (
-  omega arith,
-  omega (arith, c.narrow-made.ensures.most),
-  omega (arith, c.narrow-made.auto, l.invariant.2),
-  λ right.
-      filled_step s.list.now l.at l.more s.row.now right (omega arith) c.column_of-word.ensures (rw c.operator_of-operator.ensures at c.span_of-span.ensures) c.narrow-made.ensures ∙ l.invariant.3 right,
-)
+pub loop-words-preserved : goal.loop-words-preserved
+loop-words-preserved c = let l = c.loop-words in let steps = c.in-Some.ensures.steps in let words = c.in-Some.words.now in let rest = c.next.new.self.rest.now in
+    let rests : l.words-iterator.rest.now ≡ words ++ rest = steps.1.0 in
+    let three : length words ≡ 3 = steps.1.1 ∙ l.invariant.size in record {
+      size = steps.0 ∙ l.invariant.size;
+      fits = omega (arith, c.narrow-made.ensures.most, length-take-le l.made l.room (omega (arith, l.invariant.fits)), l.invariant.fits, ap length rests, length-append words rest);
+      same = λ right.
+          filled_step c.triple_at-triple.result c.args.row.now words rest c.column_of.result l.made c.narrow-made.result c.of-span.result l.room c.narrow-made.new.sieve three c.triple_at-triple.ensures c.column_of.ensures c.of-span.ensures c.narrow-made.ensures right
+          ∙ ap (λ (left : List ℕ). sifts (take l.made l.room) right && meets (triples_of left) c.args.row.now right) (sym rests)
+          ∙ l.invariant.same right;
+    }
 
 pub returns : goal.returns
-returns c = let s = c.args in let l = c.loop-more in record {
-  room = omega (arith, l.invariant.2);
-  same = λ right. filled_over l.made l.more l.sieve (drop l.at s.list.now) s.row.now right (omega arith) ∙ l.invariant.3 right;
-}
+returns c = let l = c.loop-words in
+    record {
+      same = λ right.
+          and_true (sifts (take l.made l.room) right)
+          ∙ ap (λ (triples : List Triple). sifts (take l.made l.room) right && meets triples c.args.row.now right) (sym (triples_none l.words-iterator.rest.now (omega (arith, c.in-None.ensures.steps.1.0, l.invariant.size))))
+          ∙ l.invariant.same right;
+    }

@@ -1,19 +1,13 @@
-use Prim.Native.Nat.{◌≤◌, ◌-◌, ◌*◌}
-use mathlib.Core.List.{[]}
-use mathlib.Core.Path.{◌≡◌}
-use lib.ListN.{length, take, drop}
-use Rattle.relations.specs.Limits.{plan_node_limit, plan_node_words}
-use Rattle.plan_reading.specs.Judging.{judge_plan_nodes}
+use Rattle.std.proofs.Common.{◌≡◌}
+use Rattle.std.specs.Iterator.Adapters.{enumerate_source, enumerate_count}
+use Rattle.std.specs.Slice.Iter.{chunks_exact_rest, chunks_exact_size}
+use Rattle.relations.specs.Limits.{plan_node_words}
+use Rattle.plan_reading.proofs.JudgeLaws.{JudgedSoFar}
 use Rattle.plan_reading.proofs.judging.judge_plan.Given as goal
 
--- `plan_reading::judging::judge_plan` meets its contract. The loop's invariant: the whole plan is judged as the nodes from `place` on are, given the widths before it,
--- which are the front of the table. Each return is a case of that judgement. The measure is the number of nodes still to judge.
--- Assumes nothing.
 abbrev pub invariant-loop-place : goal.invariant-loop-place
-invariant-loop-place l = (l.place ≤ l.nodes)
-    × (length l.widths ≡ plan_node_limit)
-    × (l.at ≡ plan_node_words * l.place)
-    × (judge_plan_nodes l.catalogue l.nodes [] l.plan ≡ judge_plan_nodes l.catalogue (l.nodes - l.place) (take l.place l.widths) (drop l.at l.plan))
-
-abbrev pub decreases-loop-place : goal.decreases-loop-place
-decreases-loop-place l = l.nodes - l.place
+invariant-loop-place l =
+    goal.iterator-loop-place.can_next l.place-iterator
+    × goal.iterator-loop-place.is_finite l.place-iterator
+    × (chunks_exact_size (enumerate_source l.place-iterator) ≡ plan_node_words)
+    × JudgedSoFar l.catalogue l.plan l.widths l.nodes (enumerate_count l.place-iterator) (chunks_exact_rest (enumerate_source l.place-iterator))

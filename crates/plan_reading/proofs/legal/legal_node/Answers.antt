@@ -1,58 +1,47 @@
-use mathlib.Core.Path.{sym}
+use mathlib.Core.Path.{sym, ◌∙◌}
+use mathlib.Core.Logic.{inl, inr}
 use native.Mathlib.Omega.{arith}
-use Rattle.plan_reading.specs.declared.nodes.Operation.TheVariants.{Project, Join, Semijoin, Antijoin, Divide}
+use borrow.Author.Tests.{lt-ltb}
 use Rattle.catalogue.specs.Stored.{relations_of}
-use Rattle.plan_reading.proofs.LegalLaws.{count-within, legal-load, legal-project, legal_select_constant, legal_select_attribute, legal-join, legal-semijoin, legal-antijoin, legal-divide, legal-unite, legal-intersect, legal-subtract, legal-tally}
-use Rattle.plan_reading.proofs.DecodeLaws.{Stands, stands}
+use Rattle.plan_reading.specs.declared.nodes.Operation.TheVariants.{Project, SelectConstant, SelectAttribute, Join, Semijoin, Antijoin, Divide, Unite, Intersect, Subtract, Tally}
+use Rattle.plan_reading.proofs.LegalLaws.{count_by, legal_by}
 use Rattle.plan_reading.proofs.legal.legal_node.Goals as goal
 
 pub within-requires : goal.within-requires
-within-requires c = (omega arith, omega arith, omega (arith, (count-within (relations_of c.args.catalogue.now) c.args.widths.now c.args.words.now c.args.node ((let the-fact : Stands c.args.words.now c.args.node = stands c.args.words.now c.args.node c.requires.0 c.requires.1 in the-fact)) Project c.in-Project.is).1, c.requires.0))
+within-requires c = (omega arith, omega arith, omega (arith, count_by c.args.words.now c.args.node Project c.requires.0 c.requires.1 c.in-Project.is))
 
 pub legal_triples-requires : goal.legal_triples-requires
-legal_triples-requires c = (c.requires.0, (count-within (relations_of c.args.catalogue.now) c.args.widths.now c.args.words.now c.args.node ((let the-fact : Stands c.args.words.now c.args.node = stands c.args.words.now c.args.node c.requires.0 c.requires.1 in the-fact)) Join c.in-Join.is).1)
+legal_triples-requires c = (c.requires.0, count_by c.args.words.now c.args.node Join c.requires.0 c.requires.1 c.in-Join.is)
 
 pub legal_triples-requires-in-Semijoin : goal.legal_triples-requires-in-Semijoin
-legal_triples-requires-in-Semijoin c = (c.requires.0, (count-within (relations_of c.args.catalogue.now) c.args.widths.now c.args.words.now c.args.node ((let the-fact : Stands c.args.words.now c.args.node = stands c.args.words.now c.args.node c.requires.0 c.requires.1 in the-fact)) Semijoin c.in-Semijoin.is).1)
-
-pub legal_triples-requires-in-Antijoin : goal.legal_triples-requires-in-Antijoin
-legal_triples-requires-in-Antijoin c = (c.requires.0, (count-within (relations_of c.args.catalogue.now) c.args.widths.now c.args.words.now c.args.node ((let the-fact : Stands c.args.words.now c.args.node = stands c.args.words.now c.args.node c.requires.0 c.requires.1 in the-fact)) Antijoin c.in-Antijoin.is).1)
+legal_triples-requires-in-Semijoin c = (c.requires.0, elim c.in-Semijoin.is [ inl o ↦ count_by c.args.words.now c.args.node Semijoin c.requires.0 c.requires.1 o | inr o ↦ count_by c.args.words.now c.args.node Antijoin c.requires.0 c.requires.1 o ])
 
 pub legal_division-requires : goal.legal_division-requires
-legal_division-requires c = (c.requires.0, (count-within (relations_of c.args.catalogue.now) c.args.widths.now c.args.words.now c.args.node ((let the-fact : Stands c.args.words.now c.args.node = stands c.args.words.now c.args.node c.requires.0 c.requires.1 in the-fact)) Divide c.in-Divide.is).1)
+legal_division-requires c = (c.requires.0, count_by c.args.words.now c.args.node Divide c.requires.0 c.requires.1 c.in-Divide.is)
 
-pub returns-in-Load : goal.returns-in-Load
-returns-in-Load c = rw c.relations_of.ensures (sym (legal-load (relations_of c.args.catalogue.now) c.args.widths.now c.args.words.now c.args.node ((let the-fact : Stands c.args.words.now c.args.node = stands c.args.words.now c.args.node c.requires.0 c.requires.1 in the-fact)) c.in-Load.is))
+pub returns-then-below : goal.returns-then-below
+returns-then-below c = rw (c.within.ensures, c.width_at-width.ensures) (sym (legal_by c.args.words.now c.args.node Project c.requires.0 c.requires.1 c.in-Project.is (relations_of c.args.catalogue.now) c.args.widths.now ∙ rw (lt-ltb _ _ c.if-below.true)))
 
-pub returns-in-Project : goal.returns-in-Project
-returns-in-Project c = rw (c.within.ensures, c.width_at-width.ensures) (sym (legal-project (relations_of c.args.catalogue.now) c.args.widths.now c.args.words.now c.args.node ((let the-fact : Stands c.args.words.now c.args.node = stands c.args.words.now c.args.node c.requires.0 c.requires.1 in the-fact)) c.requires.0 c.in-Project.is))
+pub returns-then-below-2 : goal.returns-then-below-2
+returns-then-below-2 c = rw (c.within-then-below-2.ensures, c.width_at-width.ensures) (sym (legal_by c.args.words.now c.args.node SelectConstant c.requires.0 c.requires.1 c.in-SelectConstant.is (relations_of c.args.catalogue.now) c.args.widths.now ∙ rw (lt-ltb _ _ c.if-below-2.true)))
 
-pub returns-in-SelectConstant : goal.returns-in-SelectConstant
-returns-in-SelectConstant c = rw (c.within-in-SelectConstant.ensures, c.width_at-width.ensures) (sym (legal_select_constant (relations_of c.args.catalogue.now) c.args.widths.now c.args.words.now c.args.node ((let the-fact : Stands c.args.words.now c.args.node = stands c.args.words.now c.args.node c.requires.0 c.requires.1 in the-fact)) c.in-SelectConstant.is))
+pub returns-then-below-3 : goal.returns-then-below-3
+returns-then-below-3 c = rw (c.within-then-below-3.ensures, c.width_at-width.ensures) (sym (legal_by c.args.words.now c.args.node SelectAttribute c.requires.0 c.requires.1 c.in-SelectAttribute.is (relations_of c.args.catalogue.now) c.args.widths.now ∙ rw (lt-ltb _ _ c.if-below-3.true)))
 
-pub returns-in-SelectAttribute : goal.returns-in-SelectAttribute
-returns-in-SelectAttribute c = rw (c.within-in-SelectAttribute.ensures, c.within-in-SelectAttribute-2.ensures, c.width_at-width.ensures) (sym (legal_select_attribute (relations_of c.args.catalogue.now) c.args.widths.now c.args.words.now c.args.node ((let the-fact : Stands c.args.words.now c.args.node = stands c.args.words.now c.args.node c.requires.0 c.requires.1 in the-fact)) c.in-SelectAttribute.is))
+pub returns-then-legal_triples : goal.returns-then-legal_triples
+returns-then-legal_triples c = rw c.narrow.ensures (sym (legal_by c.args.words.now c.args.node Join c.requires.0 c.requires.1 c.in-Join.is (relations_of c.args.catalogue.now) c.args.widths.now ∙ rw (sym c.legal_triples.ensures ∙ c.if-legal_triples.true)))
 
-pub returns-in-Join : goal.returns-in-Join
-returns-in-Join c = rw (c.legal_triples.ensures, c.narrow.ensures) (sym (legal-join (relations_of c.args.catalogue.now) c.args.widths.now c.args.words.now c.args.node ((let the-fact : Stands c.args.words.now c.args.node = stands c.args.words.now c.args.node c.requires.0 c.requires.1 in the-fact)) c.in-Join.is))
+pub returns-else-legal_triples : goal.returns-else-legal_triples
+returns-else-legal_triples c = rw c.if-legal_triples.false (sym (legal_by c.args.words.now c.args.node Join c.requires.0 c.requires.1 c.in-Join.is (relations_of c.args.catalogue.now) c.args.widths.now ∙ rw (sym c.legal_triples.ensures ∙ c.if-legal_triples.false)))
 
 pub returns-in-Semijoin : goal.returns-in-Semijoin
-returns-in-Semijoin c = rw c.legal_triples-in-Semijoin.ensures (sym (legal-semijoin (relations_of c.args.catalogue.now) c.args.widths.now c.args.words.now c.args.node ((let the-fact : Stands c.args.words.now c.args.node = stands c.args.words.now c.args.node c.requires.0 c.requires.1 in the-fact)) c.in-Semijoin.is))
-
-pub returns-in-Antijoin : goal.returns-in-Antijoin
-returns-in-Antijoin c = rw c.legal_triples-in-Antijoin.ensures (sym (legal-antijoin (relations_of c.args.catalogue.now) c.args.widths.now c.args.words.now c.args.node ((let the-fact : Stands c.args.words.now c.args.node = stands c.args.words.now c.args.node c.requires.0 c.requires.1 in the-fact)) c.in-Antijoin.is))
+returns-in-Semijoin c = c.legal_triples-in-Semijoin.ensures ∙ sym (elim c.in-Semijoin.is [ inl o ↦ legal_by c.args.words.now c.args.node Semijoin c.requires.0 c.requires.1 o (relations_of c.args.catalogue.now) c.args.widths.now | inr o ↦ legal_by c.args.words.now c.args.node Antijoin c.requires.0 c.requires.1 o (relations_of c.args.catalogue.now) c.args.widths.now ])
 
 pub returns-in-Divide : goal.returns-in-Divide
-returns-in-Divide c = rw c.legal_division.ensures (sym (legal-divide (relations_of c.args.catalogue.now) c.args.widths.now c.args.words.now c.args.node ((let the-fact : Stands c.args.words.now c.args.node = stands c.args.words.now c.args.node c.requires.0 c.requires.1 in the-fact)) c.in-Divide.is))
+returns-in-Divide c = c.legal_division.ensures ∙ sym (legal_by c.args.words.now c.args.node Divide c.requires.0 c.requires.1 c.in-Divide.is (relations_of c.args.catalogue.now) c.args.widths.now)
 
 pub returns-in-Unite : goal.returns-in-Unite
-returns-in-Unite c = rw c.legal_sides.ensures (sym (legal-unite (relations_of c.args.catalogue.now) c.args.widths.now c.args.words.now c.args.node ((let the-fact : Stands c.args.words.now c.args.node = stands c.args.words.now c.args.node c.requires.0 c.requires.1 in the-fact)) c.in-Unite.is))
-
-pub returns-in-Intersect : goal.returns-in-Intersect
-returns-in-Intersect c = rw c.legal_sides-in-Intersect.ensures (sym (legal-intersect (relations_of c.args.catalogue.now) c.args.widths.now c.args.words.now c.args.node ((let the-fact : Stands c.args.words.now c.args.node = stands c.args.words.now c.args.node c.requires.0 c.requires.1 in the-fact)) c.in-Intersect.is))
-
-pub returns-in-Subtract : goal.returns-in-Subtract
-returns-in-Subtract c = rw c.legal_sides-in-Subtract.ensures (sym (legal-subtract (relations_of c.args.catalogue.now) c.args.widths.now c.args.words.now c.args.node ((let the-fact : Stands c.args.words.now c.args.node = stands c.args.words.now c.args.node c.requires.0 c.requires.1 in the-fact)) c.in-Subtract.is))
+returns-in-Unite c = c.legal_sides.ensures ∙ sym (elim c.in-Unite.is [ inl o ↦ legal_by c.args.words.now c.args.node Unite c.requires.0 c.requires.1 o (relations_of c.args.catalogue.now) c.args.widths.now | inr rest ↦ elim rest [ inl o ↦ legal_by c.args.words.now c.args.node Intersect c.requires.0 c.requires.1 o (relations_of c.args.catalogue.now) c.args.widths.now | inr o ↦ legal_by c.args.words.now c.args.node Subtract c.requires.0 c.requires.1 o (relations_of c.args.catalogue.now) c.args.widths.now ] ])
 
 pub returns-in-Tally : goal.returns-in-Tally
-returns-in-Tally c = rw (c.legal_tally.ensures, c.wide.ensures) (sym (legal-tally (relations_of c.args.catalogue.now) c.args.widths.now c.args.words.now c.args.node ((let the-fact : Stands c.args.words.now c.args.node = stands c.args.words.now c.args.node c.requires.0 c.requires.1 in the-fact)) c.in-Tally.is))
+returns-in-Tally c = c.legal_tally.ensures ∙ sym (legal_by c.args.words.now c.args.node Tally c.requires.0 c.requires.1 c.in-Tally.is (relations_of c.args.catalogue.now) c.args.widths.now)

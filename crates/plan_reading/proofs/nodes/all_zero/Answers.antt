@@ -1,17 +1,15 @@
-use mathlib.Core.Path.{refl, sym, ◌∙◌}
-use native.Mathlib.Omega.{arith}
-use borrow.Author.Tests.{eq-eqb, ne_eqb}
-use Rattle.plan_reading.proofs.WordLaws.{zero_onward, zero_stopped, zero_ended}
+use mathlib.Core.Path.{sym, ◌∙◌}
+use lib.Dec.{eqb}
+use lib.ListN.{drop}
+use borrow.Author.Tests.{tests}
+use Rattle.std.proofs.Common.{rules}
+use Rattle.std.proofs.lemmas.Iterator.{YieldsList-from_slice}
+use Rattle.std.proofs.lemmas.Iterator.Adapters.{YieldsList-from_skip}
+use Rattle.std.proofs.lemmas.Iterator.Search.{all_from_yields_List}
+use Rattle.plan_reading.proofs.WordLaws.{all_listed}
 use Rattle.plan_reading.proofs.nodes.all_zero.Goals as goal
 
-pub loop-at-init : goal.loop-at-init
-loop-at-init c = refl
-
-pub loop-at-preserved : goal.loop-at-preserved
-loop-at-preserved c = c.loop-at.invariant ∙ zero_onward c.args.words.now c.loop-at.at (omega arith) (eq-eqb _ _ c.if-words-at-eq0.true)
-
-pub returns-else-words-at-eq0 : goal.returns-else-words-at-eq0
-returns-else-words-at-eq0 c = sym (c.loop-at.invariant ∙ zero_stopped c.args.words.now c.loop-at.at (omega arith) (ne_eqb _ _ c.if-words-at-eq0.false))
-
 pub returns : goal.returns
-returns c = sym (c.loop-at.invariant ∙ zero_ended c.args.words.now c.loop-at.at (omega arith))
+returns c =
+    all_from_yields_List (eqb 0) _ _ c.all.result c.all.ensures.ran (YieldsList-from_skip c.args.from (YieldsList-from_slice c.args.words.now cc) cc) (λ x b q k. search (rules, tests))
+    ∙ sym (all_listed (eqb 0) (drop c.args.from c.args.words.now))

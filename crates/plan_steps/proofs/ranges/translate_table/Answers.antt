@@ -3,12 +3,6 @@ use Rattle.calculus.specs.Translation.{translate_range}
 use native.Mathlib.Omega.{arith}
 use Rattle.plan_steps.proofs.ranges.translate_table.Goals as goal
 
-pub load-count-requires : goal.load-count-requires
-load-count-requires c = c.requires
-
-pub shape_of-plan : goal.shape_of-plan
-shape_of-plan c = c.load-count.auto.plan
-
 pub returns : goal.returns
 unfolding translate_range width_of_range
 returns c = record { written = c.load-count.ensures; width = c.columns_of.ensures; more = omega (arith, c.load-count.ensures.counted) }

@@ -1,4 +1,4 @@
-use Rattle.rule_writing.proofs.RuleLaws.{dividend_size, division_written, outside_count, pairs-counted}
+use Rattle.rule_writing.proofs.RuleLaws.{dividend_size, division_written, pairs-counted}
 use mathlib.Core.Bool.{false}
 use Rattle.emission.proofs.NodeListLaws.{names_triples, names_pairs, lists_triples, lists_pairs}
 use Rattle.emission.proofs.WrittenLaws.{room_after, room-less, written_as}
@@ -13,32 +13,10 @@ use Rattle.relations.specs.Nodes.{divide, semijoin, antijoin}
 use Rattle.relations.specs.PlanWords.{pair_words}
 use lib.ListN.{length}
 use mathlib.Core.List.{List, [], ◌∷◌}
-use mathlib.Core.Path.{◌≡◌, sym, ap, ◌∙◌}
+use mathlib.Core.Path.{◌≡◌, sym, ap}
 use Prim.Native.Nat.{suc, ◌-◌}
 use native.Mathlib.Omega.{arith}
 use Rattle.rule_writing.proofs.rules.write_division.Goals as goal
-
-pub outside_triples-triples-requires : goal.outside_triples-triples-requires
-outside_triples-triples-requires c = (c.requires.0, c.requires.1.rule.leaves-fit, c.requires.1.few_outside)
-
-pub overflow_add-triples : goal.overflow_add-triples
-overflow_add-triples c =
-    omega (arith, outside_count (scope_of c.args.scope.now) c.args.z c.args.y ((atoms_of c.args.words.now false c.args.leaves.now)) c.outside_triples-triples.ensures, c.requires.1.few_outside)
-
-pub division_pairs-pairs-requires : goal.division_pairs-pairs-requires
-division_pairs-pairs-requires c =
-    (c.requires.1.rule.leaves-fit, c.requires.1.few_shared, omega (arith, outside_count (scope_of c.args.scope.now) c.args.z c.args.y ((atoms_of c.args.words.now false c.args.leaves.now)) c.outside_triples-triples.ensures, c.requires.1.few_outside))
-
-pub write_dividend-q-requires : goal.write_dividend-q-requires
-write_dividend-q-requires c = let d = c.requires.1 in
-    record {
-      rule = record { leaves-fit = d.rule.leaves-fit; variable = d.rule.variable; some_columns = d.rule.some_columns; few_columns = d.rule.few_columns; some-nodes = d.rule.some-nodes; room = room-less _ d.rule.room (omega arith) };
-      few_shared = d.few_shared;
-      few_outside = d.few_outside;
-    }
-
-pub overflow_sub-q : goal.overflow_sub-q
-overflow_sub-q c = omega (arith, c.requires.1.rule.some-nodes, c.write_dividend-q.ensures.counted)
 
 pub link-divided-requires : goal.link-divided-requires
 link-divided-requires c =
@@ -53,15 +31,12 @@ link-matched-requires c =
 pub link-unmatched-requires : goal.link-unmatched-requires
 link-unmatched-requires c =
     let r = room_after 4 c.requires.1.rule.room c.write_dividend-q.ensures (omega (arith, dividend_size c.args.y c.args.z c.args.width ((atoms_of c.args.words.now false c.args.leaves.now)) c.args.n)) in
-    (room_after 1 (room_after 3 r c.link-divided.ensures (omega arith)) c.link-matched.ensures (omega arith), lists_triples [] c.no_list.ensures)
+    (room_after 1 (room_after 3 r c.link-divided.ensures (omega arith)) c.link-matched.ensures (omega arith), lists_triples [] c.new.ensures)
 
 pub pair-requires : goal.pair-requires
 pair-requires c =
     let r = room_after 4 c.requires.1.rule.room c.write_dividend-q.ensures (omega (arith, dividend_size c.args.y c.args.z c.args.width ((atoms_of c.args.words.now false c.args.leaves.now)) c.args.n)) in
     room_after 1 (room_after 2 (room_after 3 r c.link-divided.ensures (omega arith)) c.link-matched.ensures (omega arith)) c.link-unmatched.ensures (omega arith)
-
-pub shape_of-plan : goal.shape_of-plan
-shape_of-plan c = (((c.pair.auto.plan ∙ c.link-unmatched.auto.plan) ∙ c.link-matched.auto.plan) ∙ c.link-divided.auto.plan) ∙ c.write_dividend-q.auto.plan
 
 pub returns : goal.returns
 returns c =
@@ -70,5 +45,5 @@ returns c =
     c.write_dividend-q.ensures
     (written_as (ap (λ (l : List Pair). divide (q - 1) c.args.k l ∷ []) (sym (names_pairs ((division_pairs c.args.z (filter (equates_with c.args.z c.args.y) ((atoms_of c.args.words.now false c.args.leaves.now))) (suc (length (filter (equates_outside c.args.z c.args.y) ((atoms_of c.args.words.now false c.args.leaves.now))))))) ((let the-fact : c.division_pairs-pairs.result ≡ node_list (flat pair_words ((division_pairs c.args.z (filter (equates_with c.args.z c.args.y) ((atoms_of c.args.words.now false c.args.leaves.now))) (suc (length (filter (equates_outside c.args.z c.args.y) ((atoms_of c.args.words.now false c.args.leaves.now)))))))) = pairs-counted (scope_of c.args.scope.now) c.args.z c.args.y ((atoms_of c.args.words.now false c.args.leaves.now)) c.outside_triples-triples.ensures c.division_pairs-pairs.ensures in the-fact))))) c.link-divided.ensures)
     (written_as (ap (λ (l : List Triple). semijoin c.args.p q l ∷ []) (sym (names_triples ((outside_triples (scope_of c.args.scope.now) c.args.z (filter (equates_outside c.args.z c.args.y) ((atoms_of c.args.words.now false c.args.leaves.now))) 1)) c.outside_triples-triples.ensures))) c.link-matched.ensures)
-    (written_as (ap (λ (l : List Triple). antijoin c.args.p c.args.k l ∷ []) (sym (names_triples [] c.no_list.ensures))) c.link-unmatched.ensures)
+    (written_as (ap (λ (l : List Triple). antijoin c.args.p c.args.k l ∷ []) (sym (names_triples [] c.new.ensures))) c.link-unmatched.ensures)
     c.pair.ensures

@@ -1,60 +1,36 @@
-use Rattle.short_rules.proofs.LeafSteps.{rest, count_next}
-use Rattle.rule_writing.proofs.RuleLaws.{alone_count, selects_next}
-use Rattle.calculus.proofs.SizeTheorem.{selects_size}
-use Rattle.calculus.specs.Question as calculus
-use Prim.Native.Nat.{◌-◌, ℕ, ◌+◌, pred}
-use Rattle.emission.proofs.WrittenLaws.{written_then, written-nothing, written-length, room_after, room-less, written_as}
-use Rattle.conditions.specs.Leaves.{leaf_at}
-use Rattle.conditions.specs.Scopes.{scope_of}
-use Rattle.calculus.specs.ShortRules.{select_nodes}
-use Rattle.calculus.specs.Leaves.{alone_on}
+use Rattle.std.proofs.Common.{sym, ap, ◌∙◌, length, arith}
+use Prim.Native.Nat.{pred}
 use Rattle.relations.specs.Lists.{filter}
-use lib.ListN.{length}
-use mathlib.Core.List.{[], ◌∷◌}
-use mathlib.Core.Path.{◌≡◌, refl, ap, sym}
-use native.Mathlib.Omega.{arith}
+use Rattle.calculus.specs.Leaves.{alone_on}
+use Rattle.calculus.specs.ShortRules.{select_nodes}
+use Rattle.question.specs.Trees.{atom_of}
+use Rattle.conditions.specs.Scopes.{scope_of}
+use Rattle.emission.proofs.WrittenLaws.{written_then, written-nothing, room_after, room-less, written_as}
+use Rattle.short_rules.proofs.LeafSteps.{rest_none, filter_in, filter_out}
+use Rattle.rule_writing.proofs.RuleLaws.{selects_next}
 use Rattle.rule_writing.proofs.rules.write_selects.Goals as goal
+use Rattle.rule_writing.proofs.rules.write_selects.Goals.{then-alone_on, else-alone_on}
 
-pub loop-left-init : goal.loop-left-init
-loop-left-init c = (omega arith, c.requires.2, c.requires.3, λ after r w. w)
-
-pub leaf-requires : goal.leaf-requires
-leaf-requires c = (c.requires.1, omega arith)
-
-pub write_if_alone-count-requires : goal.write_if_alone-count-requires
-write_if_alone-count-requires c =
-    let l = c.loop-left in
+pub loop-number-preserved : goal.loop-number-preserved
+loop-number-preserved c =
+    let l = c.loop-number in
     let words = c.args.words.now in
-    let a = ap (alone_on c.args.x) c.leaf.ensures.0 in
-    let f = ap (λ (b : calculus.Atom). filter (alone_on c.args.x) (b ∷ [])) c.leaf.ensures.0 in
-    let k = count_next words c.args.opposite c.args.leaves.now l.i l.left (omega arith) (alone_on c.args.x) _ refl in
-    let g = alone_count c.args.x (leaf_at words c.args.opposite c.args.leaves.now l.i) in
-    (c.requires.0, c.leaf.ensures.1, l.invariant.1, room-less _ l.invariant.2 (omega (arith, ap length f, g, k)))
-
-pub loop-left-preserved : goal.loop-left-preserved
-loop-left-preserved c =
-    let l = c.loop-left in
-    let words = c.args.words.now in
-    let f = ap (λ (b : calculus.Atom). filter (alone_on c.args.x) (b ∷ [])) c.leaf.ensures.0 in
-    let k = count_next words c.args.opposite c.args.leaves.now l.i l.left (omega arith) (alone_on c.args.x) _ refl in
-    let g = alone_count c.args.x (leaf_at words c.args.opposite c.args.leaves.now l.i) in
+    let numbers = c.args.leaves.now in
     let own = scope_of c.args.own.now in
-    let w = written_as (ap (λ atoms. select_nodes own atoms (pred l.count) l.count) (sym f)) c.write_if_alone-count.ensures in
-    let z = selects_size (filter (alone_on c.args.x) (leaf_at words c.args.opposite c.args.leaves.now l.i ∷ [])) own (pred l.count) l.count in (
-      omega arith,
-      omega (arith, w.counted, l.invariant.1),
-      room_after _ l.invariant.2 w (omega (arith, z, g, k)),
-      λ after r v. l.invariant.3 after r (written_as (selects_next words c.args.opposite c.args.leaves.now l.i l.left (omega arith) own c.args.x l.count l.invariant.1) (written_then w (written_as (ap (λ (m : ℕ). select_nodes own (filter (alone_on c.args.x) (rest words c.args.opposite c.args.leaves.now (l.i + 1) (l.left - 1))) (pred m) m) (sym w.counted)) v))),
-    )
-
-pub shape_of-plan : goal.shape_of-plan
-shape_of-plan c = let l = c.loop-left in
-    let e : l.left ≡ 0 = omega arith in
-    let w = l.invariant.3 l.plan l.count (rw e (written-nothing l.plan l.count)) in
-    written-length w
+    let told = ap (alone_on c.args.x) (sym c.leaf-atom.ensures.0) ∙ sym c.alone_on.ensures in
+    elim c.if-alone_on.branch [
+      | then-alone_on w ↦
+          let one = w.write_select-count.ensures in
+          let passes = filter_in words c.args.opposite numbers l.number-index (omega arith) (alone_on c.args.x) (told ∙ w.if-alone_on.true) in
+          let next = selects_next words c.args.opposite numbers l.number-index (omega arith) own c.args.x l.count w.write_select-count.result (atom_of c.leaf-atom.result) c.leaf-atom.ensures.0 (sym c.alone_on.ensures ∙ w.if-alone_on.true) one.counted in
+          rw (w.plan-is, w.count-is) (omega (arith, one.counted), room_after _ l.invariant.1 one (omega (arith, ap length passes)), λ after r v. l.invariant.2 after r (written_as next (written_then one v)))
+      | else-alone_on w ↦
+          let passed = filter_out words c.args.opposite numbers l.number-index (omega arith) (alone_on c.args.x) (told ∙ w.if-alone_on.false) in
+          rw (w.plan-is, w.count-is) (l.invariant.0, room-less _ l.invariant.1 (omega (arith, ap length passed)), λ after r v. l.invariant.2 after r (written_as (ap (λ atoms. select_nodes own atoms (pred l.count) l.count) passed) v))
+    ]
 
 pub returns : goal.returns
-returns c = let l = c.loop-left in
-    let e : l.left ≡ 0 = omega arith in
-    let w = l.invariant.3 l.plan l.count (rw e (written-nothing l.plan l.count)) in
-    w
+returns c =
+    let l = c.loop-number in
+    let none = rest_none c.args.words.now c.args.opposite c.args.leaves.now l.number-index (omega arith) in
+    l.invariant.2 l.plan l.count (written_as (ap (λ atoms. select_nodes (scope_of c.args.own.now) (filter (alone_on c.args.x) atoms) (pred l.count) l.count) none) (written-nothing l.plan l.count))
