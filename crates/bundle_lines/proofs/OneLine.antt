@@ -26,7 +26,7 @@ use Rattle.lines.proofs.ReadingLaws.{no-next, keyed_line-length, line_cut}
 module _ {start : Reader} {before : List ℕ} {to : ℕ} {found : Read} where
   pub line_read : {T : Type 0} {value : T} {after words : List ℕ} {stop : Reader} {next : ℕ} → found ≡ record { words = words; next = goes_on (start.line + 1) (drop next start.text.now) } → GoneOn start next stop → after ≡ sets before to words
       → LinesRead start found to before after stop (Ok value)
-  line_read e g kept = rw e (record { means = sym (stands_behind g); text = g.text; words = kept })
+  line_read e g kept = rw e (record { means = sym (stands_behind g); stays = tt; text = g.text; words = kept })
 
 -- The mode's line.
 module _ (text : List ℕ) (at line : ℕ) where

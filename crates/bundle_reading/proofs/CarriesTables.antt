@@ -40,6 +40,7 @@ module _ {whole rest : ReadTables} {catalogue₀ catalogue tables₀ tables : Li
   last_table stop e t fits =
       record {
         means = carried.ends ∙ ap (λ (x : ReadTables). x.next) e;
+        stays = tt;
         text = t;
         counted = (
           omega (arith, carried.pairs_met, ap (λ (x : ReadTables). length x.catalogue) e),
@@ -76,15 +77,15 @@ module _ {whole rest : ReadTables} {catalogue₀ catalogue tables₀ tables : Li
           words_met = omega (arith, carried.words_met, counted.1, ap (λ (x : ReadTables). catalogue_words x.catalogue) r);
         }
 
-    -- or a line of it is wrong
-    pub wrong-table : {start : Reader} {line : WrongLine} → answer ≡ Err line → here.text.now ≡ start.text.now
-        → TablesFound start whole none_read catalogue₀ catalogue' tables₀ tables' stop (Err line)
-    wrong-table {start} {line} e t =
+    -- or a line of it is wrong, and the reader that began stays
+    pub wrong-table : {start : Reader} {line : WrongLine} → answer ≡ Err line → TablesFound start whole none_read catalogue₀ catalogue' tables₀ tables' start (Err line)
+    wrong-table {line = line} e =
         let r : rest ≡ tables_then first.catalogue first.tables (wrong_at line.0) more =
         is ∙ ap (λ (x : Next). tables_then first.catalogue first.tables x more) (found.means ∙ ap (standing stop) e) in
         record {
           means = carried.ends ∙ ap (λ (x : ReadTables). x.next) r;
-          text = found.text ∙ t;
+          stays = (refl, refl);
+          text = refl;
           counted = tt;
           catalogue = sym (carried.catalogue-left ∙ ap (λ (x : ReadTables). sets catalogue (2 * read.pairs) x.catalogue) r ∙ sym found.catalogue);
           tables = sym (carried.tables-left ∙ ap (λ (x : ReadTables). sets tables read.words x.tables) r ∙ sym found.tables);

@@ -1,4 +1,5 @@
--- What the answers of the code's inner steps say of a text, as those of `lines` do. Each leaves one outcome (proofs/Once.antt). Assumes nothing.
+-- What the answers of the code's inner steps say of a text, as those of `lines` do. Each leaves one outcome, also of a wrong line,
+-- and where a reader is lent, one place at which it stands (proofs/Once.antt). Assumes nothing.
 use Rattle.std.specs.Prelude.{ℕ, ◌+◌, ◌*◌, ◌/◌, ◌≤◌, ◌≡◌, List, length, Result, Ok, Err}
 use Rattle.std.proofs.lemmas.List.Edits.{sets}
 use Rattle.relations.specs.Limits.{word_limit, question_node_words}
@@ -9,7 +10,7 @@ use Rattle.bundle_reading.specs.declared.TablesRead.{TablesRead}
 use Rattle.bundle_reading.specs.declared.Bundle.{Bundle}
 use Rattle.lines.specs.declared.reader.Reader.{Reader}
 use Rattle.lines.specs.declared.reader.WrongLine.{WrongLine}
-use Rattle.lines.specs.Answers.{standing, LinesRead}
+use Rattle.lines.specs.Answers.{standing, Stays, LinesRead}
 use Rattle.bundles.specs.Reading as reads
 
 -- tables: what was read stands behind the pairs and the words that were read before
@@ -20,6 +21,7 @@ TablesCounted before found (Err wrong) = Unit {0}
 
 pub record TablesFound (start : Reader) (found : ReadTables) (read : TablesRead) (catalogue₀ catalogue₁ tables₀ tables₁ : List ℕ) (stop : Reader) (answer : Result TablesRead WrongLine) : Type 0 where
   pub means : found.next ≡ standing stop answer
+  pub stays : Stays start stop answer
   pub text : stop.text.now ≡ start.text.now
   pub counted : TablesCounted read found answer
   pub catalogue : catalogue₁ ≡ sets catalogue₀ (2 * read.pairs) found.catalogue

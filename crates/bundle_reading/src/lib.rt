@@ -74,6 +74,8 @@ impl From<WrongLine> for ReadRefusal {
     }
 }
 
+// Where one of several lines is wrong, the reader stays at the first of them, as it does at one line: a copy of it goes ahead.
+
 // The rows of a table.
 fn read_rows(
     reader: &mut Reader,
@@ -85,9 +87,16 @@ fn read_rows(
     requires { (0 < columns) × (to + columns * rows ≤ furthest) }
     ensures { LinesRead reader.old (keyed_lines row_key columns rows reader.old.line (drop reader.old.at reader.old.text.now)) to tables.old tables.new reader.new result }
 {
+    let mut ahead = *reader;
     for row in 0..rows {
-        next_line(reader, Line::Row { columns }, tables, to + columns * row)?;
+        next_line(
+            &mut ahead,
+            Line::Row { columns },
+            tables,
+            to + columns * row,
+        )?;
     }
+    *reader = ahead;
     Ok(())
 }
 
@@ -103,12 +112,19 @@ fn read_table(
 {
     let pairs = read.pairs;
     let mut pair = [0u32; 2];
-    next_line(reader, Line::Relation { total: read.words }, &mut pair, 0)?;
+    let mut ahead = *reader;
+    next_line(
+        &mut ahead,
+        Line::Relation { total: read.words },
+        &mut pair,
+        0,
+    )?;
     keep(catalogue, 2 * pairs, pair[0]);
     keep(catalogue, 2 * pairs + 1, pair[1]);
     let columns = pair[0] as usize;
     let rows = pair[1] as usize;
-    read_rows(reader, columns, rows, tables, read.words)?;
+    read_rows(&mut ahead, columns, rows, tables, read.words)?;
+    *reader = ahead;
     Ok(TablesRead {
         pairs: pairs + 1,
         words: read.words + columns * rows,
@@ -124,10 +140,12 @@ fn read_tables(
     ensures { TablesFound reader.old (tables_of catalogue_pair_limit 0 reader.old.line (drop reader.old.at reader.old.text.now)) (record { pairs = 0; words = 0 }) catalogue.old catalogue.new tables.old tables.new reader.new result }
 {
     let mut read = TablesRead { pairs: 0, words: 0 };
+    let mut ahead = *reader;
     // No `for`: what is left to read is a pair of numbers, which each table hands on, and the text says when the last was read.
-    while read.pairs < CATALOGUE_PAIRS && begins_with(reader.text, reader.at, b"relation=") {
-        read = read_table(reader, read, catalogue, tables)?;
+    while read.pairs < CATALOGUE_PAIRS && begins_with(ahead.text, ahead.at, b"relation=") {
+        read = read_table(&mut ahead, read, catalogue, tables)?;
     }
+    *reader = ahead;
     Ok(read)
 }
 
@@ -135,32 +153,34 @@ fn read_tables(
 fn read_nodes(reader: &mut Reader, question: &mut [u32]) -> Result<usize, WrongLine>
     ensures { NodesFound reader.old (nodes_of question_node_limit reader.old.line (drop reader.old.at reader.old.text.now)) question.old question.new reader.new result }
 {
+    let mut ahead = *reader;
     for before in 0..QUESTION_NODES {
         next_line(
-            reader,
+            &mut ahead,
             Line::Node { before },
             question,
             QUESTION_NODE_WORDS * before,
         )?;
-        if reader.text.len() <= reader.at {
+        if ahead.text.len() <= ahead.at {
+            *reader = ahead;
             return Ok(before + 1);
         }
     }
-    Err(WrongLine(reader.line))
+    Err(WrongLine(ahead.line))
 }
 
 // The tables and the nodes, behind the mode's line.
 fn read_behind_mode(
-    reader: &mut Reader,
+    mut reader: Reader,
     mode: u32,
     catalogue: &mut [u32],
     tables: &mut [u32],
     question: &mut [u32],
 ) -> Result<Bundle, WrongLine>
-    ensures { BundleFound (with_tables mode (tables_of catalogue_pair_limit 0 reader.old.line (drop reader.old.at reader.old.text.now))) catalogue.old catalogue.new tables.old tables.new question.old question.new result }
+    ensures { BundleFound (with_tables mode (tables_of catalogue_pair_limit 0 reader.entry.line (drop reader.entry.at reader.entry.text.now))) catalogue.old catalogue.new tables.old tables.new question.old question.new result }
 {
-    let TablesRead { pairs, words } = read_tables(reader, catalogue, tables)?;
-    let nodes = read_nodes(reader, question)?;
+    let TablesRead { pairs, words } = read_tables(&mut reader, catalogue, tables)?;
+    let nodes = read_nodes(&mut reader, question)?;
     Ok(Bundle {
         mode,
         pairs,
@@ -181,7 +201,7 @@ fn read_all(
     let mut reader = Reader::new(text);
     let mut mode = [0u32; 1];
     next_line(&mut reader, Line::Mode, &mut mode, 0)?;
-    read_behind_mode(&mut reader, mode[0], catalogue, tables, question)
+    read_behind_mode(reader, mode[0], catalogue, tables, question)
 }
 
 // What `read_all` would answer, with no buffer written.

@@ -27,14 +27,14 @@ module _ {whole rest : Read} {to place : ℕ} {before now : List ℕ} (carried :
   pub carries_by : {other : Read} → rest ≡ other → Carries whole other to place before now
   carries_by e = rw e at carried
 
-  -- the reading ends here, behind what was read or at a wrong line
+  -- the reading ends here, behind what was read or at a wrong line, where the reader stays that began
   pub carries_done : {T : Type 0} {value : T} {start : Reader} (stop : Reader) → rest ≡ nothing (goes_on stop.line (drop stop.at stop.text.now)) → stop.text.now ≡ start.text.now → LinesRead start whole to before now stop (Ok value)
   carries_done stop e t =
-      record { means = carried.ends ∙ ap (λ (r : Read). r.next) e; text = t; words = sym (carried.leaves ∙ ap (λ (r : Read). sets now place r.words) e) }
+      record { means = carried.ends ∙ ap (λ (r : Read). r.next) e; stays = tt; text = t; words = sym (carried.leaves ∙ ap (λ (r : Read). sets now place r.words) e) }
 
-  pub carries_wrong : {T : Type 0} {start stop : Reader} {line : WrongLine} → rest ≡ nothing (wrong_at line.0) → stop.text.now ≡ start.text.now → LinesRead {T = T} start whole to before now stop (Err line)
-  carries_wrong e t =
-      record { means = carried.ends ∙ ap (λ (r : Read). r.next) e; text = t; words = sym (carried.leaves ∙ ap (λ (r : Read). sets now place r.words) e) }
+  pub carries_wrong : {T : Type 0} {start : Reader} {line : WrongLine} → rest ≡ nothing (wrong_at line.0) → LinesRead {T = T} start whole to before now start (Err line)
+  carries_wrong e =
+      record { means = carried.ends ∙ ap (λ (r : Read). r.next) e; stays = (refl, refl); text = refl; words = sym (carried.leaves ∙ ap (λ (r : Read). sets now place r.words) e) }
 
   -- a number was read and kept
   pub carries_number : {n : ℕ} {bytes after : List ℕ} {found : reads.Number} (line : ℕ) (more : ℕ → List ℕ → Read) → rest ≡ or_wrong line found more → found ≡ value n bytes → after ≡ set now place n
@@ -63,13 +63,13 @@ module _ {whole rest : Read} {to place : ℕ} {before now : List ℕ} (carried :
 
   -- or a line of them is wrong
   pub carries_off : {T : Type 0} {start here stop : Reader} {after : List ℕ} {first : Read} {answer : Result Unit WrongLine} {line : WrongLine} (more : ℕ → List ℕ → Read)
-      → rest ≡ and_then first more → LinesRead here first place now after stop answer → answer ≡ Err line → here.text.now ≡ start.text.now
-      → LinesRead {T = T} start whole to before after stop (Err line)
-  carries_off {stop = stop} {first = first} {line = line} more e read a t =
+      → rest ≡ and_then first more → LinesRead here first place now after stop answer → answer ≡ Err line → LinesRead {T = T} start whole to before after start (Err line)
+  carries_off {stop = stop} {first = first} {line = line} more e read a =
       let n : first.next ≡ wrong_at line.0 = read.means ∙ ap (standing stop) a in
       let r : rest ≡ words_then first.words (wrong_at line.0) more = e ∙ ap (λ (x : Next). words_then first.words x more) n in
       record {
         means = carried.ends ∙ ap (λ (x : Read). x.next) r;
-        text = read.text ∙ t;
+        stays = (refl, refl);
+        text = refl;
         words = sym (carried.leaves ∙ ap (λ (x : Read). sets now place x.words) r ∙ sym read.words);
       }

@@ -1,11 +1,12 @@
--- Each relation that serves as a contract leaves one outcome: one answer, and one later list in each buffer. Assumes nothing.
+-- Each relation that serves as a contract leaves one outcome: one answer, one later list in each buffer, and one place at which a
+-- reader stands. Assumes nothing.
 use mathlib.Core.Path.{◌≡◌, refl, sym, ap, ◌∙◌}
 use Prim.Native.Nat.{ℕ, ◌≤◌}
 use mathlib.Core.List.{List}
 use native.Mathlib.Omega.{arith}
 use lib.ListN.{length, drop, length-drop}
 use Rattle.lines.specs.Reading.{Next, Read, goes_on}
-use Rattle.lines.specs.Answers.{number_in, Behind, NumberRead, standing, LinesRead}
+use Rattle.lines.specs.Answers.{number_in, Behind, NumberRead, standing, Stays, LinesRead}
 use Rattle.lines.specs.Put.{Put}
 use Rattle.lines.specs.declared.reader.Reader.{Reader}
 use Rattle.lines.specs.declared.reader.WrongLine.{WrongLine}
@@ -46,16 +47,21 @@ one_stop here there t e =
 pub number-once : {text : List ℕ} {from : ℕ} {found : reads.Number} {one other : Option (ℕ × ℕ)} → NumberRead text from found one → NumberRead text from found other → one ≡ other
 number-once {text} {from} {one = one} {other = other} a b = one_number text from one other a.behind b.behind (sym a.means ∙ b.means)
 
-pub stops-once : {T : Type 0} (here there : Reader) {next : Next} {one other : Result T WrongLine} {value : T} → next ≡ standing here one → next ≡ standing there other → one ≡ other
-    → here.text.now ≡ there.text.now → one ≡ Ok value → SameStop here there
-stops-once here there m n same t e = one_stop here there t (ap (standing here) (sym e) ∙ sym m ∙ n ∙ ap (standing there) (sym same ∙ e))
+-- behind what was read, or where they began
+pub stops-once : {T : Type 0} (start here there : Reader) {next : Next} {one other : Result T WrongLine} → next ≡ standing here one → next ≡ standing there other → one ≡ other
+    → here.text.now ≡ there.text.now → Stays start here one → Stays start there other → SameStop here there
+stops-once {T} start here there {next} {one} {other} m n same t s z = go one m s (sym same)
+  where
+    go : (answer : Result T WrongLine) → next ≡ standing here answer → Stays start here answer → other ≡ answer → SameStop here there
+    go (Ok value) m s e = one_stop here there t (sym m ∙ n ∙ ap (standing there) e)
+    go (Err wrong) m s e = let stayed : Stays {T = T} start there (Err wrong) = rw e at z in record { at = s.0 ∙ sym stayed.0; line = s.1 ∙ sym stayed.1; text = t }
 
 pub lines-once : {start stop₁ stop₂ : Reader} {before after₁ after₂ : List ℕ} {found : Read} {to : ℕ} {one other : Result Unit WrongLine}
     → LinesRead start found to before after₁ stop₁ one → LinesRead start found to before after₂ stop₂ other
-    → (one ≡ other) × (after₁ ≡ after₂) × (one ≡ Ok tt → SameStop stop₁ stop₂)
-lines-once {stop₁ = stop₁} {stop₂ = stop₂} {one = one} {other = other} a b =
+    → (one ≡ other) × (after₁ ≡ after₂) × SameStop stop₁ stop₂
+lines-once {start} {stop₁} {stop₂} {one = one} {other = other} a b =
     let same : one ≡ other = one_answer stop₁ stop₂ one other (λ value alike e f. refl) (sym a.means ∙ b.means) in
-    (same, a.words ∙ sym b.words, λ (e : one ≡ Ok tt). stops-once stop₁ stop₂ a.means b.means same (a.text ∙ sym b.text) e)
+    (same, a.words ∙ sym b.words, stops-once start stop₁ stop₂ a.means b.means same (a.text ∙ sym b.text) a.stays b.stays)
 
 pub put_once : {at end₁ end₂ : ℕ} {bytes before after₁ after₂ : List ℕ} → Put at bytes before after₁ end₁ → Put at bytes before after₂ end₂ → (end₁ ≡ end₂) × (after₁ ≡ after₂)
 put_once a b = (a.end_at ∙ sym b.end_at, a.stored ∙ sym b.stored)

@@ -1,5 +1,5 @@
--- What the answers of the code's inner steps say of a text: positions stand for the bytes from there on. Each leaves one outcome
--- (proofs/Once.antt). Assumes nothing.
+-- What the answers of the code's inner steps say of a text: positions stand for the bytes from there on. Each leaves one outcome,
+-- also of a wrong line, and where a reader is lent, one place at which it stands (proofs/Once.antt). Assumes nothing.
 use Rattle.std.specs.Prelude.{ℕ, ◌+◌, ◌≤◌, ◌≡◌, List, length, drop, Option, Some, None, Result, Ok, Err}
 use Rattle.std.proofs.lemmas.List.Edits.{sets}
 use Rattle.lines.specs.Reading.{value, no_number, Next, goes_on, wrong_at, Read}
@@ -32,8 +32,14 @@ pub record GoneOn (start : Reader) (next : ℕ) (stop : Reader) : Type 0 where
   pub line : stop.line ≡ start.line + 1
   pub text : stop.text.now ≡ start.text.now
 
--- the words that a reading met are kept from `to` on, and the reader stands behind what was read, in the same text
+-- where a line is wrong, the reader stands where it stood
+abbrev pub Stays : {T : Type 0} → (start stop : Reader) → Result T WrongLine → Type 0
+Stays start stop (Ok done) = Unit {0}
+Stays start stop (Err wrong) = (stop.at ≡ start.at) × (stop.line ≡ start.line)
+
+-- the words that a reading met are kept from `to` on, and the reader stands behind what was read, or where it stood, in the same text
 pub record LinesRead {T : Type 0} (start : Reader) (found : Read) (to : ℕ) (before after : List ℕ) (stop : Reader) (answer : Result T WrongLine) : Type 0 where
   pub means : found.next ≡ standing stop answer
+  pub stays : Stays start stop answer
   pub text : stop.text.now ≡ start.text.now
   pub words : after ≡ sets before to found.words

@@ -43,7 +43,8 @@ impl<'a> Reader<'a> {
         self.line += 1;
     }
 
-    // The rest of a line: `count` numbers, kept from `to` on, and its end. The reader moves on behind a line that is not wrong.
+    // The rest of a line: `count` numbers, kept from `to` on, and its end. The reader goes on behind a line that is not wrong, and
+    // stays where it is at a wrong one.
     pub fn read_numbers(
         &mut self,
         count: usize,
@@ -65,7 +66,8 @@ impl<'a> Reader<'a> {
         Ok(())
     }
 
-    // A line: `key`, and `count` numbers, kept from `to` on.
+    // A line: `key`, and `count` numbers, kept from `to` on. The numbers are read by a copy, so that the reader doesn't stand behind
+    // the key of a wrong line.
     pub fn keyed_line(
         &mut self,
         key: &[u8],
@@ -79,7 +81,10 @@ impl<'a> Reader<'a> {
         if !begins_with(self.text, self.at, key) {
             return Err(WrongLine(self.line));
         }
-        self.at += key.len();
-        self.read_numbers(count, words, to)
+        let mut inside = *self;
+        inside.at += key.len();
+        inside.read_numbers(count, words, to)?;
+        *self = inside;
+        Ok(())
     }
 }

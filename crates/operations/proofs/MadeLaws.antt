@@ -1,33 +1,23 @@
 -- Rows made of others, word by word or in two runs. Assumes nothing.
-use mathlib.Core.Path.{◌≡◌, sym, ap, ap₂, ◌∙◌}
+use mathlib.Core.Path.{◌≡◌, sym, ap, ◌∙◌}
 use mathlib.Core.List.{List, [], ◌∷◌, ◌++◌, map}
 pub use mathlib.Core.List.{map-append}
 use Prim.Native.Nat.{ℕ, ◌+◌, ◌≤◌, ◌<◌}
 use native.Mathlib.Omega.{arith}
 use native.Mathlib.Numerals.{add-one}
-use lib.ListN.{length, get_or, set, take, drop, replicate, length-map, length-replicate}
-use lib.Seq.{sets, sets-eq, length-sets, take-suc, length-take-le}
+use lib.ListN.{length, get_or, set, take, replicate, length-map, length-replicate}
+use lib.Seq.{sets, take-suc, length-take-le}
 use Rattle.relations.specs.Limits.{column_limit}
 use Rattle.relations.specs.Rows.{Row}
 use Rattle.relations.specs.Columns.{attribute, column, pick}
 use Rattle.relations.proofs.StoreLaws.{sets-append}
-use Rattle.values.proofs.WordLaws.{part-sets, put_mid-sets}
-use borrow.Rule.Slice.PartMut.{put_mid}
+use Rattle.values.proofs.WordLaws.{part-sets}
 use Rattle.operations.specs.Aside.{aside}
 
 -- two runs, one behind the other, from the front
 pub two_runs : (us vs : List ℕ) (n : ℕ) → length us ≡ n → sets (aside us) n vs ≡ aside (us ++ vs)
 two_runs us vs n e =
     let j : 0 + length us ≡ n = omega arith in ap (λ (x : ℕ). sets (aside us) x vs) (sym j) ∙ sym (sets-append (replicate column_limit 0) 0 us vs)
-
--- the same of two copies
-pub copied_pair : (us vs : Row) (w m : ℕ) {first second : List ℕ} → length us ≡ w → length vs ≡ m → w + m ≤ column_limit → first ≡ us → second ≡ vs → put_mid w m (first ++ drop w (replicate column_limit 0)) second ≡ aside (us ++ vs)
-copied_pair us vs w m {first} {second} e k h p q =
-    let blank : List ℕ = replicate column_limit 0 in
-    let many : length blank ≡ column_limit = length-replicate {A = ℕ} column_limit 0 in
-    let start : 0 + length us ≡ w = omega arith in
-    let front : first ++ drop w blank ≡ aside us = ap₂ (λ (l : List ℕ) (n : ℕ). l ++ drop n blank) p (sym start) ∙ sym (sets-eq us blank 0 (omega arith)) in
-    ap (λ (l : List ℕ). put_mid w m l second) front ∙ put_mid-sets (aside us) vs w m q k (omega (arith, length-sets blank 0 us)) ∙ two_runs us vs w e
 
 -- a turn of the loop that picks columns
 pub pick_suc : (made columns : List ℕ) (row : Row) (i x : ℕ) → i < length columns → made ≡ aside (pick (map attribute (take i columns)) row) → x ≡ column row (attribute (get_or columns i 0))

@@ -8,6 +8,7 @@ ghost use Rattle.operations.specs.Aside.{aside};
 use crate::columns::column_of;
 use relations::limits::COLUMNS;
 use terms::attribute::Attribute;
+use values::placing::write_row;
 
 // The listed columns of a row.
 pub fn picked_row(columns: &[u32], row: &[u32]) -> [u32; COLUMNS]
@@ -33,7 +34,7 @@ pub fn pair_row(
     ensures { result ≡ aside (row_in work.now left width ++ row_in work.now right more) }
 {
     let mut made = [0u32; COLUMNS];
-    made[..width].copy_from_slice(&work[left..left + width]);
-    made[width..width + more].copy_from_slice(&work[right..right + more]);
+    write_row(work, &mut made, false, left, width, 0);
+    write_row(work, &mut made, false, right, more, width);
     made
 }

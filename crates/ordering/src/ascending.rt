@@ -5,6 +5,7 @@ ghost use Rattle.values.specs.Words.{rows_of, end};
 ghost use Rattle.values.specs.Building.{Blank, Makes};
 ghost use Rattle.ordering.specs.Offering.{neighbours_ascend};
 
+use values::placing::write_row;
 use values::rows::{Value, row};
 use values::search::stands_before;
 
@@ -32,6 +33,6 @@ pub fn copy_ascending(tables: &[u32], work: &mut [u32], stored: Value, out: usiz
     if work.len() - out < words {
         return None;
     }
-    work[out..out + words].copy_from_slice(&tables[stored.base..stored.base + words]);
+    write_row(tables, work, false, stored.base, words, out);
     Some(stored.rows)
 }

@@ -56,7 +56,7 @@ fn picks_of<'a>(list: &'a [u32], count: usize, width: usize) -> Picks<'a>
     if leads(list, count, width) {
         Picks::First(count)
     } else {
-        Picks::Listed(&list[..count])
+        Picks::Listed { list, count }
     }
 }
 

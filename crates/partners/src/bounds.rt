@@ -6,7 +6,7 @@ use crate::words::Words;
 use relations::limits::TRIPLES;
 
 // The words that no such row stands before, and the words that stand before the first columns of none.
-#[derive(Drop)]
+#[derive(Clone, Copy)]
 pub struct Bounds {
     pub lows: Words,
     pub highs: Words,

@@ -12,7 +12,7 @@ use values::rows::Value;
 use values::search::count_before;
 
 // The number of the first right row that can be a partner, and words as a bound behind which there is none.
-#[derive(Drop)]
+#[derive(Clone, Copy)]
 pub struct Partners {
     pub number: usize,
     pub highs: Words,

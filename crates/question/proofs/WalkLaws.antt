@@ -126,13 +126,14 @@ module _ (columns : ℕ → ℕ) (s : Scope) (l : Lowest) where
   none_bound = rw (none_is columns s, none_lowered l)
 
   -- an alpha: its parts in a scope of their own
-  pub alpha-walked : (i : ℕ) (x y z : Tree) {own own' own'' : Scope} {a b c d : Places} {width other result : ℕ}
-      → record { scope = own; lowest = a } ≡ bindings_walked columns y no_widths (places l)
+  pub alpha-walked : (i : ℕ) (x y z : Tree) {empty own own' own'' : Scope} {a b c d : Places} {width other result : ℕ} → empty ≡ no_widths
+      → record { scope = own; lowest = a } ≡ bindings_walked columns y empty (places l)
       → record { width = width; scope = own'; lowest = b } ≡ walked columns x own a
       → record { width = other; scope = own''; lowest = c } ≡ walked columns z own' b
       → record { width = result; lowest = d } ≡ judged_at columns Alpha i s width 0 0 c
       → record { width = result; scope = s; lowest = d } ≡ walked columns (branch i Alpha x y z) s (places l)
-  alpha-walked i x y z {own} {own'} {own''} {a} {b} {c} {d} {width} {other} {result} bound targets condition judged =
+  alpha-walked i x y z {empty} {own} {own'} {own''} {a} {b} {c} {d} {width} {other} {result} begins walked_on targets condition judged =
+      let bound : record { scope = own; lowest = a } ≡ bindings_walked columns y no_widths (places l) = rw begins at walked_on in
       let F : Found = walk columns y no_widths in
       let S : Found = walk columns x F.scope in
       let T : Found = walk columns z F.scope in

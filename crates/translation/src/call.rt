@@ -84,6 +84,8 @@ fn write_plan(catalogue: &[u32], question: &[u32], mode: u32, plan: &mut [u32]) 
     }
 }
 
+// The lemma stands here in place of an answer, which would cite the test of the plan's length by its name: a wrong test is then refused for what it says.
+#[tactic(auto, using(crate::proofs::CallLaws::refused_short))]
 pub fn translate(
     catalogue: &[u32],
     question: &[u32],

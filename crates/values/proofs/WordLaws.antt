@@ -1,10 +1,11 @@
 -- Laws of the words of a buffer: a part of it, and a run of words stored over it (`sets`). Assumes nothing.
 use mathlib.Core.Path.{◌≡◌, refl, sym, ap, ap₂, ◌∙◌}
 use Prim.Native.Nat.{ℕ, suc, ◌+◌, ◌-◌, ◌≤◌, ◌<◌}
+use native.Mathlib.Numerals.{add-one}
 use native.Mathlib.Omega.{arith}
 use mathlib.Core.List.{List, [], ◌∷◌, ◌++◌, append_assoc}
 use lib.ListN.{length, get_or, set, take, drop, length-drop, take-append-drop}
-use lib.Seq.{paste, take_all, sets, length-sets, sets-eq, take-set-le, get_or-set_other, set_comm, set-set, take_at, drop_at, length-take-le, drop-cons, get_or-drop, get_or-take, drop-drop, take-add, ext_get_or}
+use lib.Seq.{paste, take_all, sets, length-sets, sets-eq, take-set-le, get_or-set_other, set_comm, set-set, take_at, drop_at, length-take-le, take-suc, drop-cons, get_or-drop, get_or-take, drop-drop, take-add, ext_get_or}
 use borrow.Rule.Slice.PartMut.{put_mid}
 use Rattle.std.specs.List.{copy_within}
 use Rattle.std.proofs.lemmas.Slice.{put_mid-paste}
@@ -85,6 +86,28 @@ sets_again l i (u ∷ us) (v ∷ vs) h =
     ap (λ (r : List ℕ). sets r (suc i) vs)
     (set-sets (set l i u) i (suc i) v us (omega arith) ∙ ap (λ (r : List ℕ). sets r (suc i) us) (set-set l i u v))
     ∙ sets_again (set l i v) (suc i) us vs (omega arith)
+
+-- a turn of a loop that writes words
+pub sets_suc : (l : List ℕ) (a : ℕ) (r : List ℕ) (i : ℕ) → i < length r
+    → set (sets l a (take i r)) (a + i) (get_or r i 0) ≡ sets l a (take (i + 1) r)
+sets_suc l a r i h =
+    let t : take (i + 1) r ≡ take i r ++ (get_or r i 0 ∷ []) = rw add-one (take-suc r i 0 h) in
+    ap (λ (k : ℕ). set (sets l a (take i r)) (a + k) (get_or r i 0)) (sym (length-take-le i r (omega arith)))
+    ∙ sym (sets-append l a (take i r) (get_or r i 0 ∷ []))
+    ∙ ap (sets l a) (sym t)
+
+-- the same of a row that stands elsewhere, or in front of where it is written
+pub in_turn : (words l now : List ℕ) (start count at i : ℕ) → start + count ≤ length words → i < count → now ≡ sets l at (take i (part start count words))
+    → set now (at + i) (get_or words (start + i) 0) ≡ sets l at (take (i + 1) (part start count words))
+in_turn words l now start count at i h m e =
+    let row : List ℕ = part start count words in
+    ap₂ (λ (u : List ℕ) (v : ℕ). set u (at + i) v) e (sym (get_d_part start count words i m)) ∙ sets_suc l at row i (omega (arith, length_part start count words h))
+
+pub up_turn : (l now : List ℕ) (start count at i : ℕ) → start + count ≤ at → at ≤ length l → i < count → now ≡ sets l at (take i (part start count l))
+    → set now (at + i) (get_or now (start + i) 0) ≡ sets l at (take (i + 1) (part start count l))
+up_turn l now start count at i h k m e =
+    let x : get_or now (start + i) 0 ≡ get_or l (start + i) 0 = ap (λ (u : List ℕ). get_or u (start + i) 0) e ∙ get_d_sets_below l at (take i (part start count l)) (start + i) (omega arith) in
+    ap (set now (at + i)) x ∙ in_turn l l now start count at i (omega arith) m e
 
 -- what the slices' copies leave is a run of stores
 paste-sets : (l vs : List ℕ) (a n : ℕ) → n ≡ length vs → a + n ≤ length l → paste l a vs n ≡ sets l a vs

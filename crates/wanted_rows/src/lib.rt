@@ -45,7 +45,8 @@ fn some_through(sieve: &[Entry], work: &[u32], right: Value, number: usize, high
         if is_past(work, at, high, wait) {
             return false;
         }
-        if lets_through(sieve, row(work, work, true, at, right.width)) {
+        // Its words as they stand, without the look of `row` at their end: this is asked of every pair of rows.
+        if lets_through(sieve, &work[at..at + right.width]) {
             return true;
         }
         wait = next_wait(wait, i - number);

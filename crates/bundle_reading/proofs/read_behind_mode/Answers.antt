@@ -7,6 +7,6 @@ use Rattle.lines.specs.Answers.{standing}
 use Rattle.bundle_reading.proofs.read_behind_mode.Goals as goal
 
 pub returns : goal.returns
-returns c = let s = c.args.reader.now in let r = c.read_tables.ensures in
+returns c = let s = c.args.reader in let r = c.read_tables.ensures in
     bundle_found c.args.mode r c.in_ok-pairs.was c.read_nodes.ensures c.in_ok-nodes.was
     (length-tables catalogue_pair_limit 0 s.line (drop s.at s.text.now) _ _ (r.means ∙ ap (standing c.read_tables.new.reader) c.in_ok-pairs.was))

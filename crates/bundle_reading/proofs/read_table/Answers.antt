@@ -15,7 +15,7 @@ pub returns-in_err-next_line : goal.returns-in_err-next_line
 returns-in_err-next_line c = let s = c.args.reader.now in
     let n = no_table c.args.read.words s.line (drop s.at s.text.now) c.next_line.ensures c.requires.2 c.in_err-next_line.was in
     rw (passed_on c.from_residual.result c.in_err-next_line.field-0.0 c.from_residual.ensures, n.0)
-    (record { means = ap wrong_at (sym n.1); text = c.next_line.ensures.text; counted = tt; catalogue = refl; tables = refl })
+    (record { means = ap wrong_at (sym n.1); stays = (refl, refl); text = refl; counted = tt; catalogue = refl; tables = refl })
 
 pub read_rows-requires : goal.read_rows-requires
 read_rows-requires c = let s = c.args.reader.now in
@@ -29,7 +29,8 @@ returns-in_err-read_rows c = let s = c.args.reader.now in let r = c.read_rows.en
     rw (passed_on c.from_residual-in_err-read_rows.result c.in_err-read_rows.field-0.0 c.from_residual-in_err-read_rows.ensures, b.table_is, ← b.next-line)
     (record {
       means = r.means ∙ ap (standing c.read_rows.new.reader) c.in_err-read_rows.was;
-      text = r.text ∙ c.next_line.ensures.text;
+      stays = (refl, refl);
+      text = refl;
       counted = tt;
       catalogue = c.keep-2.ensures ∙ rw (c.keep.ensures, add-one);
       tables = r.words;
@@ -42,6 +43,7 @@ returns c = let s = c.args.reader.now in let r = c.read_rows.ensures in
     rw (b.table_is, ← b.next-line)
     (record {
       means = r.means ∙ ap (standing c.read_rows.new.reader) c.in_ok-read_rows.was;
+      stays = tt;
       text = r.text ∙ c.next_line.ensures.text;
       counted = (omega arith, omega arith, b.fits);
       catalogue = c.keep-2.ensures ∙ rw (c.keep.ensures, add-one);

@@ -31,18 +31,18 @@ table_read line bytes {stop = stop} {before} {read} found key e =
     (table, omega (arith, counted.0, ap length table.pair), counted)
 
 pub returns-in_err-read : goal.returns-in_err-read
-returns-in_err-read c = let l = c.loop-read in let r = l.reader in let bytes = drop r.at r.text.now in
+returns-in_err-read c = let l = c.loop-read in let r = l.ahead in let bytes = drop r.at r.text.now in
     rw (passed_on c.from_residual.result c.in_err-read.field-0.0 c.from_residual.ensures)
     (wrong-table l.invariant.3 (λ after rest. tables_of (catalogue_pair_limit - l.read.pairs - 1) (l.read.words + catalogue_words (table_of l.read.words r.line bytes).catalogue) after rest)
     (tables_step (catalogue_pair_limit - l.read.pairs) l.read.words r.line bytes (omega arith) ∙ rw (sym c.begins_with.ensures ∙ c.if-begins_with.true))
-    c.read_table.ensures c.in_err-read.was l.invariant.2)
+    c.read_table.ensures c.in_err-read.was)
 
 pub loop-read-smaller : goal.loop-read-smaller
-loop-read-smaller c = let l = c.loop-read in let r = l.reader in
+loop-read-smaller c = let l = c.loop-read in let r = l.ahead in
     omega (arith, (table_read r.line (drop r.at r.text.now) c.read_table.ensures (sym c.begins_with.ensures ∙ c.if-begins_with.true) c.in_ok-read.was).1)
 
 pub loop-read-preserved : goal.loop-read-preserved
-loop-read-preserved c = let l = c.loop-read in let r = l.reader in let bytes = drop r.at r.text.now in
+loop-read-preserved c = let l = c.loop-read in let r = l.ahead in let bytes = drop r.at r.text.now in
     let t = table_read r.line bytes c.read_table.ensures (sym c.begins_with.ensures ∙ c.if-begins_with.true) c.in_ok-read.was in
     let left : catalogue_pair_limit - l.read.pairs - 1 ≡ catalogue_pair_limit - c.in_ok-read.read.pairs = omega (arith, t.1) in
     let carried = next-table l.invariant.3 (λ after rest. tables_of (catalogue_pair_limit - l.read.pairs - 1) (l.read.words + catalogue_words (table_of l.read.words r.line bytes).catalogue) after rest)
@@ -50,9 +50,9 @@ loop-read-preserved c = let l = c.loop-read in let r = l.reader in let bytes = d
     (omega (arith, t.1), t.2.2, c.read_table.ensures.text ∙ l.invariant.2, rw (left, ← t.2.1) at carried)
 
 pub returns-else-begins_with : goal.returns-else-begins_with
-returns-else-begins_with c = let l = c.loop-read in let r = l.reader in
+returns-else-begins_with c = let l = c.loop-read in let r = l.ahead in
     last_table l.invariant.3 r (tables_step (catalogue_pair_limit - l.read.pairs) l.read.words r.line (drop r.at r.text.now) (omega arith) ∙ rw (sym c.begins_with.ensures ∙ c.if-begins_with.false)) l.invariant.2 l.invariant.1
 
 pub returns-after-loop-read : goal.returns-after-loop-read
-returns-after-loop-read c = let l = c.loop-read in let r = l.reader in
+returns-after-loop-read c = let l = c.loop-read in let r = l.ahead in
     last_table l.invariant.3 r (tables-done (catalogue_pair_limit - l.read.pairs) l.read.words r.line (drop r.at r.text.now) (omega arith)) l.invariant.2 l.invariant.1

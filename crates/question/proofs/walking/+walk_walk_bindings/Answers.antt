@@ -51,7 +51,7 @@ walk-bounds-scope-variable-in-Binds t c = (stands c.args.words.now c.args.refere
 
 pub walk-returns-in-Alpha : goal.walk-returns-in-Alpha
 walk-returns-in-Alpha t c = let it = stands c.args.words.now c.args.reference c.if-reference-eq0.false c.decode-node.ensures c.in-Alpha.is in
-    rw it.tree (alpha-walked (columns_of c.args.catalogue.now) c.args.scope.now c.args.lowest.now (c.args.reference - 1) _ _ _ (rw c.empty-own.ensures at c.walk_bindings.ensures) c.walk-a.ensures c.walk.ensures (rw it.form_is at c.judge_at.ensures))
+    rw it.tree (alpha-walked (columns_of c.args.catalogue.now) c.args.scope.now c.args.lowest.now (c.args.reference - 1) _ _ _ c.empty-own.ensures c.walk_bindings.ensures c.walk-a.ensures c.walk.ensures (rw it.form_is at c.judge_at.ensures))
 
 pub walk-returns-in-Binds : goal.walk-returns-in-Binds
 walk-returns-in-Binds t c = let it = stands c.args.words.now c.args.reference c.if-reference-eq0.false c.decode-node.ensures c.in-Binds.is in

@@ -1,5 +1,5 @@
 use Rattle.std.proofs.Common.{arith, sym, ◌∙◌, Ok, Err}
-use Rattle.translation.proofs.CallLaws.{catalogue-good, handed_catalogue, handed_question, refused_catalogue, refused_count, refused_short, question_judged}
+use Rattle.translation.proofs.CallLaws.{catalogue-good, handed_catalogue, handed_question, refused_catalogue, refused_count, question_judged}
 use Rattle.translation.proofs.call.translate.Goals as goal
 
 pub returns-in_err-judge_catalogue : goal.returns-in_err-judge_catalogue
@@ -9,9 +9,6 @@ pub returns-in_err-judge_count : goal.returns-in_err-judge_count
 returns-in_err-judge_count c =
     handed_question c.args.plan.now c.in_err-judge_count.field-0.0 c.from_residual-in_err-judge_count.result c.from_residual-in_err-judge_count.ensures.1
     ∙ refused_count c.args.catalogue.now c.args.question.now c.args.mode c.args.plan.now (catalogue-good c.args.catalogue.now c.in_ok-judge_catalogue.ensures) c.in_err-judge_count.field-0.0 c.in_err-judge_count.ensures
-
-pub returns-then-plan-lt-PLAN_WORDS : goal.returns-then-plan-lt-PLAN_WORDS
-returns-then-plan-lt-PLAN_WORDS c = refused_short c.args.catalogue.now c.args.question.now c.args.mode c.args.plan.now (catalogue-good c.args.catalogue.now c.in_ok-judge_catalogue.ensures) c.in_ok-judge_count.ensures (omega arith)
 
 pub returns-in_err-judge : goal.returns-in_err-judge
 returns-in_err-judge c =

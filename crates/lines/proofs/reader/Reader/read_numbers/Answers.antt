@@ -4,7 +4,7 @@ use Rattle.lines.proofs.Answered.{number_found, number-missing, missing_as, stan
 use Rattle.lines.specs.Reading.{value, no_number, number_then, nothing, numbers}
 use Rattle.lines.specs.Marks.{separator}
 use lib.ListN.{drop}
-use mathlib.Core.Path.{◌≡◌, refl, sym, ap, ◌∙◌}
+use mathlib.Core.Path.{◌≡◌, sym, ap, ◌∙◌}
 use Prim.Native.Nat.{◌-◌, ◌+◌}
 use native.Mathlib.Omega.{arith}
 use Rattle.lines.proofs.reader.Reader.read_numbers.Goals as goal
@@ -14,7 +14,7 @@ returns-in_err-value c = let l = c.loop-i in let s = c.args.self.now in
     let left : c.args.count - l.i - 1 ≡ c.args.count - 1 - l.i = omega arith in
     let m : number_then (separator (c.args.count - l.i - 1)) (drop l.at s.text.now) ≡ no_number = rw (left, ← c.separator_behind.ensures) (number-missing c.number_then.ensures c.in_err-value.ensures.ok_part) in
     rw (missing_as c.from_residual.result c.in_err-value.field-0.0 _ c.from_residual.ensures c.in_err-value.ensures.value c.in_err-value.ensures.ok_part)
-    (carries_wrong l.invariant.2 (numbers_step (c.args.count - l.i) s.line (drop l.at s.text.now) (omega arith) ∙ rw m) refl)
+    (carries_wrong l.invariant.2 (numbers_step (c.args.count - l.i) s.line (drop l.at s.text.now) (omega arith) ∙ rw m))
 
 pub loop-i-preserved : goal.loop-i-preserved
 loop-i-preserved c = let l = c.loop-i in let s = c.args.self.now in
